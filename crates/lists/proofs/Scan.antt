@@ -1,0 +1,86 @@
+-- Laws of `firstFailing`: for a loop's invariant (step, hit, end) and for a reader (what holds before the place and at it).
+use mathlib.Core.Path.{_≡_, refl, sym, ap, _∙_, subst}
+use mathlib.Core.Bool.{Bool, true, false, true≢false}
+use mathlib.Core.Logic.{⊎-elim}
+use Prim.Native.Nat.{ℕ, zero, suc, _+_, _-_, _<_, _≤_}
+use native.Mathlib.Decide.{decLt}
+use native.Mathlib.Omega.{arith}
+use native.Mathlib.Nat.{add-zero, suc-add, add-suc, le-antisymm}
+use Rattle.lists.specs.Scan.{firstFailing}
+
+-- a place that passes: the scan goes on one place further
+pub scan-step : (test : ℕ → Bool) (i n : ℕ) → test i ≡ true → firstFailing test i (suc n) ≡ firstFailing test (suc i) n
+unfolding firstFailing
+scan-step test i n e = rw (e, firstFailing)
+
+-- a place that fails: there it ends
+pub scan-hit : (test : ℕ → Bool) (i n : ℕ) → test i ≡ false → firstFailing test i (suc n) ≡ i
+unfolding firstFailing
+scan-hit test i n e = rw (e, firstFailing)
+
+pub scan-end : (test : ℕ → Bool) (i : ℕ) → firstFailing test i 0 ≡ i
+unfolding firstFailing
+scan-end test i = refl
+
+-- by the outcome at the first place
+by-outcome : (P : ℕ → Type 0) (test : ℕ → Bool) (i n : ℕ) → (test i ≡ true → P (firstFailing test (suc i) n)) → (test i ≡ false → P i) → P (firstFailing test i (suc n))
+by-outcome P test i n pass fail = go (test i) refl
+  where
+    go : (b : Bool) → test i ≡ b → P (firstFailing test i (suc n))
+    go true e = rw (scan-step test i n e) (pass e)
+    go false e = rw (scan-hit test i n e) (fail e)
+
+pub scan-low : (test : ℕ → Bool) (i n : ℕ) → i ≤ firstFailing test i n
+scan-low test i zero = rw scan-end (omega arith)
+scan-low test i (suc n) = by-outcome (λ k. i ≤ k) test i n (λ e. omega (arith, scan-low test (suc i) n)) (λ e. omega arith)
+
+pub scan-high : (test : ℕ → Bool) (i n : ℕ) → firstFailing test i n ≤ i + n
+scan-high test i zero = rw scan-end (omega arith)
+scan-high test i (suc n) = by-outcome (λ k. k ≤ i + suc n) test i n (λ e. omega (arith, scan-high test (suc i) n)) (λ e. omega arith)
+
+-- all places before it pass
+pub scan-passed : (test : ℕ → Bool) (i n k : ℕ) → i ≤ k → k < firstFailing test i n → test k ≡ true
+scan-passed test i zero k low = rw scan-end (λ h. absurd (none i k low h))
+  where
+    none : (i k : ℕ) → i ≤ k → k < i → ⊥
+    none i k low h = omega arith
+scan-passed test i (suc n) k low =
+    by-outcome (λ e. k < e → test k ≡ true) test i n
+    (λ pass h. elim (decLt i k) [ yes l ↦ scan-passed test (suc i) n k l h | no m ↦ rw (le-antisymm {n = k} {m = i} (omega arith) low) pass ])
+    (λ fail h. absurd (none h))
+  where
+    none : k < i → ⊥
+    none h = omega arith
+
+-- the place itself fails, where it is one of the places
+pub scan-failed : (test : ℕ → Bool) (i n : ℕ) → firstFailing test i n < i + n → test (firstFailing test i n) ≡ false
+scan-failed test i zero = rw scan-end (λ h. absurd (none i h))
+  where
+    none : (i : ℕ) → i < i + 0 → ⊥
+    none i h = omega arith
+scan-failed test i (suc n) =
+    by-outcome (λ k. k < i + suc n → test k ≡ false) test i n
+    (λ pass h. scan-failed test (suc i) n (omega arith)) (λ fail h. fail)
+
+-- true and false are two
+pub clash {ℓ} : {X : Type ℓ} {b : Bool} → b ≡ true → b ≡ false → X
+clash p q = absurd (true≢false (sym p ∙ q))
+
+-- passing everywhere
+pub scan-all : (test : ℕ → Bool) (i n : ℕ) → ((j : ℕ) → i ≤ j → j < i + n → test j ≡ true) → firstFailing test i n ≡ i + n
+scan-all test i n all =
+    elim (decLt (firstFailing test i n) (i + n)) [
+      | yes h ↦ clash (all _ (scan-low test i n) h) (scan-failed test i n h)
+      | no h ↦ le-antisymm (scan-high test i n) (omega arith)
+    ]
+
+-- and it is the only such place
+pub scan-unique : (test : ℕ → Bool) (i n k : ℕ) → i ≤ k → k < i + n → ((j : ℕ) → i ≤ j → j < k → test j ≡ true) → test k ≡ false → firstFailing test i n ≡ k
+scan-unique test i n k low high before fail =
+    elim (decLt (firstFailing test i n) k) [
+      | yes h ↦ clash (before _ (scan-low test i n) h) (scan-failed test i n (omega arith))
+      | no h ↦ le-antisymm (elim (decLt k (firstFailing test i n)) [
+        | yes l ↦ clash (scan-passed test i n k low l) fail
+        | no l ↦ omega arith
+      ]) (omega arith)
+    ]

@@ -1,0 +1,1 @@
+// Definitions and laws on lists that every layer shares. No code.
