@@ -1,0 +1,4 @@
+pub mod Laws
+pub mod Size
+pub mod Test
+pub mod Solver

@@ -1,0 +1,53 @@
+-- Sizes: the absolute value of a sum, a product and a negative, and from a bound on it to a signed width's range.
+-- `omega` reads no integer, so an overflow is shown from bounds on absolute values.
+use mathlib.Core.Path.{_≡_, refl, sym, ap, _∙_, subst}
+use Prim.Native.Nat.{ℕ, zero, suc, _+_, _-_, _*_, _^_, _<_, _≤_}
+use native.Mathlib.Omega.{arith}
+use native.Mathlib.Nat.{le-trans, mul-le-mul}
+use lib.Dec.{T, ltb, ltb→lt, nltb→le}
+use lib.Signed.{mag}
+use mathlib.Core.Bool.{Bool, true, false, not, cond}
+use lib.IntN.{ℤ, pos, negsuc, negℤ, natAbs, subℕ, _+ℤ_, _-ℤ_, _*ℤ_}
+use mir.Syntax.{Width}
+use mir.Val.{SFits, hbits}
+
+pub natAbs-neg : (a : ℤ) → natAbs (negℤ a) ≡ natAbs a
+natAbs-neg (pos zero) = refl
+natAbs-neg (pos (suc n)) = refl
+natAbs-neg (negsuc n) = refl
+
+natAbs-cond : (b : Bool) (x y : ℤ) (n : ℕ) → (T b → natAbs x ≤ n) → (T (not b) → natAbs y ≤ n) → natAbs (cond b x y) ≤ n
+natAbs-cond true x y n f g = f tt
+natAbs-cond false x y n f g = g tt
+
+natAbs-sub : (a b : ℕ) → natAbs (subℕ a b) ≤ a + b
+natAbs-sub a b = natAbs-cond (ltb a b) (negsuc (b - suc a)) (pos (a - b)) (a + b) (λ t. below (ltb→lt a b t)) (λ t. omega arith)
+  where
+    below : a < b → suc (b - suc a) ≤ a + b
+    below h = omega arith
+
+pub natAbs-+ : (a b : ℤ) → natAbs (a +ℤ b) ≤ natAbs a + natAbs b
+natAbs-+ (pos a) (pos b) = omega arith
+natAbs-+ (pos a) (negsuc b) = natAbs-sub a (suc b)
+natAbs-+ (negsuc a) (pos b) = omega (arith, natAbs-sub b (suc a))
+natAbs-+ (negsuc a) (negsuc b) = omega arith
+
+pub natAbs-- : (a b : ℤ) → natAbs (a -ℤ b) ≤ natAbs a + natAbs b
+natAbs-- a b = omega (arith, natAbs-+ a (negℤ b), natAbs-neg b)
+
+pub natAbs-* : (a b : ℤ) → natAbs (a *ℤ b) ≡ natAbs a * natAbs b
+natAbs-* (pos a) (pos b) = refl
+natAbs-* (pos a) (negsuc b) = natAbs-neg (pos (a * suc b))
+natAbs-* (negsuc a) (pos b) = natAbs-neg (pos (suc a * b))
+natAbs-* (negsuc a) (negsuc b) = refl
+
+-- a product of two bounded factors
+pub natAbs-*≤ : (a b : ℤ) (m n : ℕ) → natAbs a ≤ m → natAbs b ≤ n → natAbs (a *ℤ b) ≤ m * n
+natAbs-*≤ a b m n h k = rw (natAbs-* a b) (mul-le-mul h k)
+
+pub mag≤natAbs : (z : ℤ) → mag z ≤ natAbs z
+mag≤natAbs (pos n) = omega arith
+mag≤natAbs (negsuc n) = omega arith
+
+pub small-fits : (w : Width) (z : ℤ) → natAbs z < 2 ^ hbits w → SFits w z
+small-fits w z h = record { sfits = omega (arith, mag≤natAbs z) }
