@@ -6,6 +6,7 @@ use mathlib.Core.List.{List, [], _∷_, map}
 use Prim.Native.Nat.{ℕ, zero, suc}
 use lib.ListN.{getD}
 use lib.IntN.{ℤ, pos, negsuc, negℤ, _+ℤ_, _-ℤ_, _*ℤ_, +ℤ-idl, +ℤ-idr, +ℤ-assoc, *ℤ-zero, zero-*ℤ}
+use Rattle.lists.proofs.Test.{both}
 use Rattle.integers.specs.Test.{eqZ}
 use Rattle.integers.proofs.Test.{eqZ→≡}
 use Rattle.integers.proofs.Laws.{*-distrib, +-distrib, *-assoc, *-left-comm, +-cross, *-one, one-*, neg-*, -zero→≡}
@@ -37,10 +38,6 @@ numbers =
       value-lit = λ k. refl;
       value-zero = λ p h. eqZ→≡ p (pos 0) h;
     }
-
-both : (a b : Bool) → (a && b) ≡ true → (a ≡ true) × (b ≡ true)
-both true b h = (refl, h)
-both false b h = (h, cc)
 
 -- one variable more, of value x
 module _ (L : Level) (x : ℤ) where

@@ -1,2 +1,4 @@
+pub mod Cons
 pub mod Span
 pub mod Scan
+pub mod Test

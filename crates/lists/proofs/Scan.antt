@@ -1,11 +1,12 @@
 -- Laws of `firstFailing`: for a loop's invariant (step, hit, end) and for a reader (what holds before the place and at it).
 use mathlib.Core.Path.{_≡_, refl, sym, ap, _∙_, subst}
-use mathlib.Core.Bool.{Bool, true, false, true≢false}
+use mathlib.Core.Bool.{Bool, true, false}
 use mathlib.Core.Logic.{⊎-elim}
 use Prim.Native.Nat.{ℕ, zero, suc, _+_, _-_, _<_, _≤_}
 use native.Mathlib.Decide.{decLt}
 use native.Mathlib.Omega.{arith}
 use native.Mathlib.Nat.{add-zero, suc-add, add-suc, le-antisymm}
+use Rattle.lists.proofs.Test.{clash}
 use Rattle.lists.specs.Scan.{firstFailing}
 
 -- a place that passes: the scan goes on one place further
@@ -61,10 +62,6 @@ scan-failed test i zero = rw scan-end (λ h. absurd (none i h))
 scan-failed test i (suc n) =
     by-outcome (λ k. k < i + suc n → test k ≡ false) test i n
     (λ pass h. scan-failed test (suc i) n (omega arith)) (λ fail h. fail)
-
--- true and false are two
-pub clash {ℓ} : {X : Type ℓ} {b : Bool} → b ≡ true → b ≡ false → X
-clash p q = absurd (true≢false (sym p ∙ q))
 
 -- passing everywhere
 pub scan-all : (test : ℕ → Bool) (i n : ℕ) → ((j : ℕ) → i ≤ j → j < i + n → test j ≡ true) → firstFailing test i n ≡ i + n

@@ -1,11 +1,12 @@
 -- Laws of `span`: its length, its entries, when two are equal, how it splits.
-use mathlib.Core.Path.{_≡_, refl, sym, ap, ap₂, _∙_}
+use mathlib.Core.Path.{_≡_, refl, sym, ap, _∙_}
 use mathlib.Core.List.{List, [], _∷_, _++_, map}
 use Prim.Native.Nat.{ℕ, zero, suc, _+_, _-_, _<_, _≤_}
 use native.Mathlib.Omega.{arith}
 use native.Mathlib.Nat.{add-zero, zero-add, suc-add, add-suc, not-suc-le-zero}
 use lib.ListN.{length, getD, take, drop}
 use lib.Seq.{ext-getD, take-at, drop-at}
+use Rattle.lists.proofs.Cons.{cons≡}
 use Rattle.lists.specs.Span.{span}
 
 module _ {A : Type 0} where
@@ -25,13 +26,13 @@ module _ {A : Type 0} where
   unfolding span
   span-ext f g i j zero h = refl
   span-ext f g i j (suc n) h =
-      ap₂ (λ (a : A) (l : List A). a ∷ l) (rw (add-zero, add-zero) at (h 0 (omega arith)))
+      cons≡ (rw (add-zero, add-zero) at (h 0 (omega arith)))
       (span-ext f g (suc i) (suc j) n (λ k le. simp (suc-add, ← add-suc) (h (suc k) (omega arith))))
 
   pub span-add : (f : ℕ → A) (i n m : ℕ) → span f i (n + m) ≡ span f i n ++ span f (i + n) m
   unfolding span
   span-add f i zero m = rw (zero-add, add-zero)
-  span-add f i (suc n) m = rw suc-add (ap (λ (l : List A). f i ∷ l) (rw (span-add f (suc i) n m, suc-add, ← add-suc)))
+  span-add f i (suc n) m = rw suc-add (cons≡ refl (rw (span-add f (suc i) n m, suc-add, ← add-suc)))
 
   pub take-span : (f : ℕ → A) (i n m : ℕ) → take n (span f i (n + m)) ≡ span f i n
   take-span f i n m = rw span-add (take-at (span f i n) _ n (length-span f i n))
@@ -48,4 +49,4 @@ module _ {A B : Type 0} where
   pub map-span : (g : A → B) (f : ℕ → A) (i n : ℕ) → map g (span f i n) ≡ span (λ k. g (f k)) i n
   unfolding span
   map-span g f i zero = refl
-  map-span g f i (suc n) = ap (λ (l : List B). g (f i) ∷ l) (map-span g f (suc i) n)
+  map-span g f i (suc n) = cons≡ refl (map-span g f (suc i) n)

@@ -1,0 +1,4 @@
+pub mod Element
+pub mod Product
+pub mod Matrix
+pub mod Base

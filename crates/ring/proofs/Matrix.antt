@@ -1,0 +1,94 @@
+-- Matrices: matrix times element is additive, and the matrix that belongs to β times x is the product β · x, for every degree.
+use mathlib.Core.Path.{_≡_, refl, sym, ap, ap₂, _∙_}
+use mathlib.Core.List.{List, [], _∷_, map}
+use Prim.Native.Nat.{ℕ, zero, suc, _+_, _*_, _≤_, zero-le}
+use native.Mathlib.Omega.{arith}
+use native.Mathlib.Nat.{suc-mul, le-trans, mul-le-mul-right}
+use lib.ListN.{length, getD, length-map}
+use lib.IntN.{ℤ, pos, natAbs, _+ℤ_, _*ℤ_, +ℤ-idl, +ℤ-idr, *ℤ-comm, *ℤ-zero}
+use Rattle.lists.specs.Span.{span}
+use Rattle.lists.proofs.Cons.{cons≡}
+use Rattle.lists.proofs.Span.{span-ext, span-getD, map-span, length-span}
+use Rattle.integers.proofs.Laws.{*-distrib, *-left-comm, +-cross}
+use Rattle.integers.proofs.Size.{natAbs-+, natAbs-*≤}
+use Rattle.ring.specs.Element.{part, zeros, plus, scale, timesOmega, product, Within}
+use Rattle.ring.specs.Matrix.{dot, times, columns, matrixOf, RowsWithin}
+use Rattle.ring.proofs.Element.{part-plus, part-scale, part-zeros}
+use Rattle.ring.proofs.Product.{product-omega, product-comm, length-product}
+
+-- ---- matrix times element
+
+dot-nil : (row : List ℤ) → dot row [] ≡ pos 0
+unfolding dot
+dot-nil [] = refl
+dot-nil (a ∷ row) = refl
+
+pub dot-plus : (row x y : List ℤ) → dot row (plus x y) ≡ dot row x +ℤ dot row y
+unfolding dot plus
+dot-plus [] x y = refl
+dot-plus (a ∷ row) [] y = sym (+ℤ-idl (dot (a ∷ row) y))
+dot-plus (a ∷ row) (b ∷ x) [] = sym (+ℤ-idr (dot (a ∷ row) (b ∷ x)))
+dot-plus (a ∷ row) (b ∷ x) (c ∷ y) =
+    rw (dot-plus row x y, *-distrib a b c) (+-cross (a *ℤ b) (a *ℤ c) (dot row x) (dot row y))
+
+pub times-plus : (m : List (List ℤ)) (x y : List ℤ) → times m (plus x y) ≡ plus (times m x) (times m y)
+unfolding times plus
+times-plus [] x y = refl
+times-plus (row ∷ m) x y = cons≡ (dot-plus row x y) (times-plus m x y)
+
+-- an element for each row
+pub length-times : (m : List (List ℤ)) (x : List ℤ) → length (times m x) ≡ length m
+unfolding times
+length-times m x = length-map m (λ row. dot row x)
+
+-- ---- the matrix of a product
+
+-- the columns, each as often as x says
+combined : ℕ → List (List ℤ) → List ℤ → List ℤ
+combined d [] x = zeros d
+combined d (c ∷ cs) [] = zeros d
+combined d (c ∷ cs) (a ∷ x) = plus (scale a c) (combined d cs x)
+
+part-combined : (d : ℕ) (cs : List (List ℤ)) (x : List ℤ) (i : ℕ) → part (combined d cs x) i ≡ dot (map (λ c. part c i) cs) x
+unfolding combined dot
+part-combined d [] x i = part-zeros d i
+part-combined d (c ∷ cs) [] i = part-zeros d i
+part-combined d (c ∷ cs) (a ∷ x) i =
+    rw (part-plus (scale a c) (combined d cs x) i, part-scale a c i, part-combined d cs x i, *ℤ-comm a (part c i))
+
+module _ (r : List ℤ) (positive : 1 ≤ length r) where
+  product-combined : (x β : List ℤ) → product r x β ≡ combined (length r) (columns r (length x) β) x
+  unfolding product combined columns
+  product-combined [] β = refl
+  product-combined (a ∷ x) β =
+      ap (plus (scale a β)) (sym (product-omega r positive x β) ∙ product-combined x (timesOmega r β))
+
+  -- the matrix that belongs to β, times x, is β · x
+  pub matrix-product : (β x : List ℤ) → length β ≡ length r → length x ≡ length r → times (matrixOf r β) x ≡ product r β x
+  unfolding times matrixOf
+  matrix-product β x h k =
+      map-span (λ row. dot row x) (λ i. map (λ column. part column i) (columns r (length r) β)) 0 (length r) ∙ span-ext _ (part (product r x β)) 0 0 (length r) (λ i l. entry (0 + i)) ∙ ap (span (part (product r x β)) 0) (sym (length-product r positive x β h)) ∙ span-getD (product r x β) (pos 0) ∙ product-comm r positive x β k h
+    where
+      entry : (i : ℕ) → dot (map (λ column. part column i) (columns r (length r) β)) x ≡ part (product r x β) i
+      entry i =
+          ap (λ n. dot (map (λ column. part column i) (columns r n β)) x) (sym k) ∙ sym (part-combined (length r) (columns r (length x) β) x i) ∙ ap (λ y. part y i) (sym (product-combined x β))
+
+pub length-matrix : (r β : List ℤ) → length (matrixOf r β) ≡ length r
+unfolding matrixOf
+length-matrix r β = length-span _ 0 (length r)
+
+-- ---- sizes
+
+dot-size : (m n : ℕ) (row x : List ℤ) → Within m row → Within n x → natAbs (dot row x) ≤ length row * (m * n)
+unfolding dot Within
+dot-size m n [] x h k = zero-le
+dot-size m n (a ∷ row) [] h k = zero-le
+dot-size m n (a ∷ row) (b ∷ x) h k =
+    rw (suc-mul (length row) (m * n)) (omega (arith, natAbs-+ (a *ℤ b) (dot row x), natAbs-*≤ a b m n (h 0) (k 0), dot-size m n row x (λ i. h (suc i)) (λ i. k (suc i))))
+
+-- a row of d entries of size m, by an element of size n
+pub within-times : (d m n : ℕ) (mat : List (List ℤ)) (x : List ℤ) → ((i : ℕ) → length (getD mat i []) ≤ d) → RowsWithin m mat → Within n x → Within (d * (m * n)) (times mat x)
+unfolding Within RowsWithin times
+within-times d m n [] x l h k i = zero-le
+within-times d m n (row ∷ mat) x l h k zero = le-trans (dot-size m n row x (h 0) k) (mul-le-mul-right (m * n) (l 0))
+within-times d m n (row ∷ mat) x l h k (suc i) = within-times d m n mat x (λ j. l (suc j)) (λ j. h (suc j)) k i

@@ -1,0 +1,53 @@
+-- Elements of the ring: the list of an element's parts, lowest power of ω first ("Ring and base" of document 01, for every
+-- degree). The degree is the length of r, the parts of ω to the power of the degree; at degree two r is (t, s).
+use mathlib.Core.Bool.{Bool, true, false, _&&_}
+use mathlib.Core.List.{List, [], _∷_, map}
+use Prim.Native.Nat.{ℕ, _-_, _≤_}
+use lib.ListN.{length, getD, take, replicate}
+use lib.IntN.{ℤ, pos, negℤ, natAbs, _+ℤ_, _*ℤ_}
+use Rattle.integers.specs.Test.{eqZ}
+
+-- the part at a power of ω; zero past the last
+abbrev pub part : List ℤ → ℕ → ℤ
+part x k = getD x k (pos 0)
+
+abbrev pub zeros : ℕ → List ℤ
+zeros d = replicate d (pos 0)
+
+-- a missing part is zero
+unfoldable pub plus : List ℤ → List ℤ → List ℤ
+plus [] y = y
+plus (a ∷ x) [] = a ∷ x
+plus (a ∷ x) (b ∷ y) = (a +ℤ b) ∷ plus x y
+
+unfoldable pub negative : List ℤ → List ℤ
+negative x = map negℤ x
+
+unfoldable pub minus : List ℤ → List ℤ → List ℤ
+minus x y = plus x (negative y)
+
+unfoldable pub scale : ℤ → List ℤ → List ℤ
+scale k x = map (λ a. k *ℤ a) x
+
+-- ω times an element: every part one power up, and what passes the top comes back as so many r
+unfoldable pub timesOmega : List ℤ → List ℤ → List ℤ
+timesOmega r x = plus (pos 0 ∷ take (length r - 1) x) (scale (part x (length r - 1)) r)
+
+-- the product: part by part of the first factor, from its top power down
+unfoldable pub product : List ℤ → List ℤ → List ℤ → List ℤ
+product r [] y = zeros (length r)
+product r (a ∷ x) y = plus (scale a y) (timesOmega r (product r x y))
+
+unfoldable pub unit : ℕ → List ℤ
+unit d = pos 1 ∷ zeros (d - 1)
+
+-- the same parts
+unfoldable pub same : List ℤ → List ℤ → Bool
+same [] [] = true
+same [] (b ∷ y) = false
+same (a ∷ x) [] = false
+same (a ∷ x) (b ∷ y) = eqZ a b && same x y
+
+-- every part is at most n in size
+unfoldable pub Within : ℕ → List ℤ → Type 0
+Within n x = (k : ℕ) → natAbs (part x k) ≤ n

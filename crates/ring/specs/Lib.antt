@@ -1,0 +1,3 @@
+pub mod Element
+pub mod Matrix
+pub mod Base
