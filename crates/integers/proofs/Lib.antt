@@ -2,3 +2,5 @@ pub mod Laws
 pub mod Size
 pub mod Test
 pub mod Solver
+pub mod Machine
+pub mod Sign

@@ -45,6 +45,10 @@ module _ {A : Type 0} where
   span-getD l d =
       ext-getD d (span (λ k. getD l k d) 0 (length l)) l (length-span _ 0 (length l)) (λ k h. getD-span _ 0 (length l) k d (rw (length-span (λ k. getD l k d) 0 (length l)) at h) ∙ ap (λ (n : ℕ). getD l n d) (zero-add k))
 
+  -- a list of n entries, entry by entry
+  pub listed : (d : A) (n : ℕ) (l : List A) → length l ≡ n → l ≡ span (λ k. getD l k d) 0 n
+  listed d n l h = sym (span-getD l d) ∙ ap (span (λ k. getD l k d) 0) h
+
 module _ {A B : Type 0} where
   pub map-span : (g : A → B) (f : ℕ → A) (i n : ℕ) → map g (span f i n) ≡ span (λ k. g (f k)) i n
   unfolding span

@@ -14,3 +14,9 @@ both false b h = clash h refl
 pub either : (a b : Bool) → (a || b) ≡ true → (a ≡ true) ⊎ (b ≡ true)
 either true b h = inl refl
 either false b h = inr h
+
+-- two tests that pass together are equal
+pub same-outcome : (a b : Bool) → (a ≡ true → b ≡ true) → (b ≡ true → a ≡ true) → a ≡ b
+same-outcome true b f g = sym (f refl)
+same-outcome false true f g = g refl
+same-outcome false false f g = refl

@@ -8,6 +8,7 @@ use native.Mathlib.Omega.{arith}
 use native.Mathlib.Decide.{ℕ-discrete}
 use native.Mathlib.Nat.{not-suc-le-zero, suc-mul}
 use lib.Dec.{leb, ltb, eqb}
+use lib.Signed.{ltZ}
 use borrow.Author.Tests.{leb-true, ltb-true, le-leb, lt-ltb, eqb-true, eq-eqb}
 use lib.IntN.{ℤ, pos, negsuc, natAbs, _+ℤ_, _-ℤ_, _*ℤ_, +ℤ-idl, *ℤ-comm, pos-ne-negsuc}
 use Rattle.lists.specs.Span.{span}
@@ -16,6 +17,8 @@ use Rattle.integers.proofs.Solver.{Expression, var, num, _⊕_, _⊖_, _⊗_, s
 use Rattle.ring.specs.Element.{part, plus, scale, timesOmega}
 use Rattle.ring.specs.Matrix.{columns, matrixOf, trace, alternating, without, determinant}
 use Rattle.ring.specs.Base.{baseTrace, baseNorm, Expanding, expanding, Square, squareBelow, perfectSquare}
+
+-- ---- the matrix
 
 -- "two rows of two whole numbers, (u, t·v) and (v, u + s·v)"
 pub rows-of-two : (s t u v : ℤ) → matrixOf (t ∷ s ∷ []) (u ∷ v ∷ []) ≡ (u ∷ (t *ℤ v) ∷ []) ∷ (v ∷ (u +ℤ s *ℤ v) ∷ []) ∷ []
@@ -76,7 +79,7 @@ root-below (suc k) n j h e =
       | no p ↦ rw (root-below k n j (omega arith) e) (or-true (eqb (k * k) n))
     ]
 
-self-square : (k : ℕ) → k ≤ k * k
+pub self-square : (k : ℕ) → k ≤ k * k
 self-square zero = zero-le
 self-square (suc k) = rw (suc-mul k (suc k)) (omega arith)
 
@@ -85,3 +88,8 @@ pub square-test : (z : ℤ) → perfectSquare z ≡ true ↔ Square z
 unfolding perfectSquare Square
 square-test (pos n) = (λ h. let r = root-of (suc n) n h in (r .0, ap pos (r .1)), λ q. root-below (suc n) n (q .0) (omega (arith, self-square (q .0), ap natAbs (q .1))) (ap natAbs (q .1)))
 square-test (negsuc n) = (λ h. clash h refl, λ q. absurd (pos-ne-negsuc _ n (q .1)))
+
+pub square-below-zero : (z : ℤ) → ltZ z (pos 0) ≡ true → perfectSquare z ≡ false
+unfolding perfectSquare
+square-below-zero (pos n) h = absurd (not-suc-le-zero (ltb-true n 0 h))
+square-below-zero (negsuc n) h = refl

@@ -5,6 +5,13 @@ use Prim.Native.Nat.{ℕ, zero, suc, _*_, _<_, _≤_}
 use lib.Dec.{leb, ltb, eqb}
 use lib.IntN.{ℤ, pos, negsuc, natAbs, _+ℤ_, _-ℤ_, _*ℤ_}
 
+-- the size limits of s, t, u and v
+pub record BaseLimits (s t u v : ℤ) : Type 0 where
+  pub of-s : natAbs s ≤ 64
+  pub of-t : natAbs t ≤ 64
+  pub of-u : natAbs u ≤ 64
+  pub of-v : natAbs v ≤ 64
+
 -- T = 2u + s·v
 unfoldable pub baseTrace : ℤ → ℤ → ℤ → ℤ
 baseTrace s u v = pos 2 *ℤ u +ℤ s *ℤ v
