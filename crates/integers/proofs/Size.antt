@@ -51,3 +51,18 @@ mag≤natAbs (negsuc n) = omega arith
 
 pub small-fits : (w : Width) (z : ℤ) → natAbs z < 2 ^ hbits w → SFits w z
 small-fits w z h = record { sfits = omega (arith, mag≤natAbs z) }
+
+-- ---- the range of a signed width, −n to n − 1, whose bound absolute values lose by one
+
+mag-cond : (b : Bool) (x y : ℤ) (n : ℕ) → mag x < n → mag y < n → mag (cond b x y) < n
+mag-cond true x y n h k = h
+mag-cond false x y n h k = k
+
+mag-sub : (a b n : ℕ) → a < n → b ≤ n → mag (subℕ a b) < n
+mag-sub a b n h k = mag-cond (ltb a b) (negsuc (b - suc a)) (pos (a - b)) n (omega arith) (omega arith)
+
+pub mag-+ : (a b : ℤ) (n : ℕ) → mag a < n → mag b < n → mag (a +ℤ b) < n + n
+mag-+ (pos a) (pos b) n h k = omega arith
+mag-+ (pos a) (negsuc b) n h k = omega (arith, mag-sub a (suc b) n h k)
+mag-+ (negsuc a) (pos b) n h k = omega (arith, mag-sub b (suc a) n k h)
+mag-+ (negsuc a) (negsuc b) n h k = omega arith

@@ -1,0 +1,1 @@
+// The marked exercises of document 01, shown for the definitions. No code.

@@ -1,0 +1,34 @@
+-- A half rounded down: what it is, and that halves of sums stay in range.
+use mathlib.Core.Path.{_≡_, refl, sym, ap, _∙_}
+use mathlib.Core.Logic.{_⊎_, inl, inr}
+use Prim.Native.Nat.{ℕ, suc, _+_, _/_, _%_, _<_}
+use native.Mathlib.Omega.{arith}
+use native.Mathlib.Decide.{ℕ-discrete}
+use lib.IntN.{ℤ, pos, negsuc, _+ℤ_, +ℤ-one}
+use lib.Signed.{mag, shrZ}
+use Rattle.midpoint.specs.Midpoint.{halved}
+
+-- the number is twice its half, or one more: the half is rounded down
+pub half-of : (z : ℤ) → (z ≡ halved z +ℤ halved z) ⊎ (z ≡ halved z +ℤ halved z +ℤ pos 1)
+unfolding halved
+half-of (pos n) =
+    elim (ℕ-discrete n (n / 2 + n / 2)) [
+    yes e ↦ inl (ap pos e)
+    | no m ↦ let e : n ≡ n / 2 + n / 2 + 1 = omega arith in inr (ap pos e)
+    ]
+half-of (negsuc n) =
+    elim (ℕ-discrete n (suc (n / 2 + n / 2))) [
+    yes e ↦ inl (ap negsuc e)
+    | no m ↦ let e : n ≡ n / 2 + n / 2 = omega arith in inr (ap negsuc e ∙ sym (+ℤ-one (negsuc (suc (n / 2 + n / 2)))))
+    ]
+
+pub mag-halved : (z : ℤ) (n : ℕ) → mag z < n + n → mag (halved z) < n
+unfolding halved
+mag-halved (pos a) n h = omega arith
+mag-halved (negsuc a) n h = omega arith
+
+-- the machine's shift by one place
+pub shift-halves : (z : ℤ) → shrZ z 2 ≡ halved z
+unfolding halved
+shift-halves (pos n) = refl
+shift-halves (negsuc n) = refl
