@@ -6,20 +6,22 @@ use native.Mathlib.Omega.{arith}
 use native.Mathlib.Decide.{ℕ-discrete}
 use lib.IntN.{ℤ, pos, negsuc, _+ℤ_, +ℤ-one}
 use lib.Signed.{mag, shrZ}
-use Rattle.midpoint.specs.Midpoint.{halved}
+use Rattle.ring.specs.Element.{part}
+use Rattle.midpoint.specs.declared.Element.{Element}
+use Rattle.midpoint.specs.Midpoint.{parts, halved}
 
 -- the number is twice its half, or one more: the half is rounded down
 pub half-of : (z : ℤ) → (z ≡ halved z +ℤ halved z) ⊎ (z ≡ halved z +ℤ halved z +ℤ pos 1)
 unfolding halved
 half-of (pos n) =
     elim (ℕ-discrete n (n / 2 + n / 2)) [
-    yes e ↦ inl (ap pos e)
-    | no m ↦ let e : n ≡ n / 2 + n / 2 + 1 = omega arith in inr (ap pos e)
+      | yes e ↦ inl (ap pos e)
+      | no m ↦ let e : n ≡ n / 2 + n / 2 + 1 = omega arith in inr (ap pos e)
     ]
 half-of (negsuc n) =
     elim (ℕ-discrete n (suc (n / 2 + n / 2))) [
-    yes e ↦ inl (ap negsuc e)
-    | no m ↦ let e : n ≡ n / 2 + n / 2 = omega arith in inr (ap negsuc e ∙ sym (+ℤ-one (negsuc (suc (n / 2 + n / 2)))))
+      | yes e ↦ inl (ap negsuc e)
+      | no m ↦ let e : n ≡ n / 2 + n / 2 = omega arith in inr (ap negsuc e ∙ sym (+ℤ-one (negsuc (suc (n / 2 + n / 2)))))
     ]
 
 pub mag-halved : (z : ℤ) (n : ℕ) → mag z < n + n → mag (halved z) < n
@@ -32,3 +34,7 @@ pub shift-halves : (z : ℤ) → shrZ z 2 ≡ halved z
 unfolding halved
 shift-halves (pos n) = refl
 shift-halves (negsuc n) = refl
+
+-- an element is known by its parts
+pub known-by-parts : (x y : Element) → parts x ≡ parts y → x ≡ y
+known-by-parts x y h = λ i. record { a = part (h i) 0; b = part (h i) 1 }
