@@ -12,7 +12,8 @@ use lib.Seq.{take-at, drop-at, drop-drop, getD-set-same, getD-set-other}
 use borrow.Author.Tests.{ltb-true}
 use Rattle.lists.specs.Span.{span}
 use Rattle.lists.proofs.Span.{length-span, span-add, span-ext}
-use Rattle.lists.proofs.Scan.{every-complete, clash}
+use Rattle.lists.proofs.Scan.{every-complete}
+use Rattle.lists.proofs.Test.{both}
 use Rattle.numeration.specs.Group.{Operations}
 use Rattle.numeration.specs.Code.{Code, Inputs}
 use Rattle.numeration.specs.Pairs.{RowsConvert}
@@ -82,10 +83,6 @@ module _ {Rows Change Digit : Type 0} (k : Changes Rows Change Digit) (Valid : R
   changeAll-right [] r rest v = refl
   changeAll-right (e ∷ es) r rest v = ap (changeAll k es) (change-right e r rest v) ∙ changeAll-right es (storeTaken k e r) rest (valid-storeTaken e r v)
 
-both-true : (a b : Bool) → (a && b) ≡ true → (a ≡ true) × (b ≡ true)
-both-true true b e = (refl, e)
-both-true false b e = clash e refl
-
 inputs-set : (m : ℕ) (row : List ℕ) (p d : ℕ) → d < m → Inputs m row → Inputs m (set row p d)
 inputs-set m row p d h all i l =
     let low : i < length row = rw length-set at l in
@@ -106,4 +103,4 @@ rowChanges-local o input c alphabet n m all =
     }
   where
     bounds : (e : ℕ × ℕ) → (ltb (e .0) n && ltb (e .1) m) ≡ true → (e .0 < n) × (e .1 < m)
-    bounds e t = let (hp, hd) = both-true (ltb (e .0) n) (ltb (e .1) m) t in (ltb-true _ _ hp, ltb-true _ _ hd)
+    bounds e t = let (hp, hd) = both (ltb (e .0) n) (ltb (e .1) m) t in (ltb-true _ _ hp, ltb-true _ _ hd)

@@ -1,6 +1,6 @@
 -- Leaves: the look-up finds the leaf that begins a string; order of neighbours separates all leaves; strings of a length.
-use mathlib.Core.Path.{_≡_, refl, sym, ap, _∙_}
-use mathlib.Core.Bool.{Bool, true, false, not}
+use mathlib.Core.Path.{_≡_, sym, ap, _∙_}
+use mathlib.Core.Bool.{true, not}
 use mathlib.Core.Logic.{_↔_}
 use mathlib.Core.List.{List}
 use Prim.Native.Nat.{ℕ, zero, suc, _+_, _-_, _<_, _≤_, min}
@@ -12,7 +12,8 @@ use borrow.Author.Tests.{not-false, not-true, ltb-true, eqb-true, lt-ltb, eq-eqb
 use lib.ListN.{length, getD, List·getD-eq-default}
 use Rattle.lists.specs.Span.{span}
 use Rattle.lists.proofs.Span.{length-span, getD-span}
-use Rattle.lists.proofs.Scan.{scan-passed, scan-failed, scan-ext, scan-unique, clash}
+use Rattle.lists.proofs.Scan.{scan-passed, scan-failed, scan-ext, scan-unique}
+use Rattle.lists.proofs.Test.{clash, both}
 use Rattle.numeration.specs.Code.{Code, Agree, Inputs, begins, Begins, leafOf, depth, Precedes, Comparable, Separate, HasLeaf, Complete, CompleteAt, OrderedCode, PrefixCode, precedes, firstDifference}
 use Rattle.numeration.proofs.Agreement.{agree-sound, agree-complete, agree-ext, largest-bound, largest-reached}
 
@@ -107,19 +108,17 @@ module _ {A : Type 0} (c : Code A) where
   -- the test of the order says what the statement says
   pub precedes-sound : (k l : ℕ) → precedes c k l ≡ true → Precedes c k l
   unfolding precedes firstDifference
-  precedes-sound k l h = go (ltb (firstDifference c k l) (min (c .size k) (c .size l))) refl
-    where
-      go : (b : Bool) → ltb (firstDifference c k l) (min (c .size k) (c .size l)) ≡ b → Precedes c k l
-      go true e =
-          (firstDifference c k l, ltb-true _ _ e, (λ i l. eqb-true _ _ (scan-passed _ 0 _ i (omega arith) l)), ltb-true _ _ (rw (e, precedes) at h))
-      go false e = clash (rw (e, precedes) at h) refl
+  precedes-sound k l h =
+      let d : ℕ = firstDifference c k l in
+      let (e, f) = both (ltb d (min (c .size k) (c .size l))) (ltb (c .digit k d) (c .digit l d)) h in
+      (d, ltb-true _ _ e, (λ i l. eqb-true _ _ (scan-passed _ 0 _ i (omega arith) l)), ltb-true _ _ f)
 
   pub precedes-complete : (k l : ℕ) → Precedes c k l → precedes c k l ≡ true
   unfolding precedes firstDifference
   precedes-complete k l (i, h, a, d) =
       let n : ℕ = min (c .size k) (c .size l) in
       let first : firstDifference c k l ≡ i = scan-unique _ 0 n i (omega arith) (omega arith) (λ j low lt. eq-eqb _ _ (a j lt)) (ne-eqb _ _ (λ e. none e)) in
-      rw (lt-ltb (firstDifference c k l) n (rw first h), precedes) (rw first (lt-ltb _ _ d))
+      rw (lt-ltb (firstDifference c k l) n (rw first h)) (rw first (lt-ltb _ _ d))
     where
       none : c .digit k i ≡ c .digit l i → ⊥
       none e = omega arith

@@ -1,6 +1,6 @@
 -- Words, leaves and windows. A digit here is an input index; a string is a function from places, its first digit at place 0.
 use mathlib.Core.Path.{_≡_}
-use mathlib.Core.Bool.{Bool, true, false, not}
+use mathlib.Core.Bool.{Bool, not, _&&_}
 use mathlib.Core.List.{List}
 use Prim.Native.Nat.{ℕ, zero, suc, _<_, _≤_, min, max}
 use lib.Dec.{eqb, ltb}
@@ -59,7 +59,7 @@ module _ {A : Type 0} (c : Code A) where
   unfoldable pub precedes : ℕ → ℕ → Bool
   precedes k l =
       let i = firstDifference k l in
-      elim (ltb i (min (c .size k) (c .size l))) [ true ↦ ltb (c .digit k i) (c .digit l i) | false ↦ false ]
+      ltb i (min (c .size k) (c .size l)) && ltb (c .digit k i) (c .digit l i)
 
   abbrev pub Precedes : ℕ → ℕ → Type 0
   Precedes k l = (i : ℕ) × (i < min (c .size k) (c .size l)) × Agree (c .digit k) (c .digit l) i × (c .digit k i < c .digit l i)
