@@ -17,7 +17,7 @@ use Rattle.lists.proofs.Test.{both}
 use Rattle.numeration.specs.Group.{Operations}
 use Rattle.numeration.specs.Code.{Code, Inputs}
 use Rattle.numeration.specs.Pairs.{RowsConvert}
-use Rattle.numeration.specs.Changes.{rowChanges, InputRow, Changes, Local, digitRow, renewable, renewed, change, changeAll, storeTaken, storeAll}
+use Rattle.numeration.specs.Changes.{rowChanges, InputRow, Changes, Local, digitRow, renewable, renewed, change, changeAll, storeTaken, storeAll, SumFollows}
 use Rattle.numeration.proofs.Windows.{convert-set}
 
 -- a span's list f, in which the n places from p on are g's, is g's list where the two agree elsewhere
@@ -78,7 +78,7 @@ module _ {Rows Change Digit : Type 0} (k : Changes Rows Change Digit) (Valid : R
       go true t = rw (t, storeTaken) (local .valid e r t v)
       go false t = rw (t, storeTaken) v
 
-  pub changeAll-right : (es : List Change) (r : Rows) (rest : List Digit) → Valid r → changeAll k es (r, digitRow k r ++ rest) ≡ (storeAll k es r, digitRow k (storeAll k es r) ++ rest)
+  pub changeAll-right : (es : List Change) (r : Rows) (rest : List Digit) → Valid r → SumFollows k es r rest
   unfolding changeAll storeAll
   changeAll-right [] r rest v = refl
   changeAll-right (e ∷ es) r rest v = ap (changeAll k es) (change-right e r rest v) ∙ changeAll-right es (storeTaken k e r) rest (valid-storeTaken e r v)

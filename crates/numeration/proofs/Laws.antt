@@ -2,7 +2,7 @@
 use mathlib.Core.Path.{_≡_, sym, _∙_}
 use mathlib.Core.Bool.{Bool, true}
 use mathlib.Core.Logic.{_↔_}
-use mathlib.Core.List.{List, _++_, map}
+use mathlib.Core.List.{List, map}
 use Prim.Native.Nat.{ℕ, suc, _+_, _<_, _≤_}
 use lib.ListN.{length, getD, set}
 use Rattle.numeration.specs.Group.{Operations, Group}
@@ -10,7 +10,7 @@ use Rattle.numeration.specs.Code.{Code, Below, Begins, leafOf, depth, Or
 use Rattle.numeration.specs.Conversion.{weightInto, weightAt, convert, convertRow, InGroup}
 use Rattle.numeration.specs.Pairs.{Fits, pairDigit, pairString, Holds, PairsConvert, RowsConvert}
 use Rattle.numeration.specs.Value.{Elements, value, topDown}
-use Rattle.numeration.specs.Changes.{Changes, Local, rowChanges, InputRow, digitRow, changeAll, storeAll}
+use Rattle.numeration.specs.Changes.{Changes, Local, rowChanges, InputRow, SumFollows}
 use Rattle.numeration.proofs.Leaves.{prefix-code, leafOf-begins, leafOf-unique}
 use Rattle.numeration.proofs.Windows.{convert-ext, convert-set}
 use Rattle.numeration.proofs.Ends.{weight-below, weight-above, convert-above, convert-value}
@@ -21,10 +21,10 @@ use Rattle.numeration.proofs.Changes.{changeAll-right, rowChanges-local
 -- 1. One leaf. With words of 1 to n input digits, each above the previous one at the first place where they differ and neither
 -- beginning the other, and every string of n digits begun by a leaf: no word begins another (`separate` of the record), exactly
 -- one leaf begins each string, and leaf 0 is that of zeros.
-pub one-leaf : {A : Type 0} (c : Code A) (n m : ℕ) → OrderedCode c n m → PrefixCode c m × ((w : ℕ → ℕ) → Below m w → (k : ℕ) × (k < c .leaves) × Begins c k w × ((l : ℕ) → l < c .leaves → Begins c l w → l ≡ k)) × (leafOf c (λ i. 0) ≡ 0)
+pub one-leaf : {A : Type 0} (c : Code A) (n m : ℕ) → OrderedCode c n m → PrefixCode c m × ((w : ℕ → ℕ) → Below m w → (leafOf c w < c .leaves) × Begins c (leafOf c w) w × ((k : ℕ) → k < c .leaves → Begins c k w → k ≡ leafOf c w)) × (leafOf c (λ i. 0) ≡ 0)
 one-leaf c n m r =
     let p : PrefixCode c m = prefix-code c n m r in
-    (p, (λ w h. let (low, b) = leafOf-begins c w (p .complete w h) in (leafOf c w, low, b, λ l hl d. sym (leafOf-unique c (p .separate) w l hl d))), leafOf-unique c (p .separate) (λ i. 0) 0 (p .some-leaf) (p .zeros))
+    (p, (λ w h. let (low, b) = leafOf-begins c w (p .complete w h) in (low, b, λ k hk d. sym (leafOf-unique c (p .separate) w k hk d))), leafOf-unique c (p .separate) (λ i. 0) 0 (p .some-leaf) (p .zeros))
 
 module _ {A : Type 0} (o : Operations A) (Element : A → Type 0) (g : Group o Element) (input : ℕ → A) (c : Code A) (m : ℕ) (p : PrefixCode c m) (i : InGroup o Element input c) where
   -- 2. Ends. The weight q(−1) below place 0 is zero; from place n + h − 1 up the weights are zero; digits from n + h on are zero.
@@ -55,9 +55,10 @@ module _ {A : Type 0} (o : Operations A) (input : ℕ → A) (c : Code A) where
 -- 6. Lists. For any conversion with locality and alphabet digits: after any list of changes of single digits, each renewing only
 -- places p to p + h of the sum, the rows are those with the taken digits stored in turn, the sum is their whole digit row, and
 -- what stands behind it is as it was.
-pub list-of-changes : {Rows Change Digit : Type 0} (k : Changes Rows Change Digit) (Valid : Rows → Type 0) → Local k Valid → (es : List Change) (r : Rows) (rest : List Digit) → Valid r → changeAll k es (r, digitRow k r ++ rest) ≡ (storeAll k es r, digitRow k (storeAll k es r) ++ rest)
+pub list-of-changes : {Rows Change Digit : Type 0} (k : Changes Rows Change Digit) (Valid : Rows → Type 0) → Local k Valid → (es : List Change) (r : Rows) (rest : List Digit) → Valid r → SumFollows k es r rest
 list-of-changes k Valid local es r rest v = changeAll-right k Valid local es r rest v
 
--- Conversion of a row of n input digits is one, where every fitting pair gives an alphabet digit.
-pub list-of-row-changes : {A : Type 0} (o : Operations A) (input : ℕ → A) (c : Code A) (alphabet : A → Bool) (n m : ℕ) → PrefixCode c m → PairsConvert o input c (λ x. alphabet x ≡ true) → Local (rowChanges o input c alphabet n m) (InputRow n m)
-list-of-row-changes o input c alphabet n m p pairs = rowChanges-local o input c alphabet n m (demand-2 o input c m p (λ x. alphabet x ≡ true) .0 pairs)
+-- So for changes of the digits of a row of n input digits, where every fitting pair gives an alphabet digit.
+pub list-of-digit-changes : {A : Type 0} (o : Operations A) (input : ℕ → A) (c : Code A) (alphabet : A → Bool) (n m : ℕ) → PrefixCode c m → PairsConvert o input c (λ x. alphabet x ≡ true) → (es : List (ℕ × ℕ)) (row : List ℕ) (rest : List A) → InputRow n m row → SumFollows (rowChanges o input c alphabet n m) es row rest
+list-of-digit-changes o input c alphabet n m p pairs =
+    changeAll-right (rowChanges o input c alphabet n m) (InputRow n m) (rowChanges-local o input c alphabet n m (pairs-rows o input c m p (λ x. alphabet x ≡ true) .0 pairs))

@@ -64,6 +64,11 @@ module _ {Rows Change Digit : Type 0} (k : Changes Rows Change Digit) where
   storeAll [] r = r
   storeAll (e ∷ es) r = storeAll es (storeTaken e r)
 
+  -- after the changes the rows are those with the taken digits stored in turn, the sum is their whole digit row, and what stands
+  -- behind it is as it was
+  abbrev pub SumFollows : List Change → Rows → List Digit → Type 0
+  SumFollows es r rest = changeAll es (r, digitRow r ++ rest) ≡ (storeAll es r, digitRow (storeAll es r) ++ rest)
+
 module _ {A : Type 0} (o : Operations A) (input : ℕ → A) (c : Code A) (alphabet : A → Bool) (n m : ℕ) where
   -- conversion of a row of n of the m input digits, with changes (place, input index)
   unfoldable pub rowChanges : Changes (List ℕ) (ℕ × ℕ) A

@@ -86,10 +86,9 @@ bin =
           ∷ one 4 (minus 1) ∷ [];
     }
 
--- "TERN with weight 0 at input 2"
-unfoldable pub ternSpoilt : System
-ternSpoilt =
-    record { base = tern .base; alphabet = tern .alphabet; inputs = tern .inputs; leaves = set (tern .leaves) 2 (one 2 (pos 0)) }
+-- a system with leaf k replaced
+unfoldable pub withLeaf : System → ℕ → List ℕ × ℤ → System
+withLeaf t k leaf = record { base = t .base; alphabet = t .alphabet; inputs = t .inputs; leaves = set (t .leaves) k leaf }
 
 -- an exercise: a system that passes rule 14; two rows and their sum, digits lowest first; a refusal 14 and its place
 pub data Exercise : Type 0 where
@@ -106,7 +105,8 @@ abbrev pub AllRight : List Exercise → Type 0
 AllRight [] = Unit
 AllRight (e ∷ es) = Right e × AllRight es
 
--- TERN and BIN pass; M7, M9, M10, M11 twice, M12
+-- TERN and BIN pass; M7; M9; M10; M11 twice; M12, "TERN with weight 0 at input 2"; and one of our own in which a word of two digits
+-- fits wrongly, BIN with weight 0 at the word 1 1
 abbrev pub marked : List Exercise
 marked =
     passes tern
@@ -116,5 +116,6 @@ marked =
     ∷ adds bin (0 ∷ 1 ∷ []) (0 ∷ 0 ∷ []) (0 ∷ 1 ∷ 0 ∷ 0 ∷ [])
     ∷ adds tern [] [] (0 ∷ [])
     ∷ adds bin [] [] (0 ∷ 0 ∷ [])
-    ∷ refuses ternSpoilt 2
+    ∷ refuses (withLeaf tern 2 (one 2 (pos 0))) 2
+    ∷ refuses (withLeaf bin 2 (two 1 1 (pos 0))) 2
     ∷ []
