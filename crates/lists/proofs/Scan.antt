@@ -6,8 +6,9 @@ use Prim.Native.Nat.{ℕ, zero, suc, _+_, _-_, _<_, _≤_}
 use native.Mathlib.Decide.{decLt}
 use native.Mathlib.Omega.{arith}
 use native.Mathlib.Nat.{add-zero, suc-add, add-suc, le-antisymm}
+use borrow.Author.Tests.{eqb-true, eq-eqb}
 use Rattle.lists.proofs.Test.{clash}
-use Rattle.lists.specs.Scan.{firstFailing}
+use Rattle.lists.specs.Scan.{firstFailing, every}
 
 -- a place that passes: the scan goes on one place further
 pub scan-step : (test : ℕ → Bool) (i n : ℕ) → test i ≡ true → firstFailing test i (suc n) ≡ firstFailing test (suc i) n
@@ -63,6 +64,17 @@ scan-failed test i (suc n) =
     by-outcome (λ k. k < i + suc n → test k ≡ false) test i n
     (λ pass h. scan-failed test (suc i) n (omega arith)) (λ fail h. fail)
 
+-- two tests with the same outcomes at the places
+pub scan-ext : (test other : ℕ → Bool) (i n : ℕ) → ((k : ℕ) → i ≤ k → k < i + n → test k ≡ other k) → firstFailing test i n ≡ firstFailing other i n
+scan-ext test other i zero same = rw (scan-end test, scan-end other)
+scan-ext test other i (suc n) same =
+    by-outcome (λ k. k ≡ firstFailing other i (suc n)) test i n
+    (λ e. scan-ext test other (suc i) n (λ k low high. same k (omega arith) (omega arith)) ∙ sym (scan-step other i n (sym first ∙ e)))
+    (λ e. sym (scan-hit other i n (sym first ∙ e)))
+  where
+    first : test i ≡ other i
+    first = same i (omega arith) (omega arith)
+
 -- passing everywhere
 pub scan-all : (test : ℕ → Bool) (i n : ℕ) → ((j : ℕ) → i ≤ j → j < i + n → test j ≡ true) → firstFailing test i n ≡ i + n
 scan-all test i n all =
@@ -70,6 +82,15 @@ scan-all test i n all =
       | yes h ↦ clash (all _ (scan-low test i n) h) (scan-failed test i n h)
       | no h ↦ le-antisymm (scan-high test i n) (omega arith)
     ]
+
+-- `every` is the test of just that
+pub every-complete : (test : ℕ → Bool) (i n : ℕ) → ((j : ℕ) → i ≤ j → j < i + n → test j ≡ true) → every test i n ≡ true
+unfolding every
+every-complete test i n all = eq-eqb _ _ (scan-all test i n all)
+
+pub every-sound : (test : ℕ → Bool) (i n : ℕ) → every test i n ≡ true → (j : ℕ) → i ≤ j → j < i + n → test j ≡ true
+unfolding every
+every-sound test i n e j low high = scan-passed test i n j low (omega (arith, eqb-true (firstFailing test i n) (i + n) e))
 
 -- and it is the only such place
 pub scan-unique : (test : ℕ → Bool) (i n k : ℕ) → i ≤ k → k < i + n → ((j : ℕ) → i ≤ j → j < k → test j ≡ true) → test k ≡ false → firstFailing test i n ≡ k

@@ -1,0 +1,10 @@
+pub mod Agreement
+pub mod Leaves
+pub mod Windows
+pub mod Sums
+pub mod Ends
+pub mod Pairs
+pub mod Changes
+pub mod Exercises
+pub mod Laws
+pub mod Examples

@@ -1,0 +1,43 @@
+-- Conversion of a row of input digits: windows, weights and the digits that come out.
+use mathlib.Core.Path.{_≡_}
+use mathlib.Core.List.{List}
+use Prim.Native.Nat.{ℕ, zero, suc, _+_}
+use lib.ListN.{length, getD}
+use Rattle.lists.specs.Span.{span}
+use Rattle.numeration.specs.Group.{Operations}
+use Rattle.numeration.specs.Code.{Code, leafOf, depth}
+
+-- w(j−1), w(j−2), ..: the row's input indexes read downward from below place j, zeros outside the row
+unfoldable pub window : List ℕ → ℕ → ℕ → ℕ
+window row zero k = 0
+window row (suc j) zero = getD row j 0
+window row (suc j) (suc k) = window row j k
+
+-- an input digit, plus the weight from below, minus the base times the own weight
+unfoldable pub outDigit : {A : Type 0} → Operations A → A → A → A → A
+outDigit o input below own = o .difference (o .sum input below) (o .base own)
+
+module _ {A : Type 0} (c : Code A) where
+  -- q(j−1): the weight that place j gets from below; at place 0 that of the window of zeros
+  unfoldable pub weightInto : List ℕ → ℕ → A
+  weightInto row j = c .weight (leafOf c (window row j))
+
+  -- q(j)
+  unfoldable pub weightAt : List ℕ → ℕ → A
+  weightAt row j = weightInto row (suc j)
+
+module _ {A : Type 0} (o : Operations A) (input : ℕ → A) (c : Code A) where
+  -- z(j) = w(j) + q(j−1) − β·q(j)
+  unfoldable pub convert : List ℕ → ℕ → A
+  convert row j = outDigit o (input (getD row j 0)) (weightInto c row j) (weightAt c row j)
+
+  -- the digits z(j) for j from 0 to n + h − 1
+  unfoldable pub convertRow : List ℕ → List A
+  convertRow row = span (convert row) 0 (length row + depth c)
+
+-- input digits and weights are elements; input index 0 and leaf 0's weight are zero
+pub record InGroup {A : Type 0} (o : Operations A) (Element : A → Type 0) (input : ℕ → A) (c : Code A) : Type 0 where
+  pub element-input : (i : ℕ) → Element (input i)
+  pub element-weight : (k : ℕ) → Element (c .weight k)
+  pub input-zero : input 0 ≡ o .none
+  pub weight-zero : c .weight 0 ≡ o .none

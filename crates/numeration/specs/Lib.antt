@@ -1,0 +1,7 @@
+pub mod Group
+pub mod Code
+pub mod Conversion
+pub mod Pairs
+pub mod Value
+pub mod Changes
+pub mod Exercises
