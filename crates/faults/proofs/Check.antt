@@ -1,20 +1,29 @@
 -- Laws of `judge`, `_then_` and `inTurn`, for the proofs of the functions that run them.
-use mathlib.Core.Path.{_≡_, refl}
+use mathlib.Core.Path.{_≡_, refl, sym, _∙_}
 use mathlib.Core.Bool.{Bool, true, false}
 use Prim.Native.Nat.{ℕ, zero, suc, _<_, _≤_}
-use lib.Dec.{eqb, ltb}
+use native.Mathlib.Omega.{arith}
 use borrow.Author.Tests.{lt-ltb, le-ltb, eq-eqb, ne-eqb}
 use Rattle.lists.specs.Scan.{firstFailing}
+use Rattle.lists.proofs.Scan.{scan-step, scan-hit, scan-end}
 use Rattle.faults.specs.declared.Refusal.{Refusal}
 use Rattle.faults.specs.Check.{refusal, none, judge, _then_, inTurn}
 
-pub judge-broken : (number : ℕ) (at : ℕ → ℕ) (test : ℕ → Bool) (n : ℕ) → firstFailing test 0 n < n → judge number at test n ≡ refusal number (at (firstFailing test 0 n))
+-- the answer of a rule from the first failing place, as a scan hands it over
+pub judge-broken : (number : ℕ) (at : ℕ → ℕ) (test : ℕ → Bool) (n i : ℕ) → i ≡ firstFailing test 0 n → i < n → judge number at test n ≡ refusal number (at i)
 unfolding judge
-judge-broken number at test n h = rw (lt-ltb _ _ h, judge)
+judge-broken number at test n i e h = rw (lt-ltb _ _ (rw e at h), judge, ← e)
 
-pub judge-kept : (number : ℕ) (at : ℕ → ℕ) (test : ℕ → Bool) (n : ℕ) → n ≤ firstFailing test 0 n → judge number at test n ≡ none
+pub judge-kept : (number : ℕ) (at : ℕ → ℕ) (test : ℕ → Bool) (n i : ℕ) → i ≡ firstFailing test 0 n → n ≤ i → judge number at test n ≡ none
 unfolding judge
-judge-kept number at test n h = rw (le-ltb _ _ h, judge)
+judge-kept number at test n i e h = rw (le-ltb _ _ (rw e at h), judge)
+
+-- a rule that judges one thing
+pub once-broken : (number : ℕ) (at : ℕ → ℕ) (allowed : Bool) → allowed ≡ false → judge number at (λ _. allowed) 1 ≡ refusal number (at 0)
+once-broken number at allowed e = judge-broken number at (λ _. allowed) 1 0 (sym (scan-hit _ 0 0 e)) (omega arith)
+
+pub once-kept : (number : ℕ) (at : ℕ → ℕ) (allowed : Bool) → allowed ≡ true → judge number at (λ _. allowed) 1 ≡ none
+once-kept number at allowed e = judge-kept number at (λ _. allowed) 1 1 (sym (scan-step _ 0 0 e ∙ scan-end _ 1)) (omega arith)
 
 pub then-found : (a b : Refusal) → (a .number ≡ 0 → ⊥) → (a then b) ≡ a
 unfolding _then_

@@ -89,7 +89,7 @@ judge-decided r at test n some rising means = elim (decLt first n) [ yes h ↦ f
 
     fails : first < n → Decided (r ∷ []) (judge (r .number) at test n)
     fails h =
-        rw (judge-broken (r .number) at test n h)
+        rw (judge-broken (r .number) at test n first refl h)
         (refuses some (inl (
           refl,
           record {
@@ -99,7 +99,7 @@ judge-decided r at test n some rising means = elim (decLt first n) [ yes h ↦ f
         )))
 
     holds : n ≤ first → Decided (r ∷ []) (judge (r .number) at test n)
-    holds h = passes (judge-kept (r .number) at test n h) (λ p b. let w : Thing p = means p .0 b in passed (w .0) (omega arith) (w .3), tt)
+    holds h = passes (judge-kept (r .number) at test n first refl h) (λ p b. let w : Thing p = means p .0 b in passed (w .0) (omega arith) (w .3), tt)
 
 -- checks one after the other, the second judged only where the first found nothing
 pub then-decided : (rs ss : List Rule) (a b : Refusal) → Decided rs a → (AllKept rs → Decided ss b) → Decided (rs ++ ss) (a then b)

@@ -20,13 +20,13 @@ unfoldable pub recordSize : ℕ → ℕ
 recordSize section = getD (elementSize ∷ elementSize ∷ elementSize ∷ leafSize ∷ 1 ∷ []) section 1
 
 -- where a section starts, its length and where it ends, as whole numbers
-unfoldable pub sectionStart : List ℕ → ℕ → ℕ
+abbrev pub sectionStart : List ℕ → ℕ → ℕ
 sectionStart file section = unsignedAt file (4 * section)
 
-unfoldable pub sectionLength : List ℕ → ℕ → ℕ
+abbrev pub sectionLength : List ℕ → ℕ → ℕ
 sectionLength file section = unsignedAt file (4 * section + 2)
 
-unfoldable pub sectionEnd : List ℕ → ℕ → ℕ
+abbrev pub sectionEnd : List ℕ → ℕ → ℕ
 sectionEnd file section = sectionStart file section + sectionLength file section
 
 -- a section as that part of the file

@@ -64,3 +64,98 @@ fn magnitude(bytes: &[u8], at: usize) -> usize
     let u = unsigned(bytes, at);
     if u < 32768 { u } else { 65536 - u }
 }
+
+// Where a section starts, its length and where it ends, as its pair of the directory says.
+pub fn section_start(file: &[u8], section: usize) -> usize
+    requires { ⌜ (section < 5) × (20 ≤ length (now file)) ⌝ }
+    ensures { λ r. ⌜ (r ≡ sectionStart (now (file .entry)) section) × (r < 65536) ⌝ }
+{
+    unsigned(file, 4 * section)
+}
+
+pub fn section_length(file: &[u8], section: usize) -> usize
+    requires { ⌜ (section < 5) × (20 ≤ length (now file)) ⌝ }
+    ensures { λ r. ⌜ (r ≡ sectionLength (now (file .entry)) section) × (r < 65536) ⌝ }
+{
+    unsigned(file, 4 * section + 2)
+}
+
+pub fn section_end(file: &[u8], section: usize) -> usize
+    requires { ⌜ (section < 5) × (20 ≤ length (now file)) ⌝ }
+    ensures { λ r. ⌜ r ≡ sectionEnd (now (file .entry)) section ⌝ }
+{
+    section_start(file, section) + section_length(file, section)
+}
+
+// Where a section must start: past the directory, or where the section before it ends.
+fn expected_start(file: &[u8], section: usize) -> usize
+    requires { ⌜ (section < 5) × (20 ≤ length (now file)) ⌝ }
+    ensures { λ r. ⌜ r ≡ expectedStart (now (file .entry)) section ⌝ }
+{
+    if section == 0 {
+        20
+    } else {
+        section_end(file, section - 1)
+    }
+}
+
+fn pair_allowed(file: &[u8], section: usize) -> bool
+    requires { ⌜ (section < 5) × (20 ≤ length (now file)) ⌝ }
+    ensures { λ r. ⌜ r ≡ pairAllowed (now (file .entry)) section ⌝ }
+{
+    let end = section_end(file, section);
+    if section_start(file, section) != expected_start(file, section) {
+        return false;
+    }
+    if file.len() < end {
+        return false;
+    }
+    if section < 4 {
+        return true;
+    }
+    end == file.len()
+}
+
+// The first pair of the directory that is not allowed, or 5.
+fn first_pair(file: &[u8]) -> usize
+    requires { ⌜ 20 ≤ length (now file) ⌝ }
+    ensures { λ r. ⌜ r ≡ firstFailing (pairAllowed (now (file .entry))) 0 5 ⌝ }
+{
+    let mut i = 0;
+    while i < 5 {
+        if !pair_allowed(file, i) {
+            return i;
+        }
+        i += 1;
+    }
+    i
+}
+
+// Rules 1 and 2: the file's size and its directory.
+pub fn directory(file: &[u8]) -> Refusal
+    ensures { λ r. ⌜ r ≡ directoryCheck (now (file .entry)) ⌝ }
+{
+    if file.len() < 20 {
+        return Refusal {
+            number: 1,
+            place: 0,
+        };
+    }
+    if 65535 < file.len() {
+        return Refusal {
+            number: 1,
+            place: 0,
+        };
+    }
+    let i = first_pair(file);
+    if i < 5 {
+        return Refusal {
+            number: 2,
+            place: i,
+        };
+    }
+    Refusal {
+        number: 0,
+        place: 0,
+    }
+}
