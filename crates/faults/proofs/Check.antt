@@ -1,11 +1,11 @@
 -- Laws of `judge`, `_then_` and `inTurn`, for the proofs of the functions that run them.
 use mathlib.Core.Path.{_≡_, refl, sym, _∙_}
 use mathlib.Core.Bool.{Bool, true, false}
-use Prim.Native.Nat.{ℕ, zero, suc, _<_, _≤_}
+use Prim.Native.Nat.{ℕ, suc, _-_, _<_, _≤_}
 use native.Mathlib.Omega.{arith}
 use borrow.Author.Tests.{lt-ltb, le-ltb, eq-eqb, ne-eqb}
 use Rattle.lists.specs.Scan.{firstFailing}
-use Rattle.lists.proofs.Scan.{scan-step, scan-hit, scan-end}
+use Rattle.lists.proofs.Scan.{scan-step, scan-hit, scan-end, scan-here, scan-out}
 use Rattle.faults.specs.declared.Refusal.{Refusal}
 use Rattle.faults.specs.Check.{refusal, none, judge, _then_, inTurn}
 
@@ -17,6 +17,13 @@ judge-broken number at test n i e h = rw (lt-ltb _ _ (rw e at h), judge, ← e)
 pub judge-kept : (number : ℕ) (at : ℕ → ℕ) (test : ℕ → Bool) (n i : ℕ) → i ≡ firstFailing test 0 n → n ≤ i → judge number at test n ≡ none
 unfolding judge
 judge-kept number at test n i e h = rw (le-ltb _ _ (rw e at h), judge)
+
+-- the same for a loop that answers by itself, at the i-th thing, when all before it are allowed
+pub judge-here : (number : ℕ) (at : ℕ → ℕ) (test : ℕ → Bool) (n i : ℕ) → firstFailing test i (n - i) ≡ firstFailing test 0 n → i < n → test i ≡ false → refusal number (at i) ≡ judge number at test n
+judge-here number at test n i same h fails = sym (judge-broken number at test n i (sym (scan-here test i n h fails) ∙ same) h)
+
+pub judge-out : (number : ℕ) (at : ℕ → ℕ) (test : ℕ → Bool) (n i : ℕ) → firstFailing test i (n - i) ≡ firstFailing test 0 n → n ≤ i → none ≡ judge number at test n
+judge-out number at test n i same h = sym (judge-kept number at test n i (sym (scan-out test i n h) ∙ same) h)
 
 -- a rule that judges one thing
 pub once-broken : (number : ℕ) (at : ℕ → ℕ) (allowed : Bool) → allowed ≡ false → judge number at (λ _. allowed) 1 ≡ refusal number (at 0)

@@ -10,10 +10,10 @@ use Rattle.faults.specs.Check.{judge}
 use Rattle.layout.specs.Section.{recordSize, sectionLength}
 
 -- the least and the most records of each section; the base section is two elements
-unfoldable pub leastRecords : ℕ → ℕ
+abbrev pub leastRecords : ℕ → ℕ
 leastRecords section = getD (2 ∷ 2 ∷ 1 ∷ 1 ∷ 1 ∷ []) section 0
 
-unfoldable pub mostRecords : ℕ → ℕ
+abbrev pub mostRecords : ℕ → ℕ
 mostRecords section = getD (2 ∷ 16 ∷ 136 ∷ 4000 ∷ 32000 ∷ []) section 0
 
 -- 3: a section's length isn't allowed
@@ -22,8 +22,11 @@ lengthAllowed section n =
     eqb (n % recordSize section) 0
     && (leb (leastRecords section * recordSize section) n && leb n (mostRecords section * recordSize section))
 
+abbrev pub sectionAllowed : List ℕ → ℕ → Bool
+sectionAllowed lengths section = lengthAllowed section (getD lengths section 0)
+
 unfoldable pub lengthCheck : List ℕ → Refusal
-lengthCheck lengths = judge 3 (λ k. k) (λ k. lengthAllowed k (getD lengths k 0)) 5
+lengthCheck lengths = judge 3 (λ k. k) (sectionAllowed lengths) 5
 
 -- the five lengths that a file's directory names
 abbrev pub sectionLengths : List ℕ → List ℕ

@@ -11,7 +11,7 @@ use Rattle.layout.specs.Number.{signedAt}
 use Rattle.layout.specs.Section.{degree, elementSize, recordSize, sectionStart, partOf}
 
 -- the limit on the size of s, t, u, v, of alphabet parts, of input parts and of weight parts
-unfoldable pub sizeLimit : ℕ → ℕ
+abbrev pub sizeLimit : ℕ → ℕ
 sizeLimit section = getD (64 ∷ 64 ∷ 128 ∷ 1024 ∷ []) section 0
 
 -- where the m-th number with a limit stands, in records of this size: an element ends its record

@@ -16,8 +16,8 @@ abbrev pub leafSize : ℕ
 leafSize = 4 + elementSize
 
 -- the bytes of a record of each section: base (two elements: s, t and u, v), alphabet, input digits, leaves, words
-unfoldable pub recordSize : ℕ → ℕ
-recordSize section = getD (elementSize ∷ elementSize ∷ elementSize ∷ leafSize ∷ 1 ∷ []) section 1
+abbrev pub recordSize : ℕ → ℕ
+recordSize section = getD (elementSize ∷ elementSize ∷ elementSize ∷ leafSize ∷ 1 ∷ []) section 0
 
 -- where a section starts, its length and where it ends, as whole numbers
 abbrev pub sectionStart : List ℕ → ℕ → ℕ

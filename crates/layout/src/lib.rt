@@ -159,3 +159,72 @@ pub fn directory(file: &[u8]) -> Refusal
         place: 0,
     }
 }
+
+// The five lengths that the directory names.
+pub fn section_lengths(file: &[u8]) -> [usize; 5]
+    requires { ⌜ 20 ≤ length (now file) ⌝ }
+    ensures { λ r. ⌜ r ≡ sectionLengths (now (file .entry)) ⌝ }
+{
+    [
+        section_length(file, 0),
+        section_length(file, 1),
+        section_length(file, 2),
+        section_length(file, 3),
+        section_length(file, 4),
+    ]
+}
+
+fn size_of_record(section: usize) -> usize
+    requires { ⌜ section < 5 ⌝ }
+    ensures { λ r. ⌜ r ≡ recordSize section ⌝ }
+{
+    RECORDS[section]
+}
+
+fn least_records(section: usize) -> usize
+    requires { ⌜ section < 5 ⌝ }
+    ensures { λ r. ⌜ r ≡ leastRecords section ⌝ }
+{
+    LEAST[section]
+}
+
+fn most_records(section: usize) -> usize
+    requires { ⌜ section < 5 ⌝ }
+    ensures { λ r. ⌜ r ≡ mostRecords section ⌝ }
+{
+    MOST[section]
+}
+
+fn length_allowed(section: usize, n: usize) -> bool
+    requires { ⌜ section < 5 ⌝ }
+    ensures { λ r. ⌜ r ≡ lengthAllowed section n ⌝ }
+{
+    let size = size_of_record(section);
+    if n % size != 0 {
+        return false;
+    }
+    if n < least_records(section) * size {
+        return false;
+    }
+    n <= most_records(section) * size
+}
+
+// Rule 3: the lengths of the five sections, from a file or not.
+pub fn lengths(given: [usize; 5]) -> Refusal
+    ensures { λ r. ⌜ r ≡ lengthCheck given ⌝ }
+{
+    let mut i = 0;
+    while i < 5 {
+        if !length_allowed(i, given[i]) {
+            return Refusal {
+                number: 3,
+                place: i,
+            };
+        }
+        i += 1;
+    }
+    Refusal {
+        number: 0,
+        place: 0,
+    }
+}
