@@ -1,11 +1,14 @@
 -- Laws of `judge`, `_then_` and `inTurn`, for the proofs of the functions that run them.
-use mathlib.Core.Path.{_≡_, refl, sym, _∙_}
+use mathlib.Core.Path.{_≡_, refl, sym, ap, _∙_}
 use mathlib.Core.Bool.{Bool, true, false}
-use Prim.Native.Nat.{ℕ, suc, _-_, _<_, _≤_}
+use Prim.Native.Nat.{ℕ, suc, _+_, _-_, _<_, _≤_}
+use native.Mathlib.Decide.{decLt, ℕ-discrete}
+use native.Mathlib.Nat.{sub-eq-zero-of-le}
+use native.Mathlib.Numerals.{add-one}
 use native.Mathlib.Omega.{arith}
 use borrow.Author.Tests.{lt-ltb, le-ltb, eq-eqb, ne-eqb}
 use Rattle.lists.specs.Scan.{firstFailing}
-use Rattle.lists.proofs.Scan.{scan-step, scan-hit, scan-end, scan-here, scan-out}
+use Rattle.lists.proofs.Scan.{left, scan-step, scan-hit, scan-end, scan-here, scan-out, scan-passed}
 use Rattle.faults.specs.declared.Refusal.{Refusal}
 use Rattle.faults.specs.Check.{refusal, none, judge, _then_, inTurn}
 
@@ -52,3 +55,31 @@ turn-found check i n h = then-found (check i) _ h
 pub turn-end : (check : ℕ → Refusal) (i : ℕ) → inTurn check i 0 ≡ none
 unfolding inTurn
 turn-end check i = refl
+
+-- for a loop that counts i up to n, and has run the i-th check
+pub turn-on : (check : ℕ → Refusal) (i n : ℕ) (found : Refusal) → found ≡ check i → i < n → found .number ≡ 0 → inTurn check i (n - i) ≡ inTurn check (i + 1) (n - (i + 1))
+turn-on check i n found e h z = rw (left i n h, turn-next check i (n - (i + 1)) (rw e at z), add-one i)
+
+pub turn-here : (check : ℕ → Refusal) (i n : ℕ) (found : Refusal) → found ≡ check i → i < n → (found .number ≡ 0 → ⊥) → inTurn check i (n - i) ≡ found
+turn-here check i n found e h z = rw (left i n h, turn-found check i (n - (i + 1)) (rw e at z), e)
+
+pub turn-out : (check : ℕ → Refusal) (i n : ℕ) → n ≤ i → inTurn check i (n - i) ≡ none
+turn-out check i n h = rw (sub-eq-zero-of-le h) (turn-end check i)
+
+-- what number 0 says: both checks found nothing, and everything that a rule judges is allowed
+pub then-kept : (a b : Refusal) → (a then b) .number ≡ 0 → (a .number ≡ 0) × (b .number ≡ 0)
+then-kept a b h =
+    elim (ℕ-discrete (a .number) 0) [
+      | yes e ↦ (e, ap (λ (r : Refusal). r .number) (sym (then-next a b e)) ∙ h)
+      | no e ↦ absurd (e (ap (λ (r : Refusal). r .number) (sym (then-found a b e)) ∙ h))
+    ]
+
+pub judge-passed : (number : ℕ) (at : ℕ → ℕ) (test : ℕ → Bool) (n : ℕ) → 0 < number → judge number at test n .number ≡ 0 → (k : ℕ) → k < n → test k ≡ true
+judge-passed number at test n some h k l =
+    elim (decLt (firstFailing test 0 n) n) [
+      | yes f ↦ absurd (not-zero (ap (λ (r : Refusal). r .number) (sym (judge-broken number at test n _ refl f)) ∙ h))
+      | no f ↦ scan-passed test 0 n k (omega arith) (omega arith)
+    ]
+  where
+    not-zero : number ≡ 0 → ⊥
+    not-zero e = omega arith

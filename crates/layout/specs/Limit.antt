@@ -32,6 +32,9 @@ limitCheckIn part start section =
     judge 4 (λ m. start + numberPlace (recordSize section) m) (numberAllowed (recordSize section) (sizeLimit section) part)
     (numberCount (recordSize section) (length part))
 
--- in the four sections that have elements
+-- in the four sections that have elements, each handed on as that part of the file
+unfoldable pub limitCheckOf : List ℕ → ℕ → Refusal
+limitCheckOf file section = limitCheckIn (partOf file section) (sectionStart file section) section
+
 unfoldable pub limitCheck : List ℕ → Refusal
-limitCheck file = inTurn (λ section. limitCheckIn (partOf file section) (sectionStart file section) section) 0 4
+limitCheck file = inTurn (limitCheckOf file) 0 4

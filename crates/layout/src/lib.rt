@@ -228,3 +228,74 @@ pub fn lengths(given: [usize; 5]) -> Refusal
         place: 0,
     }
 }
+
+fn size_limit(section: usize) -> usize
+    requires { ⌜ section < 4 ⌝ }
+    ensures { λ r. ⌜ r ≡ sizeLimit section ⌝ }
+{
+    LIMITS[section]
+}
+
+// Where the m-th number with a limit stands in records of this size: an element ends its record.
+fn number_place(size: usize, m: usize) -> usize
+    requires { ⌜ (4 ≤ size) × (numberPlace size m < 2 ^ 63) ⌝ }
+    ensures { λ r. ⌜ r ≡ numberPlace size m ⌝ }
+{
+    m / DEGREE * size + (size - ELEMENT) + 2 * (m % DEGREE)
+}
+
+// The first number of a section that is outside its limit, or the count of numbers.
+fn first_outside(part: &[u8], size: usize, limit: usize, count: usize) -> usize
+    requires { ⌜ (4 ≤ size) × (count ≡ numberCount size (length (now part))) ⌝ }
+    ensures { λ r. ⌜ r ≡ firstFailing (numberAllowed size limit (now (part .entry))) 0 count ⌝ }
+{
+    let mut m = 0;
+    while m < count {
+        if limit < magnitude(part, number_place(size, m)) {
+            return m;
+        }
+        m += 1;
+    }
+    m
+}
+
+// Rule 4 in one section, handed on as its part of the file; `start` is where the part starts in the file.
+pub fn limits_in(part: &[u8], start: usize, section: usize) -> Refusal
+    requires { ⌜ (section < 4) × (start ≤ 65535) ⌝ }
+    ensures { λ r. ⌜ r ≡ limitCheckIn (now (part .entry)) start section ⌝ }
+{
+    let size = size_of_record(section);
+    let count = part.len() / size * DEGREE;
+    let m = first_outside(part, size, size_limit(section), count);
+    if m < count {
+        return Refusal {
+            number: 4,
+            place: start + number_place(size, m),
+        };
+    }
+    Refusal {
+        number: 0,
+        place: 0,
+    }
+}
+
+// Rule 4 in the four sections that have elements, of a file that passes rules 1 and 2.
+pub fn limits(file: &[u8]) -> Refusal
+    requires { ⌜ directoryCheck (now file) .number ≡ 0 ⌝ }
+    ensures { λ r. ⌜ r ≡ limitCheck (now (file .entry)) ⌝ }
+{
+    let mut i = 0;
+    while i < 4 {
+        let start = section_start(file, i);
+        let end = section_end(file, i);
+        let found = limits_in(&file[start..end], start, i);
+        if found.number != 0 {
+            return found;
+        }
+        i += 1;
+    }
+    Refusal {
+        number: 0,
+        place: 0,
+    }
+}
