@@ -5,10 +5,15 @@ use mathlib.Core.Logic.{⊎-elim}
 use Prim.Native.Nat.{ℕ, zero, suc, _+_, _-_, _<_, _≤_}
 use native.Mathlib.Decide.{decLt}
 use native.Mathlib.Omega.{arith}
-use native.Mathlib.Nat.{add-zero, suc-add, add-suc, le-antisymm}
+use native.Mathlib.Nat.{add-zero, suc-add, add-suc, le-antisymm, sub-eq-zero-of-le}
+use native.Mathlib.Numerals.{add-one}
 use borrow.Author.Tests.{eqb-true, eq-eqb}
 use Rattle.lists.proofs.Test.{clash}
 use Rattle.lists.specs.Scan.{firstFailing, every}
+
+-- what a count that is not used up leaves
+pub left : (i n : ℕ) → i < n → n - i ≡ suc (n - (i + 1))
+left i n h = omega arith
 
 -- a place that passes: the scan goes on one place further
 pub scan-step : (test : ℕ → Bool) (i n : ℕ) → test i ≡ true → firstFailing test i (suc n) ≡ firstFailing test (suc i) n
@@ -102,3 +107,13 @@ scan-unique test i n k low high before fail =
         | no l ↦ omega arith
       ]) (omega arith)
     ]
+
+-- for a loop that counts i up to n: its turn, its hit and its end
+pub scan-on : (test : ℕ → Bool) (i n : ℕ) → i < n → test i ≡ true → firstFailing test i (n - i) ≡ firstFailing test (i + 1) (n - (i + 1))
+scan-on test i n h e = rw (left i n h, scan-step test i (n - (i + 1)) e, add-one i)
+
+pub scan-here : (test : ℕ → Bool) (i n : ℕ) → i < n → test i ≡ false → firstFailing test i (n - i) ≡ i
+scan-here test i n h e = rw (left i n h) (scan-hit test i (n - (i + 1)) e)
+
+pub scan-out : (test : ℕ → Bool) (i n : ℕ) → n ≤ i → firstFailing test i (n - i) ≡ i
+scan-out test i n h = rw (sub-eq-zero-of-le h) (scan-end test i)

@@ -20,3 +20,11 @@ pub same-outcome : (a b : Bool) → (a ≡ true → b ≡ true) → (b ≡ true 
 same-outcome true b f g = sym (f refl)
 same-outcome false true f g = g refl
 same-outcome false false f g = refl
+
+pub not-both : (a b : Bool) → (a && b) ≡ false → (a ≡ false) ⊎ (b ≡ false)
+not-both true b h = inr h
+not-both false b h = inl refl
+
+pub neither : (a b : Bool) → (a || b) ≡ false → (a ≡ false) × (b ≡ false)
+neither true b h = clash refl h
+neither false b h = (refl, h)

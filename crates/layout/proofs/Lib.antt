@@ -1,0 +1,5 @@
+pub mod Number
+pub mod Pair
+pub mod Laid
+pub mod Length
+pub mod Limit

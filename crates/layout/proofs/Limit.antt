@@ -1,0 +1,85 @@
+-- Laws of rule 4: where its numbers stand, and one law for each answer of the functions that run it.
+use mathlib.Core.Path.{_≡_, refl, sym, ap, _∙_}
+use mathlib.Core.Bool.{Bool, true, false}
+use mathlib.Core.List.{List}
+use Prim.Native.Nat.{ℕ, zero, suc, _+_, _-_, _*_, _/_, _%_, _^_, _<_, _≤_}
+use native.Mathlib.Decide.{decLt}
+use native.Mathlib.Omega.{arith}
+use native.Mathlib.Nat.{add-mul, one-mul, mul-le-mul-right, div-mul-le-self, div-le-self}
+use lib.ListN.{length, take, drop}
+use lib.IntN.{natAbs}
+use borrow.Author.Tests.{lt-leb, le-leb}
+use Rattle.lists.specs.Scan.{firstFailing}
+use Rattle.faults.specs.declared.Refusal.{Refusal}
+use Rattle.faults.specs.Check.{refusal, none, judge}
+use Rattle.faults.proofs.Check.{judge-broken, judge-kept}
+use Rattle.layout.specs.Number.{signedAt}
+use Rattle.layout.specs.Section.{elementSize, recordSize, sectionStart, sectionEnd}
+use Rattle.layout.specs.Limit.{sizeLimit, numberPlace, numberCount, numberAllowed, limitCheckIn, limitCheckOf}
+
+-- the sections with a limit have records that hold an element
+pub element-held : (section : ℕ) → section < 4 → elementSize ≤ recordSize section
+element-held zero h = omega arith
+element-held (suc zero) h = omega arith
+element-held (suc (suc zero)) h = omega arith
+element-held (suc (suc (suc zero))) h = omega arith
+element-held (suc (suc (suc (suc section)))) h = absurd (beyond section h)
+  where
+    beyond : (s : ℕ) → suc (suc (suc (suc s))) < 4 → ⊥
+    beyond s h = omega arith
+
+module _ (size : ℕ) (held : elementSize ≤ size) where
+  -- one record further
+  next-record : (r s : ℕ) → r < s → r * size + size ≤ s * size
+  next-record r s h = omega (arith, mul-le-mul-right {m = r + 1} {n = s} size (omega arith), add-mul r 1 size, one-mul size)
+
+  pub number-inside : (n m : ℕ) → m < numberCount size n → numberPlace size m + 2 ≤ n
+  unfolding numberPlace numberCount
+  number-inside n m h = omega (arith, next-record (m / 2) (n / size) (omega arith), div-mul-le-self n size)
+
+  pub number-rising : (j k : ℕ) → j < k → numberPlace size j < numberPlace size k
+  unfolding numberPlace
+  number-rising j k h =
+      elim (decLt (j / 2) (k / 2)) [
+        | yes l ↦ omega (arith, next-record (j / 2) (k / 2) l)
+        | no l ↦ same (omega arith)
+      ]
+    where
+      same : j / 2 ≡ k / 2 → j / 2 * size + (size - 4) + 2 * (j % 2) < k / 2 * size + (size - 4) + 2 * (k % 2)
+      same e = rw e (omega arith)
+
+-- the same for a section's records, with their size as it was read
+pub size-held : (section size : ℕ) → section < 4 → size ≡ recordSize section → elementSize ≤ size
+size-held section size h sizes = omega (arith, element-held section h)
+
+pub section-inside : (section size n m : ℕ) → section < 4 → size ≡ recordSize section → m < numberCount size n → numberPlace size m + 2 ≤ n
+section-inside section size n m h sizes l = number-inside size (size-held section size h sizes) n m l
+
+-- a number whose place and size were read
+module _ (size limit : ℕ) (part : List ℕ) (m at magnitude : ℕ) (stands : at ≡ numberPlace size m) (reads : magnitude ≡ natAbs (signedAt part at)) where
+  pub number-outside : limit < magnitude → numberAllowed size limit part m ≡ false
+  unfolding numberAllowed
+  number-outside h = lt-leb _ _ (rw (reads, stands) at h)
+
+  pub number-within : magnitude ≤ limit → numberAllowed size limit part m ≡ true
+  unfolding numberAllowed
+  number-within h = le-leb _ _ (rw (reads, stands) at h)
+
+-- a section whose first number outside its limit was found at m
+module _ (part : List ℕ) (start section size limit m : ℕ) (sizes : size ≡ recordSize section) (limits : limit ≡ sizeLimit section)
+    (first : m ≡ firstFailing (numberAllowed size limit part) 0 (numberCount size (length part))) where
+  found : m ≡ firstFailing (numberAllowed (recordSize section) (sizeLimit section) part) 0 (numberCount (recordSize section) (length part))
+  found = rw (sizes, limits) at first
+
+  pub limit-broken : (at : ℕ) → at ≡ numberPlace size m → m < numberCount size (length part) → refusal 4 (start + at) ≡ limitCheckIn part start section
+  unfolding limitCheckIn
+  limit-broken at stands h = rw (stands, sizes) (sym (judge-broken 4 (λ m. start + numberPlace (recordSize section) m) _ _ m found (rw sizes at h)))
+
+  pub limit-kept : numberCount size (length part) ≤ m → none ≡ limitCheckIn part start section
+  unfolding limitCheckIn
+  limit-kept h = sym (judge-kept 4 (λ m. start + numberPlace (recordSize section) m) _ _ m found (rw sizes at h))
+
+-- a section handed on by its bounds as they were read
+pub handed-on : (file : List ℕ) (section start end : ℕ) → start ≡ sectionStart file section → end ≡ sectionEnd file section → limitCheckIn (take (end - start) (drop start file)) start section ≡ limitCheckOf file section
+unfolding limitCheckOf
+handed-on file section start end starts ends = rw (starts, ends)

@@ -1,0 +1,61 @@
+use Rattle.layout.specs.Length.{sectionAllowed, lengthCheck}
+use Rattle.faults.proofs.Check.{judge-here, judge-out}
+use Rattle.lists.proofs.Scan.{scan-on}
+use Rattle.lists.specs.Scan.{firstFailing}
+use borrow.Author.Needs.{needs}
+use borrow.Author.Tests.{not-true, not-false}
+use mathlib.Core.Path.{_≡_, refl, sym, _∙_}
+use Prim.Native.Nat.{_≤_, _-_}
+use Rattle.layout.proofs.lengths.Statement.{statement}
+use Rattle.layout.proofs.lengths.Tie as tie
+
+abbrev Inv-loop : tie.InvT-loop
+Inv-loop given i₀ i = (i ≤ 5) × (firstFailing (sectionAllowed given) i (5 - i) ≡ firstFailing (sectionAllowed given) 0 5)
+
+abbrev μ-loop : tie.MeasureT-loop
+μ-loop given i₀ i = 5 - i
+
+loop-holds : tie.Need-loop-holds Inv-loop μ-loop
+loop-holds c = (search needs, refl)
+
+mul-length-allowed : tie.Need-mul-length-allowed Inv-loop μ-loop
+mul-length-allowed c = search needs
+
+array-read-length-allowed : tie.Need-array-read-length-allowed Inv-loop μ-loop
+array-read-length-allowed c = search needs
+
+length-allowed-requires : tie.Need-length-allowed-requires Inv-loop μ-loop
+length-allowed-requires c κs = search needs
+
+returns : tie.Need-returns Inv-loop μ-loop
+unfolding lengthCheck
+returns c = judge-here 3 (λ k. k) _ 5 _ (c .before .before .before .loop .inv .1) (c .before .before .loop-test .taken) (sym (c .before .length-allowed .ensures) ∙ not-true _ (c .if1 .taken))
+
+add-i : tie.Need-add-i Inv-loop μ-loop
+add-i c = search needs
+
+loop-less : tie.Need-loop-less Inv-loop μ-loop
+loop-less c = search needs
+
+loop-again : tie.Need-loop-again Inv-loop μ-loop
+loop-again c = (search needs, sym (scan-on _ _ 5 (c .before .before .loop-test .taken) (sym (c .before .length-allowed .ensures) ∙ not-false _ (c .if1 .left))) ∙ c .before .before .before .loop .inv .1)
+
+returns-2 : tie.Need-returns-2 Inv-loop μ-loop
+unfolding lengthCheck
+returns-2 c = judge-out 3 (λ k. k) _ 5 _ (c .before .loop .inv .1) (c .loop-test .left)
+
+pub lengths-spec : {M : Type 1} → statement M
+lengths-spec =
+    tie.close
+    (tie.spec
+    Inv-loop
+    μ-loop
+    loop-holds
+    mul-length-allowed
+    array-read-length-allowed
+    length-allowed-requires
+    returns
+    add-i
+    loop-less
+    loop-again
+    returns-2)
