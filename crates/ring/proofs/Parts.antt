@@ -2,7 +2,7 @@
 use mathlib.Core.Path.{_≡_, refl, sym, ap, ap₂, _∙_}
 use mathlib.Core.Bool.{Bool, true, _&&_, and-true}
 use mathlib.Core.List.{List, [], _∷_}
-use Prim.Native.Nat.{ℕ, _≤_}
+use Prim.Native.Nat.{ℕ, zero, suc, _≤_, zero-le}
 use native.Mathlib.Nat.{le-refl}
 use lib.ListN.{length, getD}
 use lib.IntN.{ℤ, pos, natAbs, _+ℤ_, _-ℤ_, _*ℤ_, +ℤ-idr}
@@ -21,6 +21,12 @@ within-part n x h k = h k
 pub within-row : (n : ℕ) (m : List (List ℤ)) → RowsWithin n m → (i : ℕ) → Within n (getD m i [])
 unfolding RowsWithin
 within-row n m h i = h i
+
+pub within-two : (n : ℕ) (a b : ℤ) → natAbs a ≤ n → natAbs b ≤ n → Within n (a ∷ b ∷ [])
+unfolding Within
+within-two n a b h k zero = h
+within-two n a b h k (suc zero) = k
+within-two n a b h k (suc (suc i)) = zero-le
 
 -- a part as the machine computes with it
 abbrev pub entry : (n : ℕ) (x : List ℤ) → Within n x → ℕ → Term
