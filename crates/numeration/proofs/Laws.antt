@@ -5,7 +5,13 @@ use mathlib.Core.Logic.{_↔_}
 use mathlib.Core.List.{List, map}
 use Prim.Native.Nat.{ℕ, suc, _+_, _<_, _≤_}
 use lib.ListN.{length, getD, set}
+use lib.IntN.{ℤ}
+use Rattle.ring.specs.Element.{product}
+use Rattle.ring.specs.Matrix.{matrixOf}
+use Rattle.ring.proofs.Matrix.{length-matrix, matrix-product}
 use Rattle.numeration.specs.Group.{Operations, Group}
+use Rattle.numeration.specs.Elements.{elements, HasParts}
+use Rattle.numeration.proofs.Elements.{elements-group}
 use Rattle.numeration.specs.Code.{Code, Below, Begins, leafOf, depth, OrderedCode, PrefixCode}
 use Rattle.numeration.specs.Conversion.{weightInto, weightAt, convert, convertRow, InGroup}
 use Rattle.numeration.specs.Pairs.{Fits, pairDigit, pairString, Holds, PairsConvert, RowsConvert}
@@ -62,3 +68,9 @@ list-of-changes k Valid local es r rest v = changeAll-right k Valid local es r r
 pub list-of-digit-changes : {A : Type 0} (o : Operations A) (input : ℕ → A) (c : Code A) (alphabet : A → Bool) (n m : ℕ) → PrefixCode c m → PairsConvert o input c (λ x. alphabet x ≡ true) → (es : List (ℕ × ℕ)) (row : List ℕ) (rest : List A) → InputRow n m row → SumFollows (rowChanges o input c alphabet n m) es row rest
 list-of-digit-changes o input c alphabet n m p pairs =
     changeAll-right (rowChanges o input c alphabet n m) (InputRow n m) (rowChanges-local o input c alphabet n m (pairs-rows o input c m p (λ x. alphabet x ≡ true) .0 pairs))
+
+-- 7. Instance. Elements of any degree with multiplication by the base β are such a group, the map being the product β · x.
+pub elements-of-any-degree : (r β : List ℤ) → 1 ≤ length r → length β ≡ length r → Group (elements (length r) (matrixOf r β)) (HasParts (length r)) × ((x : List ℤ) → HasParts (length r) x → elements (length r) (matrixOf r β) .base x ≡ product r β x)
+unfolding elements
+elements-of-any-degree r β positive h =
+    (elements-group (length r) (matrixOf r β) (length-matrix r β), λ x k. matrix-product r positive β x h k)

@@ -8,3 +8,4 @@ pub mod Changes
 pub mod Exercises
 pub mod Laws
 pub mod Examples
+pub mod Elements

@@ -5,3 +5,4 @@ pub mod Pairs
 pub mod Value
 pub mod Changes
 pub mod Exercises
+pub mod Elements
