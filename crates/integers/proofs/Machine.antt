@@ -12,7 +12,7 @@ use mir.Syntax.{Width}
 use mir.Val.{SFits, hbits, toZ, ofZ}
 use mir.ValLaws.{toZ-ofZ}
 use Rattle.lists.proofs.Test.{both}
-use Rattle.integers.proofs.Size.{natAbs-+, natAbs--, natAbs-*≤, small-fits}
+use Rattle.integers.proofs.Size.{natAbs-+, natAbs-minus, natAbs-*≤, small-fits}
 
 pub data Operator : Type 0 where
   adding : Operator
@@ -31,7 +31,7 @@ limit multiplying m n = m * n
 
 limits : (o : Operator) (x y : ℤ) (m n : ℕ) → natAbs x ≤ m → natAbs y ≤ n → natAbs (result o x y) ≤ limit o m n
 limits adding x y m n h k = omega (arith, natAbs-+ x y)
-limits subtracting x y m n h k = omega (arith, natAbs-- x y)
+limits subtracting x y m n h k = omega (arith, natAbs-minus x y)
 limits multiplying x y m n h k = natAbs-*≤ x y m n h k
 
 -- a number with a bound on its size, or an operation on two terms

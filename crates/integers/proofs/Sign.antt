@@ -1,5 +1,5 @@
 -- The sign, as a test against zero tells it.
-use mathlib.Core.Path.{_≡_, refl, _∙_}
+use mathlib.Core.Path.{_≡_, refl}
 use mathlib.Core.Bool.{true, false}
 use native.Mathlib.Nat.{not-suc-le-zero}
 use lib.Dec.{T}
@@ -17,5 +17,5 @@ pub not-below-zero : (z : ℤ) → ltZ z (pos 0) ≡ false → T (nonNeg z)
 not-below-zero (pos n) h = tt
 not-below-zero (negsuc n) h = clash refl h
 
-pub natAbs-zero- : (z : ℤ) → natAbs (pos 0 -ℤ z) ≡ natAbs z
-natAbs-zero- z = rw (+ℤ-idl (negℤ z)) (natAbs-neg z)
+pub natAbs-negated : (z : ℤ) → natAbs (pos 0 -ℤ z) ≡ natAbs z
+natAbs-negated z = rw (+ℤ-idl (negℤ z)) (natAbs-neg z)

@@ -1,10 +1,10 @@
 -- Sizes: the absolute value of a sum, a product and a negative, and from a bound on it to a signed width's range.
 -- `omega` reads no integer, so an overflow is shown from bounds on absolute values.
-use mathlib.Core.Path.{_≡_, refl, sym, ap, _∙_, subst}
+use mathlib.Core.Path.{_≡_, refl}
 use Prim.Native.Nat.{ℕ, zero, suc, _+_, _-_, _*_, _^_, _<_, _≤_}
 use native.Mathlib.Omega.{arith}
-use native.Mathlib.Nat.{le-trans, mul-le-mul}
-use lib.Dec.{T, ltb, ltb→lt, nltb→le}
+use native.Mathlib.Nat.{mul-le-mul}
+use lib.Dec.{T, ltb, ltb→lt}
 use lib.Signed.{mag}
 use mathlib.Core.Bool.{Bool, true, false, not, cond}
 use lib.IntN.{ℤ, pos, negsuc, negℤ, natAbs, subℕ, _+ℤ_, _-ℤ_, _*ℤ_}
@@ -32,8 +32,8 @@ natAbs-+ (pos a) (negsuc b) = natAbs-sub a (suc b)
 natAbs-+ (negsuc a) (pos b) = omega (arith, natAbs-sub b (suc a))
 natAbs-+ (negsuc a) (negsuc b) = omega arith
 
-pub natAbs-- : (a b : ℤ) → natAbs (a -ℤ b) ≤ natAbs a + natAbs b
-natAbs-- a b = omega (arith, natAbs-+ a (negℤ b), natAbs-neg b)
+pub natAbs-minus : (a b : ℤ) → natAbs (a -ℤ b) ≤ natAbs a + natAbs b
+natAbs-minus a b = omega (arith, natAbs-+ a (negℤ b), natAbs-neg b)
 
 pub natAbs-* : (a b : ℤ) → natAbs (a *ℤ b) ≡ natAbs a * natAbs b
 natAbs-* (pos a) (pos b) = refl

@@ -1,5 +1,5 @@
 -- Equality of integers as a test that computes.
-use mathlib.Core.Bool.{Bool, true, false}
+use mathlib.Core.Bool.{Bool, false}
 use lib.IntN.{ℤ, pos, negsuc}
 use lib.Dec.{eqb}
 

@@ -1,11 +1,10 @@
 -- Laws of `firstFailing`: for a loop's invariant (step, hit, end) and for a reader (what holds before the place and at it).
-use mathlib.Core.Path.{_≡_, refl, sym, ap, _∙_, subst}
+use mathlib.Core.Path.{_≡_, refl, sym, _∙_}
 use mathlib.Core.Bool.{Bool, true, false}
-use mathlib.Core.Logic.{⊎-elim}
 use Prim.Native.Nat.{ℕ, zero, suc, _+_, _-_, _<_, _≤_}
 use native.Mathlib.Decide.{decLt}
 use native.Mathlib.Omega.{arith}
-use native.Mathlib.Nat.{add-zero, suc-add, add-suc, le-antisymm, sub-eq-zero-of-le}
+use native.Mathlib.Nat.{le-antisymm, sub-eq-zero-of-le}
 use native.Mathlib.Numerals.{add-one}
 use borrow.Author.Tests.{eqb-true, eq-eqb}
 use Rattle.lists.proofs.Test.{clash}

@@ -1,20 +1,20 @@
 -- Degree two: the matrix is document 01's rows, T and N are its trace and determinant; the tests say what they test.
-use mathlib.Core.Path.{_≡_, refl, sym, ap, ap₂, _∙_}
-use mathlib.Core.Bool.{Bool, true, false, _&&_, _||_, or-true}
+use mathlib.Core.Path.{_≡_, refl, ap}
+use mathlib.Core.Bool.{true, false, or-true}
 use mathlib.Core.Logic.{⊎-elim, _↔_}
-use mathlib.Core.List.{List, [], _∷_}
-use Prim.Native.Nat.{ℕ, zero, suc, _+_, _*_, _≤_, _<_, zero-le}
+use mathlib.Core.List.{[], _∷_}
+use Prim.Native.Nat.{ℕ, zero, suc, _*_, _≤_, _<_, zero-le}
 use native.Mathlib.Omega.{arith}
 use native.Mathlib.Decide.{ℕ-discrete}
 use native.Mathlib.Nat.{not-suc-le-zero, suc-mul}
-use lib.Dec.{leb, ltb, eqb}
+use lib.Dec.{eqb}
 use lib.Signed.{ltZ}
 use borrow.Author.Tests.{leb-true, ltb-true, le-leb, lt-ltb, eqb-true, eq-eqb}
-use lib.IntN.{ℤ, pos, negsuc, natAbs, _+ℤ_, _-ℤ_, _*ℤ_, +ℤ-idl, *ℤ-comm, pos-ne-negsuc}
+use lib.IntN.{ℤ, pos, negsuc, natAbs, _+ℤ_, _*ℤ_, +ℤ-idl, *ℤ-comm, pos-ne-negsuc}
 use Rattle.lists.specs.Span.{span}
 use Rattle.lists.proofs.Test.{both, either, clash}
 use Rattle.integers.proofs.Solver.{Expression, var, num, _⊕_, _⊖_, _⊗_, solve}
-use Rattle.ring.specs.Element.{part, plus, scale, timesOmega}
+use Rattle.ring.specs.Element.{plus, scale, timesOmega}
 use Rattle.ring.specs.Matrix.{columns, matrixOf, trace, alternating, without, determinant}
 use Rattle.ring.specs.Base.{baseTrace, baseNorm, Expanding, expanding, Square, squareBelow, perfectSquare}
 

@@ -1,14 +1,13 @@
 -- Laws of sum, difference and scaling, for every degree. A missing part is zero, so most need no word on the degree.
 use mathlib.Core.Path.{_≡_, refl, sym, ap, _∙_}
-use mathlib.Core.Bool.{Bool, true, false, _&&_}
-use mathlib.Core.List.{List, [], _∷_, map}
-use Prim.Native.Nat.{ℕ, zero, suc, _+_, _*_, _-_, _≤_, _<_, max}
+use mathlib.Core.List.{List, [], _∷_}
+use Prim.Native.Nat.{ℕ, zero, suc, _+_, _≤_, max}
 use native.Mathlib.Omega.{arith}
 use native.Mathlib.Nat.{not-suc-le-zero}
-use lib.ListN.{length, getD, take, replicate, length-map, length-replicate, List·getD-map}
-use lib.IntN.{ℤ, pos, negsuc, negℤ, natAbs, _+ℤ_, _-ℤ_, _*ℤ_, +ℤ-assoc, +ℤ-comm, +ℤ-idl, +ℤ-idr, +ℤ-invl, *ℤ-comm, *ℤ-zero, zero-*ℤ}
+use lib.ListN.{length, take, length-map, List·getD-map}
+use lib.IntN.{ℤ, pos, negℤ, _+ℤ_, _-ℤ_, _*ℤ_, +ℤ-assoc, +ℤ-comm, +ℤ-idl, +ℤ-idr, +ℤ-invl, *ℤ-comm, *ℤ-zero, zero-*ℤ}
 use Rattle.lists.proofs.Cons.{cons≡}
-use Rattle.integers.proofs.Laws.{*-distrib, +-distrib, *-assoc, one-*, *-left-comm}
+use Rattle.integers.proofs.Laws.{*-distrib, +-distrib, *-assoc, one-*}
 use Rattle.integers.proofs.Size.{natAbs-+, natAbs-neg}
 use Rattle.ring.specs.Element.{part, zeros, plus, negative, minus, scale, Within}
 

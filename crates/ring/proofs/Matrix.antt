@@ -1,15 +1,15 @@
 -- Matrices: matrix times element is additive, and the matrix that belongs to β times x is the product β · x, for every degree.
-use mathlib.Core.Path.{_≡_, refl, sym, ap, ap₂, _∙_}
+use mathlib.Core.Path.{_≡_, refl, sym, ap, _∙_}
 use mathlib.Core.List.{List, [], _∷_, map}
 use Prim.Native.Nat.{ℕ, zero, suc, _+_, _*_, _≤_, zero-le}
 use native.Mathlib.Omega.{arith}
 use native.Mathlib.Nat.{suc-mul, le-trans, mul-le-mul-right}
 use lib.ListN.{length, getD, length-map}
-use lib.IntN.{ℤ, pos, natAbs, _+ℤ_, _*ℤ_, +ℤ-idl, +ℤ-idr, *ℤ-comm, *ℤ-zero}
+use lib.IntN.{ℤ, pos, natAbs, _+ℤ_, _*ℤ_, +ℤ-idl, +ℤ-idr, *ℤ-comm}
 use Rattle.lists.specs.Span.{span}
 use Rattle.lists.proofs.Cons.{cons≡}
 use Rattle.lists.proofs.Span.{span-ext, span-getD, map-span, length-span}
-use Rattle.integers.proofs.Laws.{*-distrib, *-left-comm, +-cross}
+use Rattle.integers.proofs.Laws.{*-distrib, +-cross}
 use Rattle.integers.proofs.Size.{natAbs-+, natAbs-*≤}
 use Rattle.ring.specs.Element.{part, zeros, plus, scale, timesOmega, product, Within}
 use Rattle.ring.specs.Matrix.{dot, times, columns, matrixOf, RowsWithin}

@@ -2,12 +2,11 @@
 -- one is neutral. A product by x is a polynomial in multiplying by ω, and such polynomials commute; with x · 1 = x that is all.
 use mathlib.Core.Path.{_≡_, refl, sym, ap, ap₂, _∙_}
 use mathlib.Core.List.{List, [], _∷_, _++_, append-nil}
-use Prim.Native.Nat.{ℕ, zero, suc, _+_, _-_, _≤_, _<_}
+use Prim.Native.Nat.{ℕ, suc, _+_, _-_, _≤_}
 use native.Mathlib.Omega.{arith}
-use native.Mathlib.Numerals.{add-one}
 use lib.ListN.{length, take, length-take, length-append, length-replicate}
 use lib.Seq.{take-append-add, getD-append-add}
-use lib.IntN.{ℤ, pos, _+ℤ_, _*ℤ_, +ℤ-idr}
+use lib.IntN.{ℤ, pos, _*ℤ_, +ℤ-idr}
 use Rattle.lists.proofs.Cons.{cons≡}
 use Rattle.integers.proofs.Laws.{*-one}
 use Rattle.ring.specs.Element.{part, zeros, plus, scale, timesOmega, product, unit}

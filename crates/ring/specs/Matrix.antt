@@ -1,6 +1,6 @@
 -- Multiplication by the base as rows of whole numbers ("Ring and base" of document 01, for every degree).
 use mathlib.Core.List.{List, [], _∷_, _++_, map}
-use Prim.Native.Nat.{ℕ, zero, suc, _≤_}
+use Prim.Native.Nat.{ℕ, zero, suc}
 use lib.ListN.{length, getD, take, drop}
 use lib.IntN.{ℤ, pos, _+ℤ_, _-ℤ_, _*ℤ_}
 use Rattle.lists.specs.Span.{span}

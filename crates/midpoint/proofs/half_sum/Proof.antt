@@ -1,8 +1,8 @@
 -- In 64 bits the sum of two 32-bit numbers fits, and its half is in their range again.
 use mathlib.Core.Path.{_≡_, refl, ap, _∙_}
 use Prim.Native.Nat.{_^_}
-use lib.IntN.{ℤ, _+ℤ_}
-use lib.Signed.{mag, shrZ, natAbs-le}
+use lib.IntN.{_+ℤ_}
+use lib.Signed.{shrZ, natAbs-le}
 use mir.Syntax.{w32, w64}
 use mir.Val.{SFits, toZ, ofZ}
 use mir.ValLaws.{toZ-ofZ}

@@ -1,5 +1,5 @@
 -- Every entry is at most 64 + 64 · 64 in size.
-use mathlib.Core.Path.{_≡_, refl, sym, _∙_}
+use mathlib.Core.Path.{refl, sym, _∙_}
 use mir.Syntax.{w64}
 use Rattle.lists.proofs.Cons.{cons≡}
 use Rattle.integers.proofs.Machine.{Term, _⊕_, _⊗_, computed-fits, stored-is}

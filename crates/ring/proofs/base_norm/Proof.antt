@@ -1,7 +1,7 @@
 -- N is at most 528,384 in size, and so is each product on the way.
 use mathlib.Core.Path.{refl}
 use mir.Syntax.{w64}
-use Rattle.integers.proofs.Machine.{Term, _⊕_, _⊗_, computed-fits, stored-is}
+use Rattle.integers.proofs.Machine.{_⊕_, _⊗_, computed-fits, stored-is}
 use Rattle.ring.specs.Base.{baseNorm}
 use Rattle.ring.proofs.Parts.{s-term, t-term, u-term, v-term, norm-term}
 use Rattle.ring.proofs.base_norm.Statement.{statement}

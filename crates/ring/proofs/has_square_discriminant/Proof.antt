@@ -1,12 +1,8 @@
 -- The discriminant is at most 4,352 in size.
-use mathlib.Core.Path.{_≡_, refl, sym, ap, _∙_}
-use mathlib.Core.Bool.{false}
+use mathlib.Core.Path.{refl, sym, ap, _∙_}
 use native.Mathlib.Omega.{arith}
-use Prim.Native.Nat.{_≤_}
-use lib.IntN.{ℤ, pos, negsuc, natAbs}
-use lib.Signed.{ltZ, pos-natAbs}
+use lib.Signed.{pos-natAbs}
 use mir.Syntax.{w64}
-use mir.Val.{toZ, ofZ}
 use Rattle.integers.proofs.Machine.{Term, _⊕_, _⊗_, stored, computed-fits, stored-is, stored-bound}
 use Rattle.integers.proofs.Sign.{not-below-zero}
 use Rattle.ring.specs.Base.{discriminant, perfectSquare}

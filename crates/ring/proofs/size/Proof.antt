@@ -1,14 +1,12 @@
 -- A number below zero is taken from zero.
-use mathlib.Core.Path.{_≡_, refl, sym, ap, _∙_}
-use mathlib.Core.Bool.{true, false}
-use Prim.Native.Nat.{ℕ, _^_, _-_, _<_, _≤_, zero-le}
+use mathlib.Core.Path.{refl, sym, ap, _∙_}
+use Prim.Native.Nat.{_^_, _-_, zero-le}
 use native.Mathlib.Omega.{arith}
-use lib.IntN.{ℤ, pos, natAbs, _-ℤ_}
+use lib.IntN.{pos, natAbs}
 use lib.Signed.{ltZ}
 use mir.Syntax.{w64}
-use mir.Val.{toZ, ofZ}
 use Rattle.integers.proofs.Machine.{Term, leaf, _⊖_, computed-fits, stored-is}
-use Rattle.integers.proofs.Sign.{below-zero, not-below-zero, natAbs-zero-}
+use Rattle.integers.proofs.Sign.{below-zero, not-below-zero, natAbs-negated}
 use Rattle.ring.proofs.size.Statement.{statement}
 use Rattle.ring.proofs.size.Tie as tie
 
@@ -25,7 +23,7 @@ sub-result c = computed-fits w64 (negated (c .before)) refl
 cast-result : tie.Need-cast-result
 cast-result c =
     let s = c .before in
-    rw (stored-is w64 (negated s) refl) (below-zero (s .args .z) (ap (λ x. ltZ x (pos 0)) (sym (stored-is w64 (z s) refl)) ∙ c .if1 .taken), record { fits = omega (arith, natAbs-zero- (s .args .z), s .pre) })
+    rw (stored-is w64 (negated s) refl) (below-zero (s .args .z) (ap (λ x. ltZ x (pos 0)) (sym (stored-is w64 (z s) refl)) ∙ c .if1 .taken), record { fits = omega (arith, natAbs-negated (s .args .z), s .pre) })
 
 cast-result-2 : tie.Need-cast-result-2
 cast-result-2 c =
@@ -33,7 +31,7 @@ cast-result-2 c =
     rw (stored-is w64 (z s) refl) (not-below-zero (s .args .z) (ap (λ x. ltZ x (pos 0)) (sym (stored-is w64 (z s) refl)) ∙ c .if1 .left), record { fits = omega (arith, s .pre) })
 
 returns : tie.Need-returns
-returns c = let s = c .before in ap natAbs (stored-is w64 (negated s) refl) ∙ natAbs-zero- (s .args .z)
+returns c = let s = c .before in ap natAbs (stored-is w64 (negated s) refl) ∙ natAbs-negated (s .args .z)
 
 returns-2 : tie.Need-returns-2
 returns-2 c = ap natAbs (stored-is w64 (z (c .before)) refl)

@@ -5,7 +5,7 @@ use borrow.Author.Needs.{needs}
 use mir.Syntax.{w64}
 use lib.ListN.{length}
 use Rattle.lists.proofs.Cons.{cons≡}
-use Rattle.integers.proofs.Machine.{Term, _⊕_, _⊖_, _⊗_, computed-fits, stored-is}
+use Rattle.integers.proofs.Machine.{Term, _⊕_, computed-fits, stored-is}
 use Rattle.ring.proofs.Parts.{entry, plus-two}
 use Rattle.ring.proofs.sum.Statement.{statement}
 use Rattle.ring.proofs.sum.Tie as tie
