@@ -1,2 +1,3 @@
 pub mod Span
+pub mod Overwrite
 pub mod Scan
