@@ -1,12 +1,12 @@
 -- Laws of `overwrite`: nothing, one entry, one run after the other, the length.
-use mathlib.Core.Path.{_≡_, refl, sym, ap, _∙_}
+use mathlib.Core.Path.{_≡_, sym, ap, _∙_}
 use mathlib.Core.List.{List, [], _∷_, _++_, append-assoc}
-use Prim.Native.Nat.{ℕ, _+_, _-_, _<_, _≤_}
+use Prim.Native.Nat.{ℕ, _+_, _<_, _≤_}
 use native.Mathlib.Omega.{arith}
 use native.Mathlib.Nat.{add-zero, add-assoc}
 use native.Mathlib.Numerals.{add-one}
 use lib.ListN.{length, getD, take, drop, set, length-append, length-drop, take-append-drop}
-use lib.Seq.{set-split, take-append-add, drop-append-add, drop-drop, length-take-le, take-at, take-suc}
+use lib.Seq.{set-split, drop-append-add, drop-drop, length-take-le, take-at, take-suc}
 use Rattle.lists.specs.Overwrite.{overwrite}
 
 module _ {A : Type 0} where

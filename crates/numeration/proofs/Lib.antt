@@ -4,6 +4,7 @@ pub mod Windows
 pub mod Sums
 pub mod Ends
 pub mod Pairs
+pub mod Runs
 pub mod Changes
 pub mod Exercises
 pub mod Laws
