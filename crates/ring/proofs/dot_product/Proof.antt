@@ -4,7 +4,7 @@ use Prim.Native.Nat.{ℕ, _^_}
 use borrow.Author.Needs.{needs}
 use mir.Syntax.{w64}
 use lib.ListN.{length}
-use Rattle.integers.proofs.Machine.{Term, _⊕_, _⊗_, computed-fits, stored-is}
+use Rattle.integers.proofs.Machine.{Term, _⊕_, _⊗_, computed-fits, stored-is, stored-bound}
 use Rattle.ring.proofs.Parts.{entry, dot-two}
 use Rattle.ring.proofs.dot_product.Statement.{statement}
 use Rattle.ring.proofs.dot_product.Tie as tie
@@ -39,7 +39,7 @@ returns c =
     let s = c .before .before .before .before in
     let h : length (s .args .t1) ≡ 2 = search needs in
     let k : length (s .args .t2) ≡ 2 = search needs in
-    stored-is w64 (at s 0 ⊕ at s 1) refl ∙ sym (dot-two (s .args .t1) (s .args .t2) h k)
+    (stored-is w64 (at s 0 ⊕ at s 1) refl ∙ sym (dot-two (s .args .t1) (s .args .t2) h k), stored-bound w64 (at s 0 ⊕ at s 1) refl)
 
 pub dot-product-spec : {M : Type 1} → statement M
 dot-product-spec = tie.close (tie.spec array-copy-out-result array-copy-out-result-2 mul-result array-copy-out-result-3 array-copy-out-result-4 mul-result-2 add-result returns)
