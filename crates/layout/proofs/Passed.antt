@@ -21,7 +21,7 @@ use Rattle.layout.proofs.Limit.{element-held, number-of, number-counted
 use Rattle.layout.proofs.Broken.{Counted, counted}
 
 -- a section as a part of the file, in whole records
-pub record Kept (file : List ℕ) (section : ℕ) : Type 0 where
+pub record WholeRecords (file : List ℕ) (section : ℕ) : Type 0 where
   pub inside : sectionEnd file section ≤ length file
   pub small : length file ≤ 65535
   pub long : length (partOf file section) ≡ sectionLength file section
@@ -29,9 +29,9 @@ pub record Kept (file : List ℕ) (section : ℕ) : Type 0 where
   pub least : leastRecords section ≤ recordCount section (partOf file section)
   pub most : recordCount section (partOf file section) ≤ mostRecords section
 
-pub kept : (file : List ℕ) → directoryCheck file .number ≡ 0 → lengthCheck (sectionLengths file) .number ≡ 0 → (section : ℕ) → section < 5 → Kept file section
+pub whole-records : (file : List ℕ) → directoryCheck file .number ≡ 0 → lengthCheck (sectionLengths file) .number ≡ 0 → (section : ℕ) → section < 5 → WholeRecords file section
 unfolding lengthCheck
-kept file directory lengths section known =
+whole-records file directory lengths section known =
     record {
       inside = is .placed section known .inside;
       small = is .high;

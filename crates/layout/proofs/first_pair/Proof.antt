@@ -9,10 +9,10 @@ use Rattle.layout.proofs.first_pair.Statement.{statement}
 use Rattle.layout.proofs.first_pair.Tie as tie
 
 abbrev Inv-loop : tie.InvT-loop
-Inv-loop file i₀ i = (i ≤ 5) × (firstFailing (pairAllowed file) i (5 - i) ≡ firstFailing (pairAllowed file) 0 5)
+Inv-loop file pair₀ pair = (pair ≤ 5) × (firstFailing (pairAllowed file) pair (5 - pair) ≡ firstFailing (pairAllowed file) 0 5)
 
 abbrev μ-loop : tie.MeasureT-loop
-μ-loop file i₀ i = 5 - i
+μ-loop file pair₀ pair = 5 - pair
 
 loop-holds : tie.Need-loop-holds Inv-loop μ-loop
 loop-holds c = (search needs, refl)
@@ -23,8 +23,8 @@ pair-allowed-requires c κs = search needs
 returns : tie.Need-returns Inv-loop μ-loop
 returns c = sym (scan-here _ _ 5 (c .before .before .loop-test .taken) (sym (c .before .pair-allowed .ensures) ∙ not-true _ (c .if1 .taken))) ∙ c .before .before .before .loop .inv .1
 
-add-i : tie.Need-add-i Inv-loop μ-loop
-add-i c = search needs
+add-pair : tie.Need-add-pair Inv-loop μ-loop
+add-pair c = search needs
 
 loop-less : tie.Need-loop-less Inv-loop μ-loop
 loop-less c = search needs
@@ -44,7 +44,7 @@ first-pair-spec =
     loop-holds
     pair-allowed-requires
     returns
-    add-i
+    add-pair
     loop-less
     loop-again
     returns-2)

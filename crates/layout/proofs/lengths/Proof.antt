@@ -10,10 +10,10 @@ use Rattle.layout.proofs.lengths.Statement.{statement}
 use Rattle.layout.proofs.lengths.Tie as tie
 
 abbrev Inv-loop : tie.InvT-loop
-Inv-loop given i₀ i = (i ≤ 5) × (firstFailing (sectionAllowed given) i (5 - i) ≡ firstFailing (sectionAllowed given) 0 5)
+Inv-loop given section₀ section = (section ≤ 5) × (firstFailing (sectionAllowed given) section (5 - section) ≡ firstFailing (sectionAllowed given) 0 5)
 
 abbrev μ-loop : tie.MeasureT-loop
-μ-loop given i₀ i = 5 - i
+μ-loop given section₀ section = 5 - section
 
 loop-holds : tie.Need-loop-holds Inv-loop μ-loop
 loop-holds c = (search needs, refl)
@@ -31,8 +31,8 @@ returns : tie.Need-returns Inv-loop μ-loop
 unfolding lengthCheck
 returns c = judge-here 3 (λ k. k) _ 5 _ (c .before .before .before .loop .inv .1) (c .before .before .loop-test .taken) (sym (c .before .length-allowed .ensures) ∙ not-true _ (c .if1 .taken))
 
-add-i : tie.Need-add-i Inv-loop μ-loop
-add-i c = search needs
+add-section : tie.Need-add-section Inv-loop μ-loop
+add-section c = search needs
 
 loop-less : tie.Need-loop-less Inv-loop μ-loop
 loop-less c = search needs
@@ -55,7 +55,7 @@ lengths-spec =
     array-read-length-allowed
     length-allowed-requires
     returns
-    add-i
+    add-section
     loop-less
     loop-again
     returns-2)

@@ -11,10 +11,10 @@ use Rattle.layout.proofs.limits.Statement.{statement}
 use Rattle.layout.proofs.limits.Tie as tie
 
 abbrev Inv-loop : tie.InvT-loop
-Inv-loop file i₀ i = (i ≤ 4) × (inTurn (limitCheckOf file) i (4 - i) ≡ inTurn (limitCheckOf file) 0 4)
+Inv-loop file section₀ section = (section ≤ 4) × (inTurn (limitCheckOf file) section (4 - section) ≡ inTurn (limitCheckOf file) 0 4)
 
 abbrev μ-loop : tie.MeasureT-loop
-μ-loop file i₀ i = 4 - i
+μ-loop file section₀ section = 4 - section
 
 loop-holds : tie.Need-loop-holds Inv-loop μ-loop
 loop-holds c = (search needs, refl)
@@ -32,7 +32,7 @@ part-limits-in-start : tie.Need-part-limits-in-start Inv-loop μ-loop
 part-limits-in-start c = omega (arith, c .section-end .ensures, c .before .section-start .ensures .0)
 
 part-limits-in-end : tie.Need-part-limits-in-end Inv-loop μ-loop
-part-limits-in-end c = omega (arith, c .section-end .ensures, laid _ (c .before .before .before .before .before .pre) .placed (c .before .before .before .loop .i) (omega arith) .inside)
+part-limits-in-end c = omega (arith, c .section-end .ensures, laid _ (c .before .before .before .before .before .pre) .placed (c .before .before .before .loop .section) (omega arith) .inside)
 
 limits-in-requires : tie.Need-limits-in-requires Inv-loop μ-loop
 limits-in-requires c κs = omega arith
@@ -41,8 +41,8 @@ returns : tie.Need-returns Inv-loop μ-loop
 unfolding limitCheck
 returns c = sym (turn-here _ _ 4 _ (c .before .before .limits-in .ensures ∙ handed-on _ _ _ _ (c .before .before .before .before .before .section-start .ensures .0) (c .before .before .before .before .section-end .ensures)) (c .before .before .before .before .before .before .loop-test .taken) (c .if1 .taken)) ∙ c .before .before .before .before .before .before .before .loop .inv .1
 
-add-i : tie.Need-add-i Inv-loop μ-loop
-add-i c = search needs
+add-section : tie.Need-add-section Inv-loop μ-loop
+add-section c = search needs
 
 loop-less : tie.Need-loop-less Inv-loop μ-loop
 loop-less c = search needs
@@ -68,7 +68,7 @@ limits-spec =
     part-limits-in-end
     limits-in-requires
     returns
-    add-i
+    add-section
     loop-less
     loop-again
     returns-2)
