@@ -8,6 +8,7 @@ use native.Mathlib.Omega.{arith}
 use lib.ListN.{length}
 use lib.Dec.{leb, ltb, eqb}
 use borrow.Author.Tests.{ltb-false, leb-true, leb-false, eqb-true, eqb-false, le-leb, eq-eqb}
+use Rattle.lists.proofs.Each.{each}
 use Rattle.lists.proofs.Test.{clash, not-both, neither, both}
 use Rattle.faults.specs.declared.Refusal.{Refusal}
 use Rattle.faults.specs.Check.{judge, _then_}
@@ -78,24 +79,13 @@ counted section n = (
 pub length-means : (section n : ℕ) → section < 5 → (lengthAllowed section n ≡ true) ↔ Allowed section n
 length-means section n l = (λ t. to section l (counted section n .0 t), λ a. counted section n .1 (from section l a))
   where
-    beyond : (s : ℕ) → suc (suc (suc (suc (suc s)))) < 5 → ⊥
-    beyond s h = omega arith
-
     to : (section : ℕ) → section < 5 → Counted section n → Allowed section n
-    to zero l w = omega arith
-    to (suc zero) l w = (n / 4, omega arith, omega arith, omega arith)
-    to (suc (suc zero)) l w = (n / 4, omega arith, omega arith, omega arith)
-    to (suc (suc (suc zero))) l w = (n / 8, omega arith, omega arith, omega arith)
-    to (suc (suc (suc (suc zero)))) l w = omega arith
-    to (suc (suc (suc (suc (suc s))))) l w = absurd (beyond s l)
+    to =
+        each (λ section. Counted section n → Allowed section n) 5
+        (((((tt, λ w. omega arith), λ w. (n / 4, omega arith, omega arith, omega arith)), λ w. (n / 4, omega arith, omega arith, omega arith)), λ w. (n / 8, omega arith, omega arith, omega arith)), λ w. omega arith)
 
     from : (section : ℕ) → section < 5 → Allowed section n → Counted section n
-    from zero l a = omega arith
-    from (suc zero) l a = omega arith
-    from (suc (suc zero)) l a = omega arith
-    from (suc (suc (suc zero))) l a = omega arith
-    from (suc (suc (suc (suc zero)))) l a = omega arith
-    from (suc (suc (suc (suc (suc s))))) l a = absurd (beyond s l)
+    from = each (λ section. Allowed section n → Counted section n) 5 (omega arith)
 
 pub length-decided : (lengths : List ℕ) → Decided (lengthRules lengths) (lengthCheck lengths)
 unfolding lengthCheck

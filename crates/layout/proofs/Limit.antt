@@ -2,7 +2,7 @@
 use mathlib.Core.Path.{_≡_, sym}
 use mathlib.Core.Bool.{true, false}
 use mathlib.Core.List.{List}
-use Prim.Native.Nat.{ℕ, zero, suc, _+_, _-_, _*_, _/_, _%_, _<_, _≤_}
+use Prim.Native.Nat.{ℕ, _+_, _-_, _*_, _/_, _%_, _<_, _≤_}
 use native.Mathlib.Decide.{decLt}
 use native.Mathlib.Omega.{arith}
 use native.Mathlib.Nat.{add-mul, one-mul, mul-le-mul-right, le-div-iff-mul-le}
@@ -10,6 +10,7 @@ use lib.ListN.{length, take, drop}
 use lib.IntN.{natAbs}
 use borrow.Author.Tests.{lt-leb, le-leb}
 use Rattle.lists.specs.Scan.{firstFailing}
+use Rattle.lists.proofs.Each.{each}
 use Rattle.faults.specs.Check.{refusal, none}
 use Rattle.faults.proofs.Check.{judge-broken, judge-kept}
 use Rattle.layout.specs.Number.{signedAt}
@@ -18,14 +19,7 @@ use Rattle.layout.specs.Limit.{sizeLimit, numberPlace, numberCount, numb
 
 -- the sections with a limit have records that hold an element
 pub element-held : (section : ℕ) → section < 4 → elementSize ≤ recordSize section
-element-held zero h = omega arith
-element-held (suc zero) h = omega arith
-element-held (suc (suc zero)) h = omega arith
-element-held (suc (suc (suc zero))) h = omega arith
-element-held (suc (suc (suc (suc section)))) h = absurd (beyond section h)
-  where
-    beyond : (s : ℕ) → suc (suc (suc (suc s))) < 4 → ⊥
-    beyond s h = omega arith
+element-held = each (λ section. elementSize ≤ recordSize section) 4 (omega arith)
 
 module _ (size : ℕ) (held : elementSize ≤ size) where
   -- one record further

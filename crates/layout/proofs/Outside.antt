@@ -3,12 +3,13 @@ use mathlib.Core.Path.{_≡_}
 use mathlib.Core.Bool.{false}
 use mathlib.Core.List.{List, [], _∷_}
 use mathlib.Core.Logic.{inl, inr, _↔_}
-use Prim.Native.Nat.{ℕ, zero, suc, _+_, _-_, _*_, _/_, _%_, _<_, _≤_}
+use Prim.Native.Nat.{ℕ, _+_, _-_, _*_, _/_, _%_, _<_, _≤_}
 use native.Mathlib.Omega.{arith}
 use native.Mathlib.Nat.{add-mul, one-mul}
 use lib.ListN.{length}
 use lib.IntN.{natAbs}
 use borrow.Author.Tests.{lt-leb, leb-false}
+use Rattle.lists.proofs.Each.{each}
 use Rattle.faults.specs.Rule.{rule, Exact}
 use Rattle.faults.proofs.Rule.{Decided, exact, judge-decided, turn-decided, reworded, InPart}
 use Rattle.layout.specs.Number.{signedAt}
@@ -85,15 +86,10 @@ by-section : (file : List ℕ) (p : ℕ) → InPart (In file) 0 4 p ↔ Broken4 
 unfolding In
 by-section file p = (λ w. to (w .0) (w .2) (w .3), from)
   where
-    to : (section : ℕ) → section < 0 + 4 → Outside file section (recordSize section) (sizeLimit section) p → Broken4 file p
-    to zero l b = inl b
-    to (suc zero) l b = inr (inl b)
-    to (suc (suc zero)) l b = inr (inr (inl b))
-    to (suc (suc (suc zero))) l b = inr (inr (inr b))
-    to (suc (suc (suc (suc section)))) l b = absurd (beyond section l)
-      where
-        beyond : (s : ℕ) → suc (suc (suc (suc s))) < 0 + 4 → ⊥
-        beyond s h = omega arith
+    to : (section : ℕ) → section < 4 → Outside file section (recordSize section) (sizeLimit section) p → Broken4 file p
+    to =
+        each (λ section. Outside file section (recordSize section) (sizeLimit section) p → Broken4 file p) 4
+        ((((tt, λ b. inl b), λ b. inr (inl b)), λ b. inr (inr (inl b))), λ b. inr (inr (inr b)))
 
     from : Broken4 file p → InPart (λ section p. Outside file section (recordSize section) (sizeLimit section) p) 0 4 p
     from (inl b) = (0, omega arith, omega arith, b)

@@ -8,6 +8,7 @@ use native.Mathlib.Nat.{le-div-iff-mul-le, div-le-of-le-mul, div-add-mod', mul-c
 use lib.ListN.{length, getD}
 use lib.IntN.{natAbs}
 use borrow.Author.Tests.{leb-true}
+use Rattle.lists.proofs.Each.{each}
 use Rattle.lists.proofs.Span.{getD-span}
 use Rattle.faults.proofs.Check.{judge-passed, turn-kept}
 use Rattle.layout.specs.Number.{signedAt}
@@ -73,3 +74,12 @@ within file limits section index k known l h = rw (← number-of (recordSize sec
 
     allowed : numberAllowed (recordSize section) (sizeLimit section) (partOf file section) (index * degree + k) ≡ true
     allowed = judge-passed 4 _ _ _ (omega arith) (turn-kept (limitCheckOf file) 0 4 limits section (omega arith) (omega arith)) (index * degree + k) counts
+
+-- the same in a section whose records are elements and nothing else
+pub within-element : (file : List ℕ) → limitCheck file .number ≡ 0 → (section index k : ℕ) → section < 3 → index < recordCount section (partOf file section) → k < degree
+    → natAbs (signedAt (partOf file section) (index * elementSize + 2 * k)) ≤ sizeLimit section
+within-element file limits section index k known l h =
+    rw (ap (λ (n : ℕ). n + 2 * k) (bare section known)) at (within file limits section index k (omega arith) l h)
+  where
+    bare : (section : ℕ) → section < 3 → elementStart section index ≡ index * elementSize
+    bare = each (λ section. elementStart section index ≡ index * elementSize) 3 (omega arith)

@@ -3,7 +3,6 @@ use Rattle.layout.proofs.Laid.{laid}
 use Rattle.layout.specs.Limit.{limitCheckOf, limitCheck}
 use Rattle.faults.proofs.Check.{turn-on, turn-here, turn-out}
 use Rattle.faults.specs.Check.{inTurn}
-use borrow.Author.Needs.{needs}
 use native.Mathlib.Omega.{arith}
 use mathlib.Core.Path.{_≡_, refl, sym, _∙_}
 use Prim.Native.Nat.{_≤_, _-_}
@@ -17,7 +16,7 @@ abbrev μ-loop : tie.MeasureT-loop
 μ-loop file section₀ section = 4 - section
 
 loop-holds : tie.Need-loop-holds Inv-loop μ-loop
-loop-holds c = (search needs, refl)
+loop-holds c = (omega arith, refl)
 
 section-start-requires : tie.Need-section-start-requires Inv-loop μ-loop
 section-start-requires c κs = omega (arith, laid _ (c .before .before .before .pre) .low)
@@ -42,13 +41,13 @@ unfolding limitCheck
 returns c = sym (turn-here _ _ 4 _ (c .before .before .limits-in .ensures ∙ handed-on _ _ _ _ (c .before .before .before .before .before .section-start .ensures .0) (c .before .before .before .before .section-end .ensures)) (c .before .before .before .before .before .before .loop-test .taken) (c .if1 .taken)) ∙ c .before .before .before .before .before .before .before .loop .inv .1
 
 add-section : tie.Need-add-section Inv-loop μ-loop
-add-section c = search needs
+add-section c = omega arith
 
 loop-less : tie.Need-loop-less Inv-loop μ-loop
-loop-less c = search needs
+loop-less c = omega arith
 
 loop-again : tie.Need-loop-again Inv-loop μ-loop
-loop-again c = (search needs, sym (turn-on _ _ 4 _ (c .before .before .limits-in .ensures ∙ handed-on _ _ _ _ (c .before .before .before .before .before .section-start .ensures .0) (c .before .before .before .before .section-end .ensures)) (c .before .before .before .before .before .before .loop-test .taken) (c .if1 .left)) ∙ c .before .before .before .before .before .before .before .loop .inv .1)
+loop-again c = (omega arith, sym (turn-on _ _ 4 _ (c .before .before .limits-in .ensures ∙ handed-on _ _ _ _ (c .before .before .before .before .before .section-start .ensures .0) (c .before .before .before .before .section-end .ensures)) (c .before .before .before .before .before .before .loop-test .taken) (c .if1 .left)) ∙ c .before .before .before .before .before .before .before .loop .inv .1)
 
 returns-2 : tie.Need-returns-2 Inv-loop μ-loop
 unfolding limitCheck
