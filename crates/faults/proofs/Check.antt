@@ -1,9 +1,9 @@
 -- Laws of `judge`, `_then_` and `inTurn`, for the proofs of the functions that run them.
 use mathlib.Core.Path.{_≡_, refl, sym, ap, _∙_}
 use mathlib.Core.Bool.{Bool, true, false}
-use Prim.Native.Nat.{ℕ, suc, _+_, _-_, _<_, _≤_}
+use Prim.Native.Nat.{ℕ, zero, suc, _+_, _-_, _<_, _≤_}
 use native.Mathlib.Decide.{decLt, ℕ-discrete}
-use native.Mathlib.Nat.{sub-eq-zero-of-le}
+use native.Mathlib.Nat.{le-antisymm, sub-eq-zero-of-le}
 use native.Mathlib.Numerals.{add-one}
 use native.Mathlib.Omega.{arith}
 use borrow.Author.Tests.{lt-ltb, le-ltb, eq-eqb, ne-eqb}
@@ -72,6 +72,19 @@ then-kept a b h =
     elim (ℕ-discrete (a .number) 0) [
       | yes e ↦ (e, ap (λ (r : Refusal). r .number) (sym (then-next a b e)) ∙ h)
       | no e ↦ absurd (e (ap (λ (r : Refusal). r .number) (sym (then-found a b e)) ∙ h))
+    ]
+
+pub turn-kept : (check : ℕ → Refusal) (i n : ℕ) → inTurn check i n .number ≡ 0 → (k : ℕ) → i ≤ k → k < i + n → check k .number ≡ 0
+unfolding inTurn
+turn-kept check i zero h k low l = absurd (none-left low l)
+  where
+    none-left : i ≤ k → k < i + 0 → ⊥
+    none-left low l = omega arith
+turn-kept check i (suc n) h k low l =
+    let b : (check i .number ≡ 0) × (inTurn check (suc i) n .number ≡ 0) = then-kept _ _ h in
+    elim (decLt i k) [
+      | yes m ↦ turn-kept check (suc i) n (b .1) k m (omega arith)
+      | no m ↦ rw (le-antisymm {n = k} {m = i} (omega arith) low) (b .0)
     ]
 
 pub judge-passed : (number : ℕ) (at : ℕ → ℕ) (test : ℕ → Bool) (n : ℕ) → 0 < number → judge number at test n .number ≡ 0 → (k : ℕ) → k < n → test k ≡ true

@@ -10,10 +10,10 @@ use native.Mathlib.Omega.{arith}
 use native.Mathlib.Nat.{le-antisymm}
 use Rattle.lists.specs.Scan.{firstFailing}
 use Rattle.lists.proofs.Scan.{scan-passed, scan-failed}
-use Rattle.lists.proofs.Test.{clash}
+use Rattle.lists.proofs.Test.{clash, not-passed}
 use Rattle.faults.specs.declared.Refusal.{Refusal}
 use Rattle.faults.specs.Check.{refusal, none, judge, _then_, inTurn}
-use Rattle.faults.specs.Rule.{Rule, rule, Kept, FirstAt, AllKept, FirstBroken, Exact}
+use Rattle.faults.specs.Rule.{Rule, rule, FirstAt, AllKept, FirstBroken, Exact}
 use Rattle.faults.proofs.Check.{judge-broken, judge-kept, then-found, then-next, turn-found, turn-next, turn-end}
 
 -- an answer with what it rests on
@@ -100,6 +100,15 @@ judge-decided r at test n some rising means = elim (decLt first n) [ yes h ↦ f
 
     holds : n ≤ first → Decided (r ∷ []) (judge (r .number) at test n)
     holds h = passes (judge-kept (r .number) at test n first refl h) (λ p b. let w : Thing p = means p .0 b in passed (w .0) (omega arith) (w .3), tt)
+
+-- the same where the things are places, and the test tells apart what is broken and what isn't
+pub places-decided : (r : Rule) (test : ℕ → Bool) (n : ℕ) → 0 < r .number → ((p : ℕ) → r .Broken p → (p < n) × (test p ≡ true → ⊥))
+    → ((p : ℕ) → p < n → test p ≡ false → r .Broken p) → Decided (r ∷ []) (judge (r .number) (λ k. k) test n)
+places-decided r test n some sound complete =
+    judge-decided r (λ k. k) test n some (λ j k h l. h) (λ p. (
+      λ b. (p, sound p b .0, refl, not-passed (test p) (sound p b .1)),
+      λ w. subst (r .Broken) (sym (w .2)) (complete (w .0) (w .1) (w .3)),
+    ))
 
 -- checks one after the other, the second judged only where the first found nothing
 pub then-decided : (rs ss : List Rule) (a b : Refusal) → Decided rs a → (AllKept rs → Decided ss b) → Decided (rs ++ ss) (a then b)

@@ -1,17 +1,16 @@
 -- What a file that passes rules 1 and 2 is like: its sections follow one another, from the directory to its end.
-use mathlib.Core.Path.{_≡_, refl, sym, ap, _∙_}
-use mathlib.Core.Bool.{true, false}
+use mathlib.Core.Path.{_≡_, ap}
+use mathlib.Core.Bool.{true}
 use mathlib.Core.List.{List}
 use mathlib.Core.Logic.{⊎-elim}
-use Prim.Native.Nat.{ℕ, zero, suc, _+_, _-_, _<_, _≤_}
+use Prim.Native.Nat.{ℕ, zero, suc, _<_, _≤_}
 use native.Mathlib.Omega.{arith}
 use native.Mathlib.Decide.{decLt}
 use native.Mathlib.Nat.{le-antisymm}
-use lib.ListN.{length, take, drop, length-take, length-drop}
-use lib.Dec.{leb, ltb, eqb}
+use lib.ListN.{length, length-take, length-drop}
+use lib.Dec.{leb, eqb}
 use borrow.Author.Tests.{ltb-true, leb-true, eqb-true}
 use Rattle.lists.proofs.Test.{both, either}
-use Rattle.faults.specs.declared.Refusal.{Refusal}
 use Rattle.faults.specs.Check.{judge}
 use Rattle.faults.proofs.Check.{then-kept, judge-passed}
 use Rattle.layout.specs.Section.{sectionStart, sectionLength, sectionEnd, partOf}

@@ -1,11 +1,11 @@
 -- Laws of rule 3 for the functions that run it.
-use mathlib.Core.Path.{_≡_, refl, sym, ap, _∙_}
-use mathlib.Core.Bool.{Bool, true, false}
-use mathlib.Core.List.{List}
-use Prim.Native.Nat.{ℕ, zero, suc, _*_, _%_, _<_, _≤_}
+use mathlib.Core.Path.{_≡_}
+use mathlib.Core.Bool.{false}
+use Prim.Native.Nat.{ℕ, _*_, _%_, _<_, _≤_}
 use native.Mathlib.Omega.{arith}
 use lib.Dec.{leb}
 use borrow.Author.Tests.{lt-leb, le-leb, eq-eqb, ne-eqb}
+use Rattle.lists.proofs.Each.{each}
 use Rattle.layout.specs.Section.{recordSize}
 use Rattle.layout.specs.Length.{leastRecords, mostRecords, lengthAllowed}
 
@@ -17,15 +17,7 @@ pub record Sized (section : ℕ) : Type 0 where
   pub high : mostRecords section * recordSize section ≤ 32000
 
 pub sized : (section : ℕ) → section < 5 → Sized section
-sized zero h = record { some = omega arith; small = omega arith; low = omega arith; high = omega arith }
-sized (suc zero) h = record { some = omega arith; small = omega arith; low = omega arith; high = omega arith }
-sized (suc (suc zero)) h = record { some = omega arith; small = omega arith; low = omega arith; high = omega arith }
-sized (suc (suc (suc zero))) h = record { some = omega arith; small = omega arith; low = omega arith; high = omega arith }
-sized (suc (suc (suc (suc zero)))) h = record { some = omega arith; small = omega arith; low = omega arith; high = omega arith }
-sized (suc (suc (suc (suc (suc section))))) h = absurd (beyond section h)
-  where
-    beyond : (s : ℕ) → suc (suc (suc (suc (suc s)))) < 5 → ⊥
-    beyond s h = omega arith
+sized = each Sized 5 (omega arith)
 
 -- a length whose record size and least and most counts were read
 module _ (section n size : ℕ) (sizes : size ≡ recordSize section) where

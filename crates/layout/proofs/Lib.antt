@@ -3,3 +3,6 @@ pub mod Pair
 pub mod Laid
 pub mod Length
 pub mod Limit
+pub mod Outside
+pub mod Broken
+pub mod Passed

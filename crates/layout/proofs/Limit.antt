@@ -1,41 +1,53 @@
 -- Laws of rule 4: where its numbers stand, and one law for each answer of the functions that run it.
-use mathlib.Core.Path.{_≡_, refl, sym, ap, _∙_}
-use mathlib.Core.Bool.{Bool, true, false}
+use mathlib.Core.Path.{_≡_, sym}
+use mathlib.Core.Bool.{true, false}
 use mathlib.Core.List.{List}
-use Prim.Native.Nat.{ℕ, zero, suc, _+_, _-_, _*_, _/_, _%_, _^_, _<_, _≤_}
+use Prim.Native.Nat.{ℕ, _+_, _-_, _*_, _/_, _%_, _<_, _≤_}
 use native.Mathlib.Decide.{decLt}
 use native.Mathlib.Omega.{arith}
-use native.Mathlib.Nat.{add-mul, one-mul, mul-le-mul-right, div-mul-le-self, div-le-self}
+use native.Mathlib.Nat.{add-mul, one-mul, mul-le-mul-right, le-div-iff-mul-le}
 use lib.ListN.{length, take, drop}
 use lib.IntN.{natAbs}
 use borrow.Author.Tests.{lt-leb, le-leb}
 use Rattle.lists.specs.Scan.{firstFailing}
-use Rattle.faults.specs.declared.Refusal.{Refusal}
-use Rattle.faults.specs.Check.{refusal, none, judge}
+use Rattle.lists.proofs.Each.{each}
+use Rattle.faults.specs.Check.{refusal, none}
 use Rattle.faults.proofs.Check.{judge-broken, judge-kept}
 use Rattle.layout.specs.Number.{signedAt}
-use Rattle.layout.specs.Section.{elementSize, recordSize, sectionStart, sectionEnd}
+use Rattle.layout.specs.Section.{degree, elementSize, recordSize, sectionStart, sectionEnd}
 use Rattle.layout.specs.Limit.{sizeLimit, numberPlace, numberCount, numberAllowed, limitCheckIn, limitCheckOf}
 
 -- the sections with a limit have records that hold an element
 pub element-held : (section : ℕ) → section < 4 → elementSize ≤ recordSize section
-element-held zero h = omega arith
-element-held (suc zero) h = omega arith
-element-held (suc (suc zero)) h = omega arith
-element-held (suc (suc (suc zero))) h = omega arith
-element-held (suc (suc (suc (suc section)))) h = absurd (beyond section h)
-  where
-    beyond : (s : ℕ) → suc (suc (suc (suc s))) < 4 → ⊥
-    beyond s h = omega arith
+element-held = each (λ section. elementSize ≤ recordSize section) 4 (omega arith)
 
 module _ (size : ℕ) (held : elementSize ≤ size) where
   -- one record further
   next-record : (r s : ℕ) → r < s → r * size + size ≤ s * size
   next-record r s h = omega (arith, mul-le-mul-right {m = r + 1} {n = s} size (omega arith), add-mul r 1 size, one-mul size)
 
+  -- part k of record r is a number of the section, and each number is such a part
+  pub number-of : (r k : ℕ) → k < degree → numberPlace size (r * degree + k) ≡ r * size + (size - elementSize) + 2 * k
+  unfolding numberPlace
+  number-of r k h = rw (quotient, remainder)
+    where
+      quotient : (r * 2 + k) / 2 ≡ r
+      quotient = omega arith
+
+      remainder : (r * 2 + k) % 2 ≡ k
+      remainder = omega arith
+
+  pub number-counted : (n r k : ℕ) → k < degree → (r + 1) * size ≤ n → r * degree + k < numberCount size n
+  unfolding numberCount
+  number-counted n r k h l = omega (arith, le-div-iff-mul-le {k = size} {x = r + 1} {y = n} (omega arith) .1 l)
+
+  pub record-inside : (n m : ℕ) → m < numberCount size n → (m / degree + 1) * size ≤ n
+  unfolding numberCount
+  record-inside n m h = le-div-iff-mul-le {k = size} {x = m / 2 + 1} {y = n} (omega arith) .0 (omega arith)
+
   pub number-inside : (n m : ℕ) → m < numberCount size n → numberPlace size m + 2 ≤ n
-  unfolding numberPlace numberCount
-  number-inside n m h = omega (arith, next-record (m / 2) (n / size) (omega arith), div-mul-le-self n size)
+  unfolding numberPlace
+  number-inside n m h = omega (arith, record-inside n m h, add-mul (m / 2) 1 size, one-mul size)
 
   pub number-rising : (j k : ℕ) → j < k → numberPlace size j < numberPlace size k
   unfolding numberPlace

@@ -1,13 +1,17 @@
 -- Laws of signed 16-bit numbers.
 use mathlib.Core.Path.{_≡_, sym, ap, _∙_}
-use Prim.Native.Nat.{ℕ, _-_, _<_, _≤_}
+use mathlib.Core.List.{List}
+use Prim.Native.Nat.{ℕ, _+_, _-_, _<_, _≤_}
+use native.Mathlib.Nat.{add-assoc}
+use lib.ListN.{getD, take, drop}
+use lib.Seq.{getD-take, getD-drop}
 use native.Mathlib.Omega.{arith}
 use borrow.Author.Tests.{lt-ltb, le-ltb}
 use lib.IntN.{ℤ, pos, natAbs, subℕ, _-ℤ_}
 use mir.Syntax.{w64}
 use mir.Val.{SFits, toZ, ofZ}
 use mir.Facts.{toZ-pos, toZ-ofZ}
-use Rattle.layout.specs.Number.{toSigned}
+use Rattle.layout.specs.Number.{unsignedAt, toSigned, signedAt}
 
 pub signed-low : (u : ℕ) → u < 32768 → toSigned u ≡ pos u
 unfolding toSigned
@@ -39,3 +43,13 @@ read-high u h l = (same, rw (same, size-high u h l) (omega arith))
   where
     same : toZ w64 (ofZ w64 (toZ w64 u -ℤ pos 65536)) ≡ toSigned u
     same = toZ-ofZ (read-high-fits u h l) ∙ ap (λ (z : ℤ). z -ℤ pos 65536) (toZ-pos w64 {n = u} (omega arith)) ∙ sym (signed-high u h)
+
+-- a number of a part is that of the whole
+pub part-signed : (bytes : List ℕ) (start n j : ℕ) → j + 2 ≤ n → signedAt (take n (drop start bytes)) j ≡ signedAt bytes (start + j)
+part-signed bytes start n j h = ap toSigned same
+  where
+    entry : (k : ℕ) → k < n → getD (take n (drop start bytes)) k 0 ≡ getD bytes (start + k) 0
+    entry k l = getD-take n (drop start bytes) k 0 l ∙ getD-drop start bytes k 0
+
+    same : unsignedAt (take n (drop start bytes)) j ≡ unsignedAt bytes (start + j)
+    same = unfold unsignedAt in rw (entry j (omega arith), entry (j + 1) (omega arith), add-assoc)

@@ -1,6 +1,6 @@
 -- Laws of rules 1 and 2 for the functions that run them: one for each answer.
 use mathlib.Core.Path.{_≡_, refl, sym, ap, _∙_}
-use mathlib.Core.Bool.{Bool, true, false}
+use mathlib.Core.Bool.{true, false}
 use mathlib.Core.List.{List}
 use Prim.Native.Nat.{ℕ, zero, suc, _-_, _<_, _≤_}
 use native.Mathlib.Omega.{arith}
@@ -8,8 +8,7 @@ use lib.ListN.{length}
 use lib.Dec.{eqb}
 use borrow.Author.Tests.{lt-ltb, le-ltb, le-leb, lt-leb, eq-eqb, ne-eqb}
 use Rattle.lists.specs.Scan.{firstFailing}
-use Rattle.faults.specs.declared.Refusal.{Refusal}
-use Rattle.faults.specs.Check.{refusal, none, judge, _then_}
+use Rattle.faults.specs.Check.{refusal, none, judge}
 use Rattle.faults.proofs.Check.{judge-broken, judge-kept, once-broken, once-kept, then-found, then-next}
 use Rattle.layout.specs.Section.{sectionStart, sectionEnd}
 use Rattle.layout.specs.Directory.{sizeAllowed, expectedStart, pairAllowed, directoryCheck}

@@ -42,7 +42,7 @@ Allowed (suc (suc (suc (suc section)))) n = (1 ≤ n) × (n ≤ 32000)
 abbrev pub Broken3 : List ℕ → ℕ → Type 0
 Broken3 lengths p = (p < 5) × ¬ (Allowed p (getD lengths p 0))
 
--- p is where part k of the element of record r of a section stands, and the number there is larger than the limit
+-- p is where a part of the element of a record stands, in the section, and the number there is larger than the limit
 pub record Outside (file : List ℕ) (section size limit p : ℕ) : Type 0 where
   pub index : ℕ
   pub part : ℕ

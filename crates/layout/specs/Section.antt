@@ -1,7 +1,7 @@
 -- Document 01, "Table file": five sections, each given by a pair (offset, length) of the directory.
 use mathlib.Core.List.{List, [], _∷_}
-use Prim.Native.Nat.{ℕ, _+_, _-_, _*_}
-use lib.ListN.{getD, take, drop}
+use Prim.Native.Nat.{ℕ, _+_, _-_, _*_, _/_}
+use lib.ListN.{length, getD, take, drop}
 use Rattle.layout.specs.Number.{unsignedAt}
 
 -- the degree of the ring: an element is this many numbers
@@ -18,6 +18,14 @@ leafSize = 4 + elementSize
 -- the bytes of a record of each section: base (two elements: s, t and u, v), alphabet, input digits, leaves, words
 abbrev pub recordSize : ℕ → ℕ
 recordSize section = getD (elementSize ∷ elementSize ∷ elementSize ∷ leafSize ∷ 1 ∷ []) section 0
+
+-- how many records a section's part has
+abbrev pub recordCount : ℕ → List ℕ → ℕ
+recordCount section part = length part / recordSize section
+
+-- where the element of a record starts in the part: it ends the record
+abbrev pub elementStart : ℕ → ℕ → ℕ
+elementStart section index = index * recordSize section + (recordSize section - elementSize)
 
 -- where a section starts, its length and where it ends, as whole numbers
 abbrev pub sectionStart : List ℕ → ℕ → ℕ

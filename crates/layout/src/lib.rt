@@ -6,7 +6,7 @@ ghost use lib.ListN.{length};
 ghost use lib.IntN.{natAbs};
 ghost use Rattle.lists.specs.Scan.{firstFailing};
 ghost use Rattle.layout.specs.Number.{unsignedAt, signedAt};
-ghost use Rattle.layout.specs.Section.{recordSize, sectionStart, sectionLength, sectionEnd};
+ghost use Rattle.layout.specs.Section.{recordSize, recordCount, sectionStart, sectionLength, sectionEnd};
 ghost use Rattle.layout.specs.Directory.{expectedStart, pairAllowed, directoryCheck};
 ghost use Rattle.layout.specs.Length.{leastRecords, mostRecords, lengthAllowed, lengthCheck, sectionLengths};
 ghost use Rattle.layout.specs.Limit.{sizeLimit, numberPlace, numberCount, numberAllowed, limitCheckIn, limitCheck};
@@ -121,14 +121,14 @@ fn first_pair(file: &[u8]) -> usize
     requires { ⌜ 20 ≤ length (now file) ⌝ }
     ensures { λ r. ⌜ r ≡ firstFailing (pairAllowed (now (file .entry))) 0 5 ⌝ }
 {
-    let mut i = 0;
-    while i < 5 {
-        if !pair_allowed(file, i) {
-            return i;
+    let mut pair = 0;
+    while pair < 5 {
+        if !pair_allowed(file, pair) {
+            return pair;
         }
-        i += 1;
+        pair += 1;
     }
-    i
+    pair
 }
 
 // Rules 1 and 2: the file's size and its directory.
@@ -147,11 +147,11 @@ pub fn directory(file: &[u8]) -> Refusal
             place: 0,
         };
     }
-    let i = first_pair(file);
-    if i < 5 {
+    let pair = first_pair(file);
+    if pair < 5 {
         return Refusal {
             number: 2,
-            place: i,
+            place: pair,
         };
     }
     Refusal {
@@ -179,6 +179,14 @@ fn size_of_record(section: usize) -> usize
     ensures { λ r. ⌜ r ≡ recordSize section ⌝ }
 {
     RECORDS[section]
+}
+
+// How many records a section's part has.
+pub fn record_count(part: &[u8], section: usize) -> usize
+    requires { ⌜ section < 5 ⌝ }
+    ensures { λ r. ⌜ r ≡ recordCount section (now (part .entry)) ⌝ }
+{
+    part.len() / size_of_record(section)
 }
 
 fn least_records(section: usize) -> usize
@@ -213,15 +221,15 @@ fn length_allowed(section: usize, n: usize) -> bool
 pub fn lengths(given: [usize; 5]) -> Refusal
     ensures { λ r. ⌜ r ≡ lengthCheck given ⌝ }
 {
-    let mut i = 0;
-    while i < 5 {
-        if !length_allowed(i, given[i]) {
+    let mut section = 0;
+    while section < 5 {
+        if !length_allowed(section, given[section]) {
             return Refusal {
                 number: 3,
-                place: i,
+                place: section,
             };
         }
-        i += 1;
+        section += 1;
     }
     Refusal {
         number: 0,
@@ -284,15 +292,15 @@ pub fn limits(file: &[u8]) -> Refusal
     requires { ⌜ directoryCheck (now file) .number ≡ 0 ⌝ }
     ensures { λ r. ⌜ r ≡ limitCheck (now (file .entry)) ⌝ }
 {
-    let mut i = 0;
-    while i < 4 {
-        let start = section_start(file, i);
-        let end = section_end(file, i);
-        let found = limits_in(&file[start..end], start, i);
+    let mut section = 0;
+    while section < 4 {
+        let start = section_start(file, section);
+        let end = section_end(file, section);
+        let found = limits_in(&file[start..end], start, section);
         if found.number != 0 {
             return found;
         }
-        i += 1;
+        section += 1;
     }
     Refusal {
         number: 0,

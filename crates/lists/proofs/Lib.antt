@@ -1,4 +1,5 @@
 pub mod Cons
+pub mod Each
 pub mod Span
 pub mod Overwrite
 pub mod Scan

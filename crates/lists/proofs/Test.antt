@@ -7,6 +7,11 @@ use mathlib.Core.Logic.{_⊎_, inl, inr}
 pub clash {ℓ} : {X : Type ℓ} {b : Bool} → b ≡ true → b ≡ false → X
 clash p q = absurd (true≢false (sym p ∙ q))
 
+-- a test that doesn't pass fails
+pub not-passed : (b : Bool) → (b ≡ true → ⊥) → b ≡ false
+not-passed true h = absurd (h refl)
+not-passed false h = refl
+
 pub both : (a b : Bool) → (a && b) ≡ true → (a ≡ true) × (b ≡ true)
 both true b h = (refl, h)
 both false b h = clash h refl

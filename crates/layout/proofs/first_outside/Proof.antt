@@ -4,7 +4,6 @@ use Rattle.layout.proofs.Limit.{number-inside, number-outside, number-w
 use Rattle.layout.specs.Limit.{numberAllowed}
 use Rattle.lists.proofs.Scan.{scan-on, scan-here, scan-out}
 use Rattle.lists.specs.Scan.{firstFailing}
-use borrow.Author.Needs.{needs}
 use native.Mathlib.Omega.{arith}
 use mathlib.Core.Path.{_≡_, sym, _∙_}
 use Prim.Native.Nat.{_≤_, _-_}
@@ -20,7 +19,7 @@ abbrev μ-loop : tie.MeasureT-loop
 μ-loop part size limit count m₀ m = count - m
 
 loop-holds : tie.Need-loop-holds Inv-loop μ-loop
-loop-holds c = (search needs, simp sub-zero)
+loop-holds c = (omega arith, simp sub-zero)
 
 number-place-requires : tie.Need-number-place-requires Inv-loop μ-loop
 number-place-requires c κs = omega (arith, number-inside (c .before .before .before .args .size) (c .before .before .before .pre .0) (length (now (c .before .before .before .args .part))) (c .before .loop .m) (omega arith))
@@ -32,13 +31,13 @@ returns : tie.Need-returns Inv-loop μ-loop
 returns c = sym (scan-here _ _ (c .before .before .before .before .before .before .args .count) (c .before .before .before .loop-test .taken) (number-outside _ _ _ _ _ _ (c .before .before .number-place .ensures) (c .before .magnitude .ensures) (c .if1 .taken))) ∙ c .before .before .before .before .loop .inv .1
 
 add-m : tie.Need-add-m Inv-loop μ-loop
-add-m c = search needs
+add-m c = omega arith
 
 loop-less : tie.Need-loop-less Inv-loop μ-loop
-loop-less c = search needs
+loop-less c = omega arith
 
 loop-again : tie.Need-loop-again Inv-loop μ-loop
-loop-again c = (search needs, sym (scan-on _ _ (c .before .before .before .before .before .before .args .count) (c .before .before .before .loop-test .taken) (number-within _ _ _ _ _ _ (c .before .before .number-place .ensures) (c .before .magnitude .ensures) (c .if1 .left))) ∙ c .before .before .before .before .loop .inv .1)
+loop-again c = (omega arith, sym (scan-on _ _ (c .before .before .before .before .before .before .args .count) (c .before .before .before .loop-test .taken) (number-within _ _ _ _ _ _ (c .before .before .number-place .ensures) (c .before .magnitude .ensures) (c .if1 .left))) ∙ c .before .before .before .before .loop .inv .1)
 
 returns-2 : tie.Need-returns-2 Inv-loop μ-loop
 returns-2 c = sym (scan-out _ _ (c .before .before .before .args .count) (c .loop-test .left)) ∙ c .before .loop .inv .1

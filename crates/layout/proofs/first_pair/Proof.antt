@@ -1,7 +1,7 @@
+use native.Mathlib.Omega.{arith}
 use Rattle.layout.specs.Directory.{pairAllowed}
 use Rattle.lists.proofs.Scan.{scan-on, scan-here, scan-out}
 use Rattle.lists.specs.Scan.{firstFailing}
-use borrow.Author.Needs.{needs}
 use borrow.Author.Tests.{not-true, not-false}
 use mathlib.Core.Path.{_≡_, refl, sym, _∙_}
 use Prim.Native.Nat.{_≤_, _-_}
@@ -9,28 +9,28 @@ use Rattle.layout.proofs.first_pair.Statement.{statement}
 use Rattle.layout.proofs.first_pair.Tie as tie
 
 abbrev Inv-loop : tie.InvT-loop
-Inv-loop file i₀ i = (i ≤ 5) × (firstFailing (pairAllowed file) i (5 - i) ≡ firstFailing (pairAllowed file) 0 5)
+Inv-loop file pair₀ pair = (pair ≤ 5) × (firstFailing (pairAllowed file) pair (5 - pair) ≡ firstFailing (pairAllowed file) 0 5)
 
 abbrev μ-loop : tie.MeasureT-loop
-μ-loop file i₀ i = 5 - i
+μ-loop file pair₀ pair = 5 - pair
 
 loop-holds : tie.Need-loop-holds Inv-loop μ-loop
-loop-holds c = (search needs, refl)
+loop-holds c = (omega arith, refl)
 
 pair-allowed-requires : tie.Need-pair-allowed-requires Inv-loop μ-loop
-pair-allowed-requires c κs = search needs
+pair-allowed-requires c κs = omega arith
 
 returns : tie.Need-returns Inv-loop μ-loop
 returns c = sym (scan-here _ _ 5 (c .before .before .loop-test .taken) (sym (c .before .pair-allowed .ensures) ∙ not-true _ (c .if1 .taken))) ∙ c .before .before .before .loop .inv .1
 
-add-i : tie.Need-add-i Inv-loop μ-loop
-add-i c = search needs
+add-pair : tie.Need-add-pair Inv-loop μ-loop
+add-pair c = omega arith
 
 loop-less : tie.Need-loop-less Inv-loop μ-loop
-loop-less c = search needs
+loop-less c = omega arith
 
 loop-again : tie.Need-loop-again Inv-loop μ-loop
-loop-again c = (search needs, sym (scan-on _ _ 5 (c .before .before .loop-test .taken) (sym (c .before .pair-allowed .ensures) ∙ not-false _ (c .if1 .left))) ∙ c .before .before .before .loop .inv .1)
+loop-again c = (omega arith, sym (scan-on _ _ 5 (c .before .before .loop-test .taken) (sym (c .before .pair-allowed .ensures) ∙ not-false _ (c .if1 .left))) ∙ c .before .before .before .loop .inv .1)
 
 returns-2 : tie.Need-returns-2 Inv-loop μ-loop
 returns-2 c = sym (scan-out _ _ 5 (c .loop-test .left)) ∙ c .before .loop .inv .1
@@ -44,7 +44,7 @@ first-pair-spec =
     loop-holds
     pair-allowed-requires
     returns
-    add-i
+    add-pair
     loop-less
     loop-again
     returns-2)

@@ -1,8 +1,8 @@
+use native.Mathlib.Omega.{arith}
 use Rattle.layout.specs.Length.{sectionAllowed, lengthCheck}
 use Rattle.faults.proofs.Check.{judge-here, judge-out}
 use Rattle.lists.proofs.Scan.{scan-on}
 use Rattle.lists.specs.Scan.{firstFailing}
-use borrow.Author.Needs.{needs}
 use borrow.Author.Tests.{not-true, not-false}
 use mathlib.Core.Path.{_≡_, refl, sym, _∙_}
 use Prim.Native.Nat.{_≤_, _-_}
@@ -10,35 +10,35 @@ use Rattle.layout.proofs.lengths.Statement.{statement}
 use Rattle.layout.proofs.lengths.Tie as tie
 
 abbrev Inv-loop : tie.InvT-loop
-Inv-loop given i₀ i = (i ≤ 5) × (firstFailing (sectionAllowed given) i (5 - i) ≡ firstFailing (sectionAllowed given) 0 5)
+Inv-loop given section₀ section = (section ≤ 5) × (firstFailing (sectionAllowed given) section (5 - section) ≡ firstFailing (sectionAllowed given) 0 5)
 
 abbrev μ-loop : tie.MeasureT-loop
-μ-loop given i₀ i = 5 - i
+μ-loop given section₀ section = 5 - section
 
 loop-holds : tie.Need-loop-holds Inv-loop μ-loop
-loop-holds c = (search needs, refl)
+loop-holds c = (omega arith, refl)
 
 mul-length-allowed : tie.Need-mul-length-allowed Inv-loop μ-loop
-mul-length-allowed c = search needs
+mul-length-allowed c = omega arith
 
 array-read-length-allowed : tie.Need-array-read-length-allowed Inv-loop μ-loop
-array-read-length-allowed c = search needs
+array-read-length-allowed c = omega arith
 
 length-allowed-requires : tie.Need-length-allowed-requires Inv-loop μ-loop
-length-allowed-requires c κs = search needs
+length-allowed-requires c κs = omega arith
 
 returns : tie.Need-returns Inv-loop μ-loop
 unfolding lengthCheck
 returns c = judge-here 3 (λ k. k) _ 5 _ (c .before .before .before .loop .inv .1) (c .before .before .loop-test .taken) (sym (c .before .length-allowed .ensures) ∙ not-true _ (c .if1 .taken))
 
-add-i : tie.Need-add-i Inv-loop μ-loop
-add-i c = search needs
+add-section : tie.Need-add-section Inv-loop μ-loop
+add-section c = omega arith
 
 loop-less : tie.Need-loop-less Inv-loop μ-loop
-loop-less c = search needs
+loop-less c = omega arith
 
 loop-again : tie.Need-loop-again Inv-loop μ-loop
-loop-again c = (search needs, sym (scan-on _ _ 5 (c .before .before .loop-test .taken) (sym (c .before .length-allowed .ensures) ∙ not-false _ (c .if1 .left))) ∙ c .before .before .before .loop .inv .1)
+loop-again c = (omega arith, sym (scan-on _ _ 5 (c .before .before .loop-test .taken) (sym (c .before .length-allowed .ensures) ∙ not-false _ (c .if1 .left))) ∙ c .before .before .before .loop .inv .1)
 
 returns-2 : tie.Need-returns-2 Inv-loop μ-loop
 unfolding lengthCheck
@@ -55,7 +55,7 @@ lengths-spec =
     array-read-length-allowed
     length-allowed-requires
     returns
-    add-i
+    add-section
     loop-less
     loop-again
     returns-2)
