@@ -2,10 +2,10 @@
 use mathlib.Core.Path.{_≡_, refl, sym, ap, _∙_}
 use mathlib.Core.Logic.{_≢_}
 use mathlib.Core.List.{List, [], _∷_, _++_}
-use Prim.Native.Nat.{ℕ, zero, suc, _+_, _-_, _*_, _/_, _%_, _<_, _≤_}
+use Prim.Native.Nat.{ℕ, zero, suc, _+_, _-_, _*_, _/_, _%_, _^_, _<_, _≤_}
 use native.Mathlib.Omega.{arith}
 use native.Mathlib.Decide.{decLt}
-use native.Mathlib.Nat.{not-suc-le-zero, le-refl}
+use native.Mathlib.Nat.{not-suc-le-zero, le-refl, pow-suc}
 use lib.ListN.{length, getD, length-append, List·getD-append}
 use borrow.Author.Tests.{lt-ltb, le-ltb}
 use Rattle.text.specs.Decimal.{digitByte, decimalWithin, decimal, readOn}
@@ -90,3 +90,20 @@ first-within (suc fuel) n h k =
 pub no-needless-zero : (n : ℕ) → 0 < n → getD (decimal n) 0 0 ≢ 48
 unfolding decimal
 no-needless-zero n h = first-within n n h (le-refl n)
+
+one-digit : (fuel k n : ℕ) → n < 10 → length (decimalWithin fuel n) ≤ suc k
+one-digit fuel k n h = rw (within-one fuel n h) (omega arith)
+
+short-within : (fuel k n : ℕ) → n ≤ fuel → n < 10 ^ suc k → length (decimalWithin fuel n) ≤ suc k
+short-within zero k n f h = one-digit zero k n (omega arith)
+short-within (suc fuel) zero n f h = one-digit (suc fuel) zero n h
+short-within (suc fuel) (suc k) n f h =
+    elim (decLt n 10) [
+      | yes l ↦ one-digit (suc fuel) (suc k) n l
+      | no m ↦ rw (within-more fuel n (omega arith)) (omega (arith, length-append (decimalWithin fuel (n / 10)) (digitByte (n % 10) ∷ []), short-within fuel k (n / 10) (omega arith) (omega (arith, pow-suc 10 (suc k)))))
+    ]
+
+-- a number below ten to the power k has at most k digits
+pub decimal-short : (k n : ℕ) → n < 10 ^ suc k → length (decimal n) ≤ suc k
+unfolding decimal
+decimal-short k n l = short-within n k n (le-refl n) l

@@ -1,5 +1,6 @@
 // Text written into a lent buffer.
 ghost use mathlib.Core.Path.{_≡_};
+ghost use mathlib.Core.List.{_++_};
 ghost use Prim.Native.Nat.{_+_, _≤_};
 ghost use lib.ListN.{length};
 ghost use Rattle.lists.specs.Overwrite.{overwrite};
@@ -30,4 +31,13 @@ pub fn put_decimal(out: &mut [u8], at: usize, n: usize) -> usize
     let end = put_decimal(out, at, n / 10);
     out[end] = 48 + (n % 10) as u8;
     end + 1
+}
+
+// Writes a word and then a number from a place on; the next place.
+pub fn put_item(out: &mut [u8], at: usize, word: &[u8], n: usize) -> usize
+    requires { ⌜ at + length (now word ++ decimal n) ≤ length (now out) ⌝ }
+    ensures { λ r. ⌜ (r ≡ at + length (now (word .entry) ++ decimal n)) × (now (out .exit) ≡ overwrite (now (out .entry)) at (now (word .entry) ++ decimal n)) ⌝ }
+{
+    let number = put(out, at, word);
+    put_decimal(out, number, n)
 }

@@ -1,0 +1,94 @@
+use Rattle.table.proofs.Room.{line-short, line-long}
+use Rattle.table.specs.Line.{lineOf}
+use Rattle.table.specs.Answer.{outcomeOf}
+use Rattle.table.specs.declared.Checked.the-variants.{Refused}
+use Rattle.table.specs.declared.Checked.{Checked}
+use mathlib.Core.Path.{_≡_, refl, ap, _∙_}
+use borrow.Author.Needs.{needs}
+use Rattle.table.proofs.line.Statement.{statement}
+use Rattle.table.proofs.line.Tie as tie
+
+returns : tie.Need-returns
+returns c = line-short (outcomeOf (c .before .before .args .answer)) (c .before .before .args .out .now) (c .if1 .taken)
+
+enum-known-answer : tie.Need-enum-known-answer
+enum-known-answer c = search needs
+
+accepted-line-requires : tie.Need-accepted-line-requires
+accepted-line-requires c κs = search needs
+
+enum-known-answer-2 : tie.Need-enum-known-answer-2
+enum-known-answer-2 c = search needs
+
+enum-known-fault : tie.Need-enum-known-fault
+enum-known-fault c = search needs
+
+refused-line-requires : tie.Need-refused-line-requires
+refused-line-requires c κs = search needs
+
+enum-known-fault-2 : tie.Need-enum-known-fault-2
+enum-known-fault-2 c = search needs
+
+refused-line-requires-2 : tie.Need-refused-line-requires-2
+refused-line-requires-2 c κs = search needs
+
+enum-known-fault-3 : tie.Need-enum-known-fault-3
+enum-known-fault-3 c = search needs
+
+refused-line-requires-3 : tie.Need-refused-line-requires-3
+refused-line-requires-3 c κs = search needs
+
+same-length : tie.Need-same-length
+same-length c = search needs
+
+returns-2 : tie.Need-returns-2
+unfolding lineOf
+returns-2 c =
+    line-long (outcomeOf (c .before .before .before .before .before .before .before .before .before .args .answer)) (c .before .before .before .before .before .before .before .before .before .args .out .now) _ _ _ (c .before .before .before .before .before .before .before .if1 .left) (ap (λ a. lineOf (outcomeOf a)) (c .before .before .before .before .before .answer .given .1)) (c .before .before .accepted-line .ensures .0) (c .before .before .accepted-line .ensures .1)
+
+same-length-2 : tie.Need-same-length-2
+same-length-2 c = search needs
+
+returns-3 : tie.Need-returns-3
+unfolding lineOf
+returns-3 c =
+    line-long (outcomeOf (c .before .before .before .before .before .before .before .before .before .before .before .before .args .answer)) (c .before .before .before .before .before .before .before .before .before .before .before .before .args .out .now) _ _ _ (c .before .before .before .before .before .before .before .before .before .before .if1 .left) (ap (λ a. lineOf (outcomeOf a)) (c .before .before .before .before .before .before .before .before .answer2 .given .1) ∙ ap (λ f. lineOf (outcomeOf (Refused f))) (c .before .before .before .before .before .fault .given .1)) (c .before .before .refused-line .ensures .0) (c .before .before .refused-line .ensures .1)
+
+same-length-3 : tie.Need-same-length-3
+same-length-3 c = search needs
+
+returns-4 : tie.Need-returns-4
+unfolding lineOf
+returns-4 c =
+    line-long (outcomeOf (c .before .before .before .before .before .before .before .before .before .before .before .before .args .answer)) (c .before .before .before .before .before .before .before .before .before .before .before .before .args .out .now) _ _ _ (c .before .before .before .before .before .before .before .before .before .before .if1 .left) (ap (λ a. lineOf (outcomeOf a)) (c .before .before .before .before .before .before .before .before .answer2 .given .1) ∙ ap (λ f. lineOf (outcomeOf (Refused f))) (c .before .before .before .before .before .fault2 .given .1)) (c .before .before .refused-line2 .ensures .0) (c .before .before .refused-line2 .ensures .1)
+
+same-length-4 : tie.Need-same-length-4
+same-length-4 c = search needs
+
+returns-5 : tie.Need-returns-5
+unfolding lineOf
+returns-5 c =
+    line-long (outcomeOf (c .before .before .before .before .before .before .before .before .before .before .before .before .args .answer)) (c .before .before .before .before .before .before .before .before .before .before .before .before .args .out .now) _ _ _ (c .before .before .before .before .before .before .before .before .before .before .if1 .left) (ap (λ a. lineOf (outcomeOf a)) (c .before .before .before .before .before .before .before .before .answer2 .given .1) ∙ ap (λ f. lineOf (outcomeOf (Refused f))) (c .before .before .before .before .before .fault3 .given .1)) (c .before .before .refused-line3 .ensures .0) (c .before .before .refused-line3 .ensures .1)
+
+pub line-spec : {M : Type 1} → statement M
+line-spec =
+    tie.close
+    (tie.spec
+    returns
+    enum-known-answer
+    accepted-line-requires
+    enum-known-answer-2
+    enum-known-fault
+    refused-line-requires
+    enum-known-fault-2
+    refused-line-requires-2
+    enum-known-fault-3
+    refused-line-requires-3
+    same-length
+    returns-2
+    same-length-2
+    returns-3
+    same-length-3
+    returns-4
+    same-length-4
+    returns-5)

@@ -1,0 +1,64 @@
+use Rattle.table.proofs.Room.{item-room}
+use Rattle.table.specs.Line.{refusedLine, refusedWord, placeWord, lineFeed}
+use Rattle.text.specs.Decimal.{decimal}
+use Rattle.lists.proofs.Overwrite.{Written, written-none, written-more}
+use Rattle.lists.specs.Overwrite.{overwrite}
+use lib.ListN.{length, length-append}
+use native.Mathlib.Omega.{arith}
+use Prim.Native.Nat.{ℕ, _+_}
+use mathlib.Core.List.{List, [], append-assoc, _++_}
+use mathlib.Core.Path.{_≡_, refl, sym, ap, _∙_}
+use borrow.Author.Needs.{needs}
+use Rattle.table.proofs.refused_line.Statement.{statement}
+use Rattle.table.proofs.refused_line.Tie as tie
+
+slice-aggregate-put-item : tie.Need-slice-aggregate-put-item
+slice-aggregate-put-item c = search needs
+
+put-item-requires : tie.Need-put-item-requires
+unfolding refusedWord
+put-item-requires c κs = omega (arith, item-room refusedWord (c .before .before .before .args .number) (c .before .before .before .fits .number))
+
+slice-aggregate-put-item-2 : tie.Need-slice-aggregate-put-item-2
+slice-aggregate-put-item-2 c = search needs
+
+put-item-requires-2 : tie.Need-put-item-requires-2
+unfolding refusedWord placeWord
+put-item-requires-2 c κs =
+    omega (arith, item-room refusedWord (c .before .before .before .before .before .before .before .before .args .number) (c .before .before .before .before .before .before .before .before .fits .number), item-room placeWord (c .before .before .before .before .before .before .before .before .args .place) (c .before .before .before .before .before .before .before .before .fits .place))
+
+slice-aggregate-put : tie.Need-slice-aggregate-put
+slice-aggregate-put c = search needs
+
+put-requires : tie.Need-put-requires
+unfolding refusedWord placeWord
+put-requires c κs =
+    omega (arith, item-room refusedWord (c .before .before .before .before .before .before .before .before .before .before .before .before .before .args .number) (c .before .before .before .before .before .before .before .before .before .before .before .before .before .fits .number), item-room placeWord (c .before .before .before .before .before .before .before .before .before .before .before .before .before .args .place) (c .before .before .before .before .before .before .before .before .before .before .before .before .before .fits .place))
+
+same-length : tie.Need-same-length
+same-length c = search needs
+
+returns : tie.Need-returns
+unfolding refusedWord placeWord refusedLine
+returns c =
+    let s = c .before .before .before .before .before .before .before .before .before .before .before .before .before .before .before .before .args .out .now in
+    let first : List ℕ = refusedWord ++ decimal (c .before .before .before .before .before .before .before .before .before .before .before .before .before .before .before .before .args .number) in
+    let second : List ℕ = placeWord ++ decimal (c .before .before .before .before .before .before .before .before .before .before .before .before .before .before .before .before .args .place) in
+    let one = written-more s s _ [] first 0 _ (written-none s) (c .before .before .before .before .before .before .before .before .before .before .before .before .put-item .ensures .1) (c .before .before .before .before .before .before .before .before .before .before .before .before .put-item .ensures .0) (omega (arith, item-room refusedWord (c .before .before .before .before .before .before .before .before .before .before .before .before .before .before .before .before .args .number) (c .before .before .before .before .before .before .before .before .before .before .before .before .before .before .before .before .fits .number))) in
+    let two = written-more s _ _ first second _ _ one (c .before .before .before .before .before .before .before .put-item2 .ensures .1) (c .before .before .before .before .before .before .before .put-item2 .ensures .0) (omega (arith, item-room refusedWord (c .before .before .before .before .before .before .before .before .before .before .before .before .before .before .before .before .args .number) (c .before .before .before .before .before .before .before .before .before .before .before .before .before .before .before .before .fits .number), item-room placeWord (c .before .before .before .before .before .before .before .before .before .before .before .before .before .before .before .before .args .place) (c .before .before .before .before .before .before .before .before .before .before .before .before .before .before .before .before .fits .place))) in
+    let all = written-more s _ _ (first ++ second) lineFeed _ _ two (c .before .before .put .ensures .1) (c .before .before .put .ensures .0) (omega (arith, item-room refusedWord (c .before .before .before .before .before .before .before .before .before .before .before .before .before .before .before .before .args .number) (c .before .before .before .before .before .before .before .before .before .before .before .before .before .before .before .before .fits .number), item-room placeWord (c .before .before .before .before .before .before .before .before .before .before .before .before .before .before .before .before .args .place) (c .before .before .before .before .before .before .before .before .before .before .before .before .before .before .before .before .fits .place), length-append first second)) in
+    let line : (first ++ second) ++ lineFeed ≡ refusedLine (c .before .before .before .before .before .before .before .before .before .before .before .before .before .before .before .before .args .number) (c .before .before .before .before .before .before .before .before .before .before .before .before .before .before .before .before .args .place) = simp append-assoc in
+    (all .place ∙ ap length line, all .entries ∙ ap (overwrite s 0) line)
+
+pub refused-line-spec : {M : Type 1} → statement M
+refused-line-spec =
+    tie.close
+    (tie.spec
+    slice-aggregate-put-item
+    put-item-requires
+    slice-aggregate-put-item-2
+    put-item-requires-2
+    slice-aggregate-put
+    put-requires
+    same-length
+    returns)
