@@ -1,1 +1,4 @@
 pub mod Record
+pub mod Index
+pub mod Base
+pub mod Allowed

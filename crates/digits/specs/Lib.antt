@@ -1,1 +1,4 @@
 pub mod Record
+pub mod Base
+pub mod Digits
+pub mod Broken
