@@ -15,8 +15,8 @@ use Rattle.ring.specs.Matrix.{matrixOf, RowsWithin}
 use Rattle.ring.specs.Base.{BaseLimits, perfectSquare, discriminant, expanding}
 use Rattle.ring.proofs.Parts.{within-part, within-two, s-term, t-term, u-term, v-term}
 use Rattle.ring.proofs.Base.{rows-of-two}
-use Rattle.digits.specs.Record.{recordAt, RecordsWithin}
-use Rattle.digits.specs.Base.{omegaOf, betaOf, baseMatrix, sOf, tOf, uOf, vOf, discriminantAllowed, expandingBase, baseCheck}
+use Rattle.digits.specs.Record.{recordAt}
+use Rattle.digits.specs.Base.{BasePart, omegaOf, betaOf, baseMatrix, sOf, tOf, uOf, vOf, discriminantAllowed, expandingBase, baseCheck}
 use Rattle.digits.proofs.Record.{element-two}
 
 -- degree two: ω² is s·ω + t and β is u + v·ω
@@ -30,9 +30,9 @@ rows-within n x y h k zero = h
 rows-within n x y h k (suc zero) = k
 rows-within n x y h k (suc (suc i)) = λ _. zero-le
 
-module _ (base : List ℕ) (long : length base ≡ 8) (within : RecordsWithin 64 base) where
+module _ (base : List ℕ) (is : BasePart base) where
   number-within : (k i : ℕ) → k < 2 → natAbs (part (recordAt base k) i) ≤ 64
-  number-within k i h = within-part 64 (recordAt base k) (within k (omega arith)) i
+  number-within k i h = within-part 64 (recordAt base k) (is .small k (omega (arith, is .long))) i
 
   pub base-limits : BaseLimits (sOf base) (tOf base) (uOf base) (vOf base)
   base-limits =

@@ -1,15 +1,24 @@
 -- The base section (document 01, "Table file", section 0) and rules 5 and 6. Its first element is ω to the power of the
 -- degree, highest power first: at degree two s and t. Its second is β, lowest power first: u and v.
+use mathlib.Core.Path.{_≡_}
 use mathlib.Core.Bool.{Bool, not}
 use mathlib.Core.List.{List, reverse}
-use Prim.Native.Nat.{ℕ}
+use Prim.Native.Nat.{ℕ, _*_}
+use lib.ListN.{length}
 use lib.IntN.{ℤ}
 use Rattle.faults.specs.declared.Refusal.{Refusal}
 use Rattle.faults.specs.Check.{judge, _then_}
 use Rattle.layout.specs.Number.{signedAt}
+use Rattle.layout.specs.Section.{degree}
+use Rattle.layout.specs.Limit.{sizeLimit}
 use Rattle.ring.specs.Matrix.{matrixOf}
 use Rattle.ring.specs.Base.{expanding, perfectSquare, discriminant}
-use Rattle.digits.specs.Record.{recordAt}
+use Rattle.digits.specs.Record.{recordAt, RecordsWithin}
+
+-- what rules 3 and 4 leave of it: its length, and numbers within their size limits
+pub record BasePart (base : List ℕ) : Type 0 where
+  pub long : length base ≡ 4 * degree
+  pub small : RecordsWithin (sizeLimit 0) base
 
 -- both lowest power first, as the ring takes them
 unfoldable pub omegaOf : List ℕ → List ℤ

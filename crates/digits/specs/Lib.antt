@@ -2,3 +2,4 @@ pub mod Record
 pub mod Base
 pub mod Digits
 pub mod Broken
+pub mod Formed

@@ -1,11 +1,11 @@
 // The digits of a table: base, alphabet and input digits, rules 5 to 8 of document 01. Each section is given as its bytes, of a
 // file or not.
 ghost use mathlib.Core.Path.{_≡_};
-ghost use Prim.Native.Nat.{_+_, _≤_, _<_, _^_};
+ghost use Prim.Native.Nat.{_+_, _≤_, _<_};
 ghost use lib.ListN.{length};
 ghost use Rattle.ring.specs.Element.{Within};
-ghost use Rattle.digits.specs.Record.{elementAt, recordAt, recordCount, RecordsWithin, indexIn};
-ghost use Rattle.digits.specs.Base.{baseMatrix, baseCheck};
+ghost use Rattle.digits.specs.Record.{elementAt, recordAt, recordCount, indexIn};
+ghost use Rattle.digits.specs.Base.{BasePart, baseMatrix, baseCheck};
 ghost use Rattle.digits.specs.Digits.{recordAllowed, alphabetCheck, sumIndex, sumsListed, allSumsListed, isSum, inputAllowed, inputCheck, digitCheck};
 use faults::Refusal;
 
@@ -51,7 +51,7 @@ pub fn find(part: &[u8], n: usize, x: [i64; 2]) -> usize
 
 // Multiplication by the base.
 pub fn base_of(base: &[u8]) -> [[i64; 2]; 2]
-    requires { ⌜ (length (now base) ≡ 8) × RecordsWithin 64 (now base) ⌝ }
+    requires { ⌜ BasePart (now base) ⌝ }
     ensures { λ r. ⌜ r ≡ baseMatrix (now (base .entry)) ⌝ }
 {
     ring::base_matrix(
@@ -64,7 +64,7 @@ pub fn base_of(base: &[u8]) -> [[i64; 2]; 2]
 
 // Rules 5 and 6.
 fn base_rules(base: &[u8]) -> Refusal
-    requires { ⌜ (length (now base) ≡ 8) × RecordsWithin 64 (now base) ⌝ }
+    requires { ⌜ BasePart (now base) ⌝ }
     ensures { λ r. ⌜ r ≡ baseCheck (now (base .entry)) ⌝ }
 {
     let s = layout::signed(base, 0);
@@ -214,7 +214,7 @@ fn input_rule(alphabet: &[u8], inputs: &[u8]) -> Refusal
 
 // Rules 5 to 8.
 pub fn digits(base: &[u8], alphabet: &[u8], inputs: &[u8]) -> Refusal
-    requires { ⌜ (length (now base) ≡ 8) × RecordsWithin 64 (now base) ⌝ }
+    requires { ⌜ BasePart (now base) ⌝ }
     ensures { λ r. ⌜ r ≡ digitCheck (now (base .entry)) (now (alphabet .entry)) (now (inputs .entry)) ⌝ }
 {
     let first = base_rules(base);

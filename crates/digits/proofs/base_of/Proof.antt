@@ -18,7 +18,7 @@ signed-requires-4 : tie.Need-signed-requires-4
 signed-requires-4 c κs = search needs
 
 base-matrix-requires : tie.Need-base-matrix-requires
-base-matrix-requires c κs = rw (passed-on _ _ (c .before .before .before .signed .ensures), passed-on _ _ (c .before .before .signed2 .ensures), passed-on _ _ (c .before .signed3 .ensures), passed-on _ _ (c .signed4 .ensures)) (base-limits _ (c .before .before .before .before .before .pre .0) (c .before .before .before .before .before .pre .1))
+base-matrix-requires c κs = rw (passed-on _ _ (c .before .before .before .signed .ensures), passed-on _ _ (c .before .before .signed2 .ensures), passed-on _ _ (c .before .signed3 .ensures), passed-on _ _ (c .signed4 .ensures)) (base-limits _ (c .before .before .before .before .before .pre))
 
 returns : tie.Need-returns
 returns c = c .base-matrix .ensures ∙ rw (passed-on _ _ (c .before .before .before .before .signed .ensures), passed-on _ _ (c .before .before .before .signed2 .ensures), passed-on _ _ (c .before .before .signed3 .ensures), passed-on _ _ (c .before .signed4 .ensures)) (sym (matrix-of-two _))
