@@ -6,15 +6,15 @@ use Prim.Native.Nat.{ℕ, zero, suc, _+_, _-_, _<_, _≤_}
 use native.Mathlib.Nat.{le-antisymm}
 use native.Mathlib.Omega.{arith}
 use lib.IntN.{ℤ}
-use lib.Dec.{eqb, ltb}
+use lib.Dec.{eqb}
 use borrow.Author.Tests.{eq-eqb, ne-eqb, lt-ltb, le-ltb}
 use Rattle.lists.specs.Scan.{firstFailing}
 use Rattle.lists.proofs.Scan.{scan-on}
 use Rattle.faults.specs.Check.{refusal, none, judge}
 use Rattle.faults.proofs.Check.{judge-here, judge-out}
 use Rattle.layout.specs.Section.{degree}
-use Rattle.ring.specs.Element.{zeros, plus, minus, same}
-use Rattle.digits.specs.Record.{recordAt, recordCount, indexIn}
+use Rattle.ring.specs.Element.{zeros, minus, same}
+use Rattle.digits.specs.Record.{recordAt, elementCount, indexIn}
 use Rattle.digits.specs.Digits.{recordAllowed, sumIndex, sumListed, allSumsListed, noSumWith, inputAllowed, inputsAllowed, inputCheck}
 use Rattle.digits.proofs.Index.{index-high}
 
@@ -45,7 +45,7 @@ module _ (alphabet : List ℕ) (x : List ℤ) (i : ℕ) (y rest : List ℤ) (fou
   sum-not-found h = rw (← index) (eq-eqb found (i + 1) (omega (arith, index-high alphabet (i + 1) rest)))
 
 -- an input index and a count as they were read
-module _ (alphabet inputs : List ℕ) (i j found count : ℕ) (is : found ≡ sumIndex alphabet inputs i j) (counts : count ≡ recordCount inputs) where
+module _ (alphabet inputs : List ℕ) (i j found count : ℕ) (is : found ≡ sumIndex alphabet inputs i j) (counts : count ≡ elementCount inputs) where
   pub sum-missing : count ≤ found → sumListed alphabet inputs i j ≡ false
   unfolding sumListed
   sum-missing h = rw (← is, ← counts) (le-ltb found count h)
@@ -55,19 +55,19 @@ module _ (alphabet inputs : List ℕ) (i j found count : ℕ) (is : found ≡ su
   sum-listed h = rw (← is, ← counts) (lt-ltb found count h)
 
 -- rule 8 judges each record, and after them whether a sum is missing
-pub at-record : (alphabet inputs : List ℕ) (k : ℕ) → k < recordCount inputs → inputsAllowed alphabet inputs k ≡ inputAllowed alphabet inputs k
+pub at-record : (alphabet inputs : List ℕ) (k : ℕ) → k < elementCount inputs → inputsAllowed alphabet inputs k ≡ inputAllowed alphabet inputs k
 unfolding inputsAllowed
-at-record alphabet inputs k h = rw (lt-ltb k (recordCount inputs) h, inputsAllowed)
+at-record alphabet inputs k h = rw (lt-ltb k (elementCount inputs) h, inputsAllowed)
 
-pub after-records : (alphabet inputs : List ℕ) (k : ℕ) → recordCount inputs ≤ k → inputsAllowed alphabet inputs k ≡ allSumsListed alphabet inputs
+pub after-records : (alphabet inputs : List ℕ) (k : ℕ) → elementCount inputs ≤ k → inputsAllowed alphabet inputs k ≡ allSumsListed alphabet inputs
 unfolding inputsAllowed
-after-records alphabet inputs k h = rw (le-ltb k (recordCount inputs) h, inputsAllowed)
+after-records alphabet inputs k h = rw (le-ltb k (elementCount inputs) h, inputsAllowed)
 
 -- the first k of them are allowed
 abbrev pub Passed : List ℕ → List ℕ → ℕ → ℕ → Type 0
 Passed alphabet inputs n k = firstFailing (inputsAllowed alphabet inputs) k (n + 1 - k) ≡ firstFailing (inputsAllowed alphabet inputs) 0 (n + 1)
 
-module _ (alphabet inputs : List ℕ) (n k : ℕ) (counts : n ≡ recordCount inputs) (passed : Passed alphabet inputs n k) where
+module _ (alphabet inputs : List ℕ) (n k : ℕ) (counts : n ≡ elementCount inputs) (passed : Passed alphabet inputs n k) where
   answer : judge 8 (λ k. k) (inputsAllowed alphabet inputs) (n + 1) ≡ inputCheck alphabet inputs
   unfolding inputCheck
   answer = ap (λ n. judge 8 (λ k. k) (inputsAllowed alphabet inputs) (n + 1)) counts

@@ -1,15 +1,13 @@
 -- Laws of the base section, of 8 bytes within the size limits.
-use mathlib.Core.Path.{_≡_, refl, sym, ap, ap₂, subst, _∙_}
+use mathlib.Core.Path.{_≡_, refl, sym, ap, ap₂, _∙_}
 use mathlib.Core.Bool.{Bool, true, false, not}
 use mathlib.Core.List.{List, [], _∷_, reverse}
 use Prim.Native.Nat.{ℕ, zero, suc, _^_, _<_, _≤_, zero-le}
 use native.Mathlib.Omega.{arith}
-use lib.ListN.{length, getD}
 use lib.IntN.{ℤ, natAbs, _+ℤ_, _*ℤ_}
 use Rattle.integers.proofs.Machine.{_⊕_, _⊗_, plain-bound}
 use Rattle.faults.specs.Check.{refusal, none, judge}
 use Rattle.faults.proofs.Check.{once-broken, once-kept, then-found, then-next}
-use Rattle.layout.specs.Number.{signedAt}
 use Rattle.ring.specs.Element.{part, Within}
 use Rattle.ring.specs.Matrix.{matrixOf, RowsWithin}
 use Rattle.ring.specs.Base.{BaseLimits, perfectSquare, discriminant, expanding}

@@ -1,9 +1,9 @@
 -- Demand 1 for rules 5 to 8: the stage finds the first broken rule, as the plain statements have it, and nothing else.
-use mathlib.Core.Path.{_≡_, sym, ap, subst, _∙_}
+use mathlib.Core.Path.{_≡_, sym, _∙_}
 use mathlib.Core.Bool.{true, false}
 use mathlib.Core.List.{List, [], _∷_}
-use mathlib.Core.Logic.{_⊎_, inl, inr, ⊎-elim}
-use Prim.Native.Nat.{ℕ, _+_, _<_, _≤_}
+use mathlib.Core.Logic.{inl, inr, ⊎-elim}
+use Prim.Native.Nat.{ℕ, _+_, _<_}
 use native.Mathlib.Decide.{decLt}
 use native.Mathlib.Omega.{arith}
 use borrow.Author.Tests.{not-true, not-false}
@@ -12,9 +12,9 @@ use Rattle.faults.specs.Check.{judge}
 use Rattle.faults.specs.Rule.{rule, Exact}
 use Rattle.faults.proofs.Rule.{Decided, exact, places-decided, then-decided}
 use Rattle.ring.proofs.Base.{expanding-test, square-test}
-use Rattle.digits.specs.Record.{recordAt, recordCount}
+use Rattle.digits.specs.Record.{recordAt, elementCount}
 use Rattle.digits.specs.Base.{discriminantAllowed, expandingBase, baseCheck}
-use Rattle.digits.specs.Digits.{recordAllowed, alphabetCheck, allSumsListed, isSum, inputAllowed, inputsAllowed, inputCheck, digitCheck}
+use Rattle.digits.specs.Digits.{recordAllowed, alphabetCheck, isSum, inputAllowed, inputsAllowed, inputCheck, digitCheck}
 use Rattle.digits.specs.Broken.{Broken5, Broken6, Broken7, Sum, Broken8, digitRules}
 use Rattle.digits.proofs.Record.{element-parts}
 use Rattle.digits.proofs.Allowed.{at-record, after-records}
@@ -44,17 +44,17 @@ base-decided base = then-decided _ _ _ _ (square-decided base) (λ _. expanding-
 alphabet-decided : (alphabet : List ℕ) → Decided (rule 7 (Broken7 alphabet) ∷ []) (alphabetCheck alphabet)
 unfolding alphabetCheck
 alphabet-decided alphabet =
-    places-decided (rule 7 (Broken7 alphabet)) (recordAllowed alphabet) (recordCount alphabet) (omega arith)
+    places-decided (rule 7 (Broken7 alphabet)) (recordAllowed alphabet) (elementCount alphabet) (omega arith)
     (λ p b. (b .0, λ t. record-says alphabet p t b)) (record-fails alphabet)
 
 -- rule 8
 module _ (alphabet inputs : List ℕ) where
   -- what an allowed record says
-  pub allowed-parts : (p : ℕ) → p < recordCount inputs → inputsAllowed alphabet inputs p ≡ true → (recordAllowed inputs p ≡ true) × (isSum alphabet (recordAt inputs p) ≡ true)
+  pub allowed-parts : (p : ℕ) → p < elementCount inputs → inputsAllowed alphabet inputs p ≡ true → (recordAllowed inputs p ≡ true) × (isSum alphabet (recordAt inputs p) ≡ true)
   unfolding inputAllowed
   allowed-parts p l t = both (recordAllowed inputs p) (isSum alphabet (recordAt inputs p)) (sym (at-record alphabet inputs p l) ∙ t)
 
-  input-says : (p : ℕ) → Broken8 alphabet inputs p → (p < recordCount inputs + 1) × (inputsAllowed alphabet inputs p ≡ true → ⊥)
+  input-says : (p : ℕ) → Broken8 alphabet inputs p → (p < elementCount inputs + 1) × (inputsAllowed alphabet inputs p ≡ true → ⊥)
   input-says p (inl b) = (omega (arith, b .0), λ t. record-says inputs p (allowed-parts p (b .0) t .0) b)
   input-says p (inr (inl b)) = (omega (arith, b .0), λ t. b .1 (sum-says alphabet _ (element-parts inputs _) (allowed-parts p (b .0) t .1)))
   input-says p (inr (inr b)) = (
@@ -62,10 +62,10 @@ module _ (alphabet inputs : List ℕ) where
     λ t. b .1 .2 (sum-listed-in alphabet inputs (sym (after-records alphabet inputs p (omega (arith, b .0))) ∙ t) (b .1 .0) (b .1 .1)),
   )
 
-  input-fails : (p : ℕ) → p < recordCount inputs + 1 → inputsAllowed alphabet inputs p ≡ false → Broken8 alphabet inputs p
+  input-fails : (p : ℕ) → p < elementCount inputs + 1 → inputsAllowed alphabet inputs p ≡ false → Broken8 alphabet inputs p
   unfolding inputAllowed
   input-fails p l t =
-      elim (decLt p (recordCount inputs)) [
+      elim (decLt p (elementCount inputs)) [
         | yes h ↦ ⊎-elim (λ a. inl (record-fails inputs p h a)) (λ b. inr (inl (h, no-sum b))) (not-both _ _ (sym (at-record alphabet inputs p h) ∙ t))
         | no h ↦ inr (inr (omega arith, sums-missing alphabet inputs (sym (after-records alphabet inputs p (omega arith)) ∙ t)))
       ]
@@ -75,7 +75,7 @@ module _ (alphabet inputs : List ℕ) where
 
   input-decided : Decided (rule 8 (Broken8 alphabet inputs) ∷ []) (inputCheck alphabet inputs)
   unfolding inputCheck
-  input-decided = places-decided (rule 8 (Broken8 alphabet inputs)) (inputsAllowed alphabet inputs) (recordCount inputs + 1) (omega arith) input-says input-fails
+  input-decided = places-decided (rule 8 (Broken8 alphabet inputs)) (inputsAllowed alphabet inputs) (elementCount inputs + 1) (omega arith) input-says input-fails
 
 pub digits-decided : (base alphabet inputs : List ℕ) → Decided (digitRules base alphabet inputs) (digitCheck base alphabet inputs)
 unfolding digitCheck

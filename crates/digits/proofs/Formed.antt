@@ -1,18 +1,15 @@
 -- The stage of rules 5 to 8 finds nothing exactly where base, alphabet and input digits are as document 01 asks; what its
 -- readers then know of indexes.
-use mathlib.Core.Path.{_≡_, refl, sym, ap, ap₂, subst, _∙_}
+use mathlib.Core.Path.{_≡_, refl, sym, ap₂, subst, _∙_}
 use mathlib.Core.Bool.{true}
 use mathlib.Core.List.{List}
-use mathlib.Core.Logic.{inl, inr, ⊎-elim, _↔_}
-use Prim.Native.Nat.{ℕ, _+_, _<_, _≤_}
+use mathlib.Core.Logic.{inl, inr, ⊎-elim}
+use Prim.Native.Nat.{ℕ, _+_, _<_}
 use native.Mathlib.Decide.{decLt}
 use native.Mathlib.Nat.{le-antisymm}
 use native.Mathlib.Omega.{arith}
-use lib.ListN.{length}
-use lib.IntN.{ℤ}
 use borrow.Author.Tests.{not-true}
 use Rattle.lists.proofs.Test.{clash}
-use Rattle.faults.specs.declared.Refusal.{Refusal}
 use Rattle.faults.specs.Check.{none}
 use Rattle.faults.specs.Rule.{Kept, rule}
 use Rattle.faults.proofs.Check.{then-kept, judge-passed}
@@ -20,25 +17,25 @@ use Rattle.layout.specs.Section.{degree}
 use Rattle.ring.specs.Element.{zeros, plus}
 use Rattle.ring.proofs.Element.{same→≡, zeros-plus}
 use Rattle.ring.proofs.Base.{expanding-test, square-test}
-use Rattle.digits.specs.Record.{recordAt, recordCount, indexIn}
+use Rattle.digits.specs.Record.{recordAt, elementCount, indexIn}
 use Rattle.digits.specs.Base.{discriminantAllowed, expandingBase, baseCheck}
 use Rattle.digits.specs.Digits.{recordAllowed, alphabetCheck, sumIndex, inputsAllowed, inputCheck, digitCheck}
 use Rattle.digits.specs.Broken.{Broken7, Broken8}
 use Rattle.digits.specs.Formed.{DigitList, Formed}
 use Rattle.digits.proofs.Record.{element-parts}
 use Rattle.digits.proofs.Index.{index-is, index-first}
-use Rattle.digits.proofs.Allowed.{at-record, after-records}
+use Rattle.digits.proofs.Allowed.{after-records}
 use Rattle.digits.proofs.Sums.{record-says, sum-says, sum-listed-in}
 use Rattle.digits.proofs.Broken.{allowed-parts, digits-exact}
 
-digit-list : (part : List ℕ) → ((k : ℕ) → k < recordCount part → recordAllowed part k ≡ true) → DigitList part
+digit-list : (part : List ℕ) → ((k : ℕ) → k < elementCount part → recordAllowed part k ≡ true) → DigitList part
 unfolding recordAllowed
 digit-list part allowed = record { zero-first = λ h. same→≡ _ _ (allowed 0 h); distinct = distinct }
   where
-    apart : (i j : ℕ) → i < j → j < recordCount part → recordAt part j ≡ recordAt part i → ⊥
+    apart : (i j : ℕ) → i < j → j < elementCount part → recordAt part j ≡ recordAt part i → ⊥
     apart i j h l e = record-says part j (allowed j l) (l, inr (i, h, e))
 
-    distinct : (i j : ℕ) → i < recordCount part → j < recordCount part → recordAt part i ≡ recordAt part j → i ≡ j
+    distinct : (i j : ℕ) → i < elementCount part → j < elementCount part → recordAt part i ≡ recordAt part j → i ≡ j
     distinct i j l m e =
         elim (decLt i j) [
           | yes h ↦ absurd (apart i j h m (sym e))
@@ -57,14 +54,14 @@ module _ (base alphabet inputs : List ℕ) where
       let a = then-kept (baseCheck base) _ h in
       let b = then-kept _ _ (a .0) in
       let d = then-kept (alphabetCheck alphabet) (inputCheck alphabet inputs) (a .1) in
-      let input = judge-passed 8 (λ k. k) (inputsAllowed alphabet inputs) (recordCount inputs + 1) (omega arith) (d .1) in
+      let input = judge-passed 8 (λ k. k) (inputsAllowed alphabet inputs) (elementCount inputs + 1) (omega arith) (d .1) in
       record {
         no-square = λ s. clash (square-test _ .1 s) (not-true _ (judge-passed 5 _ _ 1 (omega arith) (b .0) 0 (omega arith)));
         expands = expanding-test _ _ _ _ .0 (judge-passed 6 _ _ 1 (omega arith) (b .1) 0 (omega arith));
-        alphabet-digits = digit-list alphabet (judge-passed 7 (λ k. k) (recordAllowed alphabet) (recordCount alphabet) (omega arith) (d .0));
+        alphabet-digits = digit-list alphabet (judge-passed 7 (λ k. k) (recordAllowed alphabet) (elementCount alphabet) (omega arith) (d .0));
         input-digits = digit-list inputs (λ k l. allowed-parts alphabet inputs k l (input k (omega arith)) .0);
         only-sums = λ k l. sum-says alphabet _ (element-parts inputs _) (allowed-parts alphabet inputs k l (input k (omega arith)) .1);
-        all-sums = sum-listed-in alphabet inputs (sym (after-records alphabet inputs (recordCount inputs) (omega arith)) ∙ input (recordCount inputs) (omega arith));
+        all-sums = sum-listed-in alphabet inputs (sym (after-records alphabet inputs (elementCount inputs) (omega arith)) ∙ input (elementCount inputs) (omega arith));
       }
 
   pub formed-passes : Formed base alphabet inputs → digitCheck base alphabet inputs ≡ none
@@ -76,26 +73,26 @@ module _ (base alphabet inputs : List ℕ) where
       inputs-are p (inr (inr b)) = b .1 .2 (is .all-sums (b .1 .0) (b .1 .1))
 
 -- the index of a digit is found
-pub index-unique : (part : List ℕ) → DigitList part → (k : ℕ) → k < recordCount part → indexIn part (recordCount part) (recordAt part k) ≡ k
+pub index-unique : (part : List ℕ) → DigitList part → (k : ℕ) → k < elementCount part → indexIn part (elementCount part) (recordAt part k) ≡ k
 index-unique part list k l =
-    let first = index-first part (recordCount part) (recordAt part k) k refl in
-    list .distinct _ k (omega arith) l (index-is part (recordCount part) (recordAt part k) (omega arith))
+    let first = index-first part (elementCount part) (recordAt part k) k refl in
+    list .distinct _ k (omega arith) l (index-is part (elementCount part) (recordAt part k) (omega arith))
 
 -- the input index of a sum is that of an input digit, and that digit is the sum
 module _ (base alphabet inputs : List ℕ) (is : Formed base alphabet inputs) where
-  module _ (i j : ℕ) (l : i < recordCount alphabet) (m : j < recordCount alphabet) where
-    pub sum-index-below : sumIndex alphabet inputs i j < recordCount inputs
+  module _ (i j : ℕ) (l : i < elementCount alphabet) (m : j < elementCount alphabet) where
+    pub sum-index-below : sumIndex alphabet inputs i j < elementCount inputs
     unfolding sumIndex
     sum-index-below =
         let w = is .all-sums (plus (recordAt alphabet i) (recordAt alphabet j)) (i, j, l, m, refl) in
-        omega (arith, w .1, index-first inputs (recordCount inputs) (plus (recordAt alphabet i) (recordAt alphabet j)) (w .0) (w .2))
+        omega (arith, w .1, index-first inputs (elementCount inputs) (plus (recordAt alphabet i) (recordAt alphabet j)) (w .0) (w .2))
 
     pub sum-index-is : recordAt inputs (sumIndex alphabet inputs i j) ≡ plus (recordAt alphabet i) (recordAt alphabet j)
     unfolding sumIndex
-    sum-index-is = index-is inputs (recordCount inputs) _ sum-index-below
+    sum-index-is = index-is inputs (elementCount inputs) _ sum-index-below
 
   -- twice the digit zero is the input digit zero
-  pub sum-index-zero : 0 < recordCount alphabet → 0 < recordCount inputs → sumIndex alphabet inputs 0 0 ≡ 0
+  pub sum-index-zero : 0 < elementCount alphabet → 0 < elementCount inputs → sumIndex alphabet inputs 0 0 ≡ 0
   sum-index-zero l m =
       is .input-digits .distinct _ 0 (sum-index-below 0 0 l l) m (sum-index-is 0 0 l l ∙ ap₂ plus zero zero ∙ zeros-plus (zeros degree) degree (omega arith) ∙ sym (is .input-digits .zero-first m))
     where

@@ -1,9 +1,8 @@
 -- Elements read from bytes.
 use mathlib.Core.Path.{_≡_, refl, ap, _∙_}
 use mathlib.Core.List.{List, [], _∷_}
-use Prim.Native.Nat.{ℕ, _+_, _*_, _<_, _≤_}
+use Prim.Native.Nat.{ℕ, _+_, _≤_}
 use native.Mathlib.Nat.{add-zero}
-use native.Mathlib.Omega.{arith}
 use lib.ListN.{length}
 use lib.IntN.{ℤ, natAbs}
 use mir.Syntax.{w64}
@@ -13,8 +12,8 @@ use Rattle.lists.proofs.Cons.{cons≡}
 use Rattle.lists.proofs.Span.{length-span}
 use Rattle.integers.proofs.Machine.{leaf, stored-is}
 use Rattle.layout.specs.Number.{signedAt}
-use Rattle.layout.specs.Section.{degree, elementSize}
-use Rattle.digits.specs.Record.{elementAt, recordCount}
+use Rattle.layout.specs.Section.{degree}
+use Rattle.digits.specs.Record.{elementAt}
 
 -- an element has as many parts as the degree says
 pub element-parts : (bytes : List ℕ) (at : ℕ) → length (elementAt bytes at) ≡ degree

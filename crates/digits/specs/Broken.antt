@@ -8,7 +8,7 @@ use Rattle.faults.specs.Rule.{Rule, rule}
 use Rattle.layout.specs.Section.{degree}
 use Rattle.ring.specs.Element.{zeros, plus}
 use Rattle.ring.specs.Base.{discriminant, Square, Expanding}
-use Rattle.digits.specs.Record.{recordAt, recordCount}
+use Rattle.digits.specs.Record.{recordAt, elementCount}
 use Rattle.digits.specs.Base.{sOf, tOf, uOf, vOf}
 
 -- 5: s² + 4t is a perfect square, 0 included
@@ -22,25 +22,25 @@ Broken6 base p = (p ≡ 0) × ¬ (Expanding (sOf base) (tOf base) (uOf base) (vO
 -- 7: alphabet record 0 isn't zero, or a record repeats an earlier one (record)
 abbrev pub Broken7 : List ℕ → ℕ → Type 0
 Broken7 part p =
-    (p < recordCount part)
+    (p < elementCount part)
     × (((p ≡ 0) × ¬ (recordAt part p ≡ zeros degree)) ⊎ ((q : ℕ) × (q < p) × (recordAt part p ≡ recordAt part q)))
 
 -- x is a sum of two alphabet digits
 abbrev pub Sum : List ℕ → List ℤ → Type 0
 Sum alphabet x =
-    (i : ℕ) × (j : ℕ) × (i < recordCount alphabet) × (j < recordCount alphabet)
+    (i : ℕ) × (j : ℕ) × (i < elementCount alphabet) × (j < elementCount alphabet)
     × (x ≡ plus (recordAt alphabet i) (recordAt alphabet j))
 
 -- x is an input digit
 abbrev pub Listed : List ℕ → List ℤ → Type 0
-Listed inputs x = (k : ℕ) × (k < recordCount inputs) × (recordAt inputs k ≡ x)
+Listed inputs x = (k : ℕ) × (k < elementCount inputs) × (recordAt inputs k ≡ x)
 
 -- 8: the same for input digits, or a record is no sum (record); if only a sum is missing, the place is the record count
 abbrev pub Broken8 : List ℕ → List ℕ → ℕ → Type 0
 Broken8 alphabet inputs p =
     Broken7 inputs p
-    ⊎ ((p < recordCount inputs) × ¬ (Sum alphabet (recordAt inputs p)))
-    ⊎ ((p ≡ recordCount inputs) × ((x : List ℤ) × Sum alphabet x × ¬ (Listed inputs x)))
+    ⊎ ((p < elementCount inputs) × ¬ (Sum alphabet (recordAt inputs p)))
+    ⊎ ((p ≡ elementCount inputs) × ((x : List ℤ) × Sum alphabet x × ¬ (Listed inputs x)))
 
 -- in the order in which they run
 abbrev pub digitRules : List ℕ → List ℕ → List ℕ → List Rule

@@ -10,7 +10,7 @@ use Rattle.faults.specs.declared.Refusal.{Refusal}
 use Rattle.faults.specs.Check.{judge, _then_}
 use Rattle.layout.specs.Section.{degree}
 use Rattle.ring.specs.Element.{zeros, plus, minus, same}
-use Rattle.digits.specs.Record.{recordAt, recordCount, indexIn}
+use Rattle.digits.specs.Record.{recordAt, elementCount, indexIn}
 use Rattle.digits.specs.Base.{baseCheck}
 
 -- 7: record 0 isn't zero, or a record repeats an earlier one
@@ -19,28 +19,28 @@ recordAllowed part zero = same (recordAt part 0) (zeros degree)
 recordAllowed part (suc k) = eqb (indexIn part (suc k) (recordAt part (suc k))) (suc k)
 
 unfoldable pub alphabetCheck : List ℕ → Refusal
-alphabetCheck alphabet = judge 7 (λ k. k) (recordAllowed alphabet) (recordCount alphabet)
+alphabetCheck alphabet = judge 7 (λ k. k) (recordAllowed alphabet) (elementCount alphabet)
 
 -- the input index of the sum of alphabet digits i and j; the record count where the sum is missing
 unfoldable pub sumIndex : List ℕ → List ℕ → ℕ → ℕ → ℕ
-sumIndex alphabet inputs i j = indexIn inputs (recordCount inputs) (plus (recordAt alphabet i) (recordAt alphabet j))
+sumIndex alphabet inputs i j = indexIn inputs (elementCount inputs) (plus (recordAt alphabet i) (recordAt alphabet j))
 
 -- the sum of alphabet digits i and j is an input digit; and so for every j up to i, for every i
 unfoldable pub sumListed : List ℕ → List ℕ → ℕ → ℕ → Bool
-sumListed alphabet inputs i j = ltb (sumIndex alphabet inputs i j) (recordCount inputs)
+sumListed alphabet inputs i j = ltb (sumIndex alphabet inputs i j) (elementCount inputs)
 
 unfoldable pub sumsListed : List ℕ → List ℕ → ℕ → Bool
 sumsListed alphabet inputs i = every (sumListed alphabet inputs i) 0 (i + 1)
 
 unfoldable pub allSumsListed : List ℕ → List ℕ → Bool
-allSumsListed alphabet inputs = every (sumsListed alphabet inputs) 0 (recordCount alphabet)
+allSumsListed alphabet inputs = every (sumsListed alphabet inputs) 0 (elementCount alphabet)
 
 -- x is no sum of alphabet digit i and one up to it; and so for all i
 unfoldable pub noSumWith : List ℕ → List ℤ → ℕ → Bool
 noSumWith alphabet x i = eqb (indexIn alphabet (i + 1) (minus x (recordAt alphabet i))) (i + 1)
 
 unfoldable pub isSum : List ℕ → List ℤ → Bool
-isSum alphabet x = not (every (noSumWith alphabet x) 0 (recordCount alphabet))
+isSum alphabet x = not (every (noSumWith alphabet x) 0 (elementCount alphabet))
 
 -- 8: the same for input digits, or a record is no sum
 unfoldable pub inputAllowed : List ℕ → List ℕ → ℕ → Bool
@@ -49,10 +49,10 @@ inputAllowed alphabet inputs k = recordAllowed inputs k && isSum alphabet (recor
 -- if only a sum is missing, the place is the record count: judged after the records
 unfoldable pub inputsAllowed : List ℕ → List ℕ → ℕ → Bool
 inputsAllowed alphabet inputs k =
-    elim (ltb k (recordCount inputs)) [ true ↦ inputAllowed alphabet inputs k | false ↦ allSumsListed alphabet inputs ]
+    elim (ltb k (elementCount inputs)) [ true ↦ inputAllowed alphabet inputs k | false ↦ allSumsListed alphabet inputs ]
 
 unfoldable pub inputCheck : List ℕ → List ℕ → Refusal
-inputCheck alphabet inputs = judge 8 (λ k. k) (inputsAllowed alphabet inputs) (recordCount inputs + 1)
+inputCheck alphabet inputs = judge 8 (λ k. k) (inputsAllowed alphabet inputs) (elementCount inputs + 1)
 
 -- rules 5 to 8
 unfoldable pub digitCheck : List ℕ → List ℕ → List ℕ → Refusal

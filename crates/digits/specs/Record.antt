@@ -18,12 +18,12 @@ elementAt bytes at = span (λ k. signedAt bytes (at + 2 * k)) 0 degree
 abbrev pub recordAt : List ℕ → ℕ → List ℤ
 recordAt part k = elementAt part (k * elementSize)
 
-abbrev pub recordCount : List ℕ → ℕ
-recordCount part = length part / elementSize
+abbrev pub elementCount : List ℕ → ℕ
+elementCount part = length part / elementSize
 
 -- every part of every record is at most so large, as rule 4 leaves it
 abbrev pub RecordsWithin : ℕ → List ℕ → Type 0
-RecordsWithin limit part = (k : ℕ) → k < recordCount part → Within limit (recordAt part k)
+RecordsWithin limit part = (k : ℕ) → k < elementCount part → Within limit (recordAt part k)
 
 -- the first of the first n records that equals an element; n where none does
 unfoldable pub indexIn : List ℕ → ℕ → List ℤ → ℕ

@@ -4,13 +4,18 @@ ghost use mathlib.Core.Path.{_≡_};
 ghost use Prim.Native.Nat.{_+_, _≤_, _<_};
 ghost use lib.ListN.{length};
 ghost use Rattle.ring.specs.Element.{Within};
-ghost use Rattle.digits.specs.Record.{elementAt, recordAt, recordCount, indexIn};
+ghost use Rattle.digits.specs.Record.{elementAt, recordAt, elementCount, indexIn};
 ghost use Rattle.digits.specs.Base.{BasePart, baseMatrix, baseCheck};
 ghost use Rattle.digits.specs.Digits.{recordAllowed, alphabetCheck, sumIndex, sumsListed, allSumsListed, isSum, inputAllowed, inputCheck, digitCheck};
 use faults::Refusal;
 
 // The bytes of an element.
 const ELEMENT: usize = 4;
+
+// The sections of digits.
+const ALPHABET: usize = 1;
+
+const INPUTS: usize = 2;
 
 // The element whose first byte stands at a place.
 pub fn element(bytes: &[u8], at: usize) -> [i64; 2]
@@ -20,15 +25,9 @@ pub fn element(bytes: &[u8], at: usize) -> [i64; 2]
     [layout::signed(bytes, at), layout::signed(bytes, at + 2)]
 }
 
-// How many records a section of elements has, and record k of them.
-pub fn record_count(part: &[u8]) -> usize
-    ensures { λ r. ⌜ r ≡ recordCount (now (part .entry)) ⌝ }
-{
-    part.len() / ELEMENT
-}
-
+// Record k of a section of elements.
 pub fn record_at(part: &[u8], k: usize) -> [i64; 2]
-    requires { ⌜ k < recordCount (now part) ⌝ }
+    requires { ⌜ k < elementCount (now part) ⌝ }
     ensures { λ r. ⌜ (r ≡ recordAt (now (part .entry)) k) × Within 32768 r ⌝ }
 {
     element(part, k * ELEMENT)
@@ -36,7 +35,7 @@ pub fn record_at(part: &[u8], k: usize) -> [i64; 2]
 
 // The first of the first n records that equals an element, or n.
 pub fn find(part: &[u8], n: usize, x: [i64; 2]) -> usize
-    requires { ⌜ n ≤ recordCount (now part) ⌝ }
+    requires { ⌜ n ≤ elementCount (now part) ⌝ }
     ensures { λ r. ⌜ r ≡ indexIn (now (part .entry)) n x ⌝ }
 {
     let mut k = 0;
@@ -88,7 +87,7 @@ fn base_rules(base: &[u8]) -> Refusal
 }
 
 fn record_allowed(part: &[u8], k: usize) -> bool
-    requires { ⌜ k < recordCount (now part) ⌝ }
+    requires { ⌜ k < elementCount (now part) ⌝ }
     ensures { λ r. ⌜ r ≡ recordAllowed (now (part .entry)) k ⌝ }
 {
     let x = record_at(part, k);
@@ -102,7 +101,7 @@ fn record_allowed(part: &[u8], k: usize) -> bool
 fn alphabet_rule(alphabet: &[u8]) -> Refusal
     ensures { λ r. ⌜ r ≡ alphabetCheck (now (alphabet .entry)) ⌝ }
 {
-    let n = record_count(alphabet);
+    let n = layout::record_count(alphabet, ALPHABET);
     let mut k = 0;
     while k < n {
         if !record_allowed(alphabet, k) {
@@ -121,22 +120,22 @@ fn alphabet_rule(alphabet: &[u8]) -> Refusal
 
 // The input index of the sum of alphabet digits i and j, or the count of input digits.
 pub fn sum_index(alphabet: &[u8], inputs: &[u8], i: usize, j: usize) -> usize
-    requires { ⌜ (i < recordCount (now alphabet)) × (j < recordCount (now alphabet)) ⌝ }
+    requires { ⌜ (i < elementCount (now alphabet)) × (j < elementCount (now alphabet)) ⌝ }
     ensures { λ r. ⌜ r ≡ sumIndex (now (alphabet .entry)) (now (inputs .entry)) i j ⌝ }
 {
     find(
         inputs,
-        record_count(inputs),
+        layout::record_count(inputs, INPUTS),
         ring::sum(record_at(alphabet, i), record_at(alphabet, j)),
     )
 }
 
 // Whether every sum of alphabet digit i and one up to it is an input digit.
 fn sums_listed(alphabet: &[u8], inputs: &[u8], i: usize) -> bool
-    requires { ⌜ i < recordCount (now alphabet) ⌝ }
+    requires { ⌜ i < elementCount (now alphabet) ⌝ }
     ensures { λ r. ⌜ r ≡ sumsListed (now (alphabet .entry)) (now (inputs .entry)) i ⌝ }
 {
-    let count = record_count(inputs);
+    let count = layout::record_count(inputs, INPUTS);
     let mut j = 0;
     while j <= i {
         if sum_index(alphabet, inputs, i, j) >= count {
@@ -151,7 +150,7 @@ fn sums_listed(alphabet: &[u8], inputs: &[u8], i: usize) -> bool
 fn all_sums_listed(alphabet: &[u8], inputs: &[u8]) -> bool
     ensures { λ r. ⌜ r ≡ allSumsListed (now (alphabet .entry)) (now (inputs .entry)) ⌝ }
 {
-    let n = record_count(alphabet);
+    let n = layout::record_count(alphabet, ALPHABET);
     let mut i = 0;
     while i < n {
         if !sums_listed(alphabet, inputs, i) {
@@ -167,7 +166,7 @@ fn is_sum(alphabet: &[u8], x: [i64; 2]) -> bool
     requires { ⌜ Within 32768 x ⌝ }
     ensures { λ r. ⌜ r ≡ isSum (now (alphabet .entry)) x ⌝ }
 {
-    let n = record_count(alphabet);
+    let n = layout::record_count(alphabet, ALPHABET);
     let mut i = 0;
     while i < n {
         if find(alphabet, i + 1, ring::difference(x, record_at(alphabet, i))) <= i {
@@ -179,7 +178,7 @@ fn is_sum(alphabet: &[u8], x: [i64; 2]) -> bool
 }
 
 fn input_allowed(alphabet: &[u8], inputs: &[u8], k: usize) -> bool
-    requires { ⌜ k < recordCount (now inputs) ⌝ }
+    requires { ⌜ k < elementCount (now inputs) ⌝ }
     ensures { λ r. ⌜ r ≡ inputAllowed (now (alphabet .entry)) (now (inputs .entry)) k ⌝ }
 {
     record_allowed(inputs, k) && is_sum(alphabet, record_at(inputs, k))
@@ -189,7 +188,7 @@ fn input_allowed(alphabet: &[u8], inputs: &[u8], k: usize) -> bool
 fn input_rule(alphabet: &[u8], inputs: &[u8]) -> Refusal
     ensures { λ r. ⌜ r ≡ inputCheck (now (alphabet .entry)) (now (inputs .entry)) ⌝ }
 {
-    let n = record_count(inputs);
+    let n = layout::record_count(inputs, INPUTS);
     let mut k = 0;
     while k < n {
         if !input_allowed(alphabet, inputs, k) {
