@@ -1,12 +1,16 @@
 -- Elements read from bytes.
-use mathlib.Core.Path.{_≡_, refl, ap}
+use mathlib.Core.Path.{_≡_, refl, ap, _∙_}
 use mathlib.Core.List.{List, [], _∷_}
-use Prim.Native.Nat.{ℕ, _+_}
+use Prim.Native.Nat.{ℕ, _+_, _≤_}
 use native.Mathlib.Nat.{add-zero}
 use lib.ListN.{length}
+use lib.IntN.{ℤ, natAbs}
+use mir.Syntax.{w64}
+use mir.Val.{toZ, ofZ}
 use Rattle.lists.specs.Span.{span}
 use Rattle.lists.proofs.Cons.{cons≡}
 use Rattle.lists.proofs.Span.{length-span}
+use Rattle.integers.proofs.Machine.{leaf, stored-is}
 use Rattle.layout.specs.Number.{signedAt}
 use Rattle.layout.specs.Section.{degree}
 use Rattle.digits.specs.Record.{elementAt}
@@ -19,3 +23,7 @@ element-parts bytes at = length-span _ 0 degree
 pub element-two : (bytes : List ℕ) (at : ℕ) → elementAt bytes at ≡ signedAt bytes at ∷ signedAt bytes (at + 2) ∷ []
 unfolding elementAt span
 element-two bytes at = cons≡ (ap (signedAt bytes) (add-zero at)) refl
+
+-- a number that was read and is passed on
+pub passed-on : (z n : ℤ) → (z ≡ n) × (natAbs z ≤ 32768) → toZ w64 (ofZ w64 z) ≡ n
+passed-on z n read = stored-is w64 (leaf z 32768 (read .1)) refl ∙ read .0

@@ -1,9 +1,21 @@
-// The digits of a table: base, alphabet and input digits, rules 5 to 8 of document 01.
+// The digits of a table: base, alphabet and input digits, rules 5 to 8 of document 01. Each section is given as its bytes, of a
+// file or not.
 ghost use mathlib.Core.Path.{_≡_};
-ghost use Prim.Native.Nat.{_+_, _≤_};
+ghost use Prim.Native.Nat.{_+_, _≤_, _<_};
 ghost use lib.ListN.{length};
 ghost use Rattle.ring.specs.Element.{Within};
-ghost use Rattle.digits.specs.Record.{elementAt};
+ghost use Rattle.digits.specs.Record.{elementAt, recordAt, elementCount, indexIn};
+ghost use Rattle.digits.specs.Base.{BasePart, baseMatrix, baseCheck};
+ghost use Rattle.digits.specs.Digits.{recordAllowed, alphabetCheck, sumIndex, sumsListed, allSumsListed, isSum, inputAllowed, inputCheck, digitCheck};
+use faults::Refusal;
+
+// The bytes of an element.
+const ELEMENT: usize = 4;
+
+// The sections of digits.
+const ALPHABET: usize = 1;
+
+const INPUTS: usize = 2;
 
 // The element whose first byte stands at a place.
 pub fn element(bytes: &[u8], at: usize) -> [i64; 2]
@@ -11,4 +23,206 @@ pub fn element(bytes: &[u8], at: usize) -> [i64; 2]
     ensures { λ r. ⌜ (r ≡ elementAt (now (bytes .entry)) at) × Within 32768 r ⌝ }
 {
     [layout::signed(bytes, at), layout::signed(bytes, at + 2)]
+}
+
+// Record k of a section of elements.
+pub fn record_at(part: &[u8], k: usize) -> [i64; 2]
+    requires { ⌜ k < elementCount (now part) ⌝ }
+    ensures { λ r. ⌜ (r ≡ recordAt (now (part .entry)) k) × Within 32768 r ⌝ }
+{
+    element(part, k * ELEMENT)
+}
+
+// The first of the first n records that equals an element, or n.
+pub fn find(part: &[u8], n: usize, x: [i64; 2]) -> usize
+    requires { ⌜ n ≤ elementCount (now part) ⌝ }
+    ensures { λ r. ⌜ r ≡ indexIn (now (part .entry)) n x ⌝ }
+{
+    let mut k = 0;
+    while k < n {
+        if ring::equal(record_at(part, k), x) {
+            return k;
+        }
+        k += 1;
+    }
+    k
+}
+
+// Multiplication by the base.
+pub fn base_of(base: &[u8]) -> [[i64; 2]; 2]
+    requires { ⌜ BasePart (now base) ⌝ }
+    ensures { λ r. ⌜ r ≡ baseMatrix (now (base .entry)) ⌝ }
+{
+    ring::base_matrix(
+        layout::signed(base, 0),
+        layout::signed(base, 2),
+        layout::signed(base, 4),
+        layout::signed(base, 6),
+    )
+}
+
+// Rules 5 and 6.
+fn base_rules(base: &[u8]) -> Refusal
+    requires { ⌜ BasePart (now base) ⌝ }
+    ensures { λ r. ⌜ r ≡ baseCheck (now (base .entry)) ⌝ }
+{
+    let s = layout::signed(base, 0);
+    let t = layout::signed(base, 2);
+    if ring::has_square_discriminant(s, t) {
+        return Refusal {
+            number: 5,
+            place: 0,
+        };
+    }
+    if !ring::is_expanding(s, t, layout::signed(base, 4), layout::signed(base, 6)) {
+        return Refusal {
+            number: 6,
+            place: 0,
+        };
+    }
+    Refusal {
+        number: 0,
+        place: 0,
+    }
+}
+
+fn record_allowed(part: &[u8], k: usize) -> bool
+    requires { ⌜ k < elementCount (now part) ⌝ }
+    ensures { λ r. ⌜ r ≡ recordAllowed (now (part .entry)) k ⌝ }
+{
+    let x = record_at(part, k);
+    if k == 0 {
+        return ring::equal(x, [0, 0]);
+    }
+    find(part, k, x) == k
+}
+
+// Rule 7.
+fn alphabet_rule(alphabet: &[u8]) -> Refusal
+    ensures { λ r. ⌜ r ≡ alphabetCheck (now (alphabet .entry)) ⌝ }
+{
+    let n = layout::record_count(alphabet, ALPHABET);
+    let mut k = 0;
+    while k < n {
+        if !record_allowed(alphabet, k) {
+            return Refusal {
+                number: 7,
+                place: k,
+            };
+        }
+        k += 1;
+    }
+    Refusal {
+        number: 0,
+        place: 0,
+    }
+}
+
+// The input index of the sum of alphabet digits i and j, or the count of input digits.
+pub fn sum_index(alphabet: &[u8], inputs: &[u8], i: usize, j: usize) -> usize
+    requires { ⌜ (i < elementCount (now alphabet)) × (j < elementCount (now alphabet)) ⌝ }
+    ensures { λ r. ⌜ r ≡ sumIndex (now (alphabet .entry)) (now (inputs .entry)) i j ⌝ }
+{
+    find(
+        inputs,
+        layout::record_count(inputs, INPUTS),
+        ring::sum(record_at(alphabet, i), record_at(alphabet, j)),
+    )
+}
+
+// Whether every sum of alphabet digit i and one up to it is an input digit.
+fn sums_listed(alphabet: &[u8], inputs: &[u8], i: usize) -> bool
+    requires { ⌜ i < elementCount (now alphabet) ⌝ }
+    ensures { λ r. ⌜ r ≡ sumsListed (now (alphabet .entry)) (now (inputs .entry)) i ⌝ }
+{
+    let count = layout::record_count(inputs, INPUTS);
+    let mut j = 0;
+    while j <= i {
+        if sum_index(alphabet, inputs, i, j) >= count {
+            return false;
+        }
+        j += 1;
+    }
+    true
+}
+
+// Whether every sum is an input digit.
+fn all_sums_listed(alphabet: &[u8], inputs: &[u8]) -> bool
+    ensures { λ r. ⌜ r ≡ allSumsListed (now (alphabet .entry)) (now (inputs .entry)) ⌝ }
+{
+    let n = layout::record_count(alphabet, ALPHABET);
+    let mut i = 0;
+    while i < n {
+        if !sums_listed(alphabet, inputs, i) {
+            return false;
+        }
+        i += 1;
+    }
+    true
+}
+
+// Whether an element is a sum of two alphabet digits.
+fn is_sum(alphabet: &[u8], x: [i64; 2]) -> bool
+    requires { ⌜ Within 32768 x ⌝ }
+    ensures { λ r. ⌜ r ≡ isSum (now (alphabet .entry)) x ⌝ }
+{
+    let n = layout::record_count(alphabet, ALPHABET);
+    let mut i = 0;
+    while i < n {
+        if find(alphabet, i + 1, ring::difference(x, record_at(alphabet, i))) <= i {
+            return true;
+        }
+        i += 1;
+    }
+    false
+}
+
+fn input_allowed(alphabet: &[u8], inputs: &[u8], k: usize) -> bool
+    requires { ⌜ k < elementCount (now inputs) ⌝ }
+    ensures { λ r. ⌜ r ≡ inputAllowed (now (alphabet .entry)) (now (inputs .entry)) k ⌝ }
+{
+    record_allowed(inputs, k) && is_sum(alphabet, record_at(inputs, k))
+}
+
+// Rule 8.
+fn input_rule(alphabet: &[u8], inputs: &[u8]) -> Refusal
+    ensures { λ r. ⌜ r ≡ inputCheck (now (alphabet .entry)) (now (inputs .entry)) ⌝ }
+{
+    let n = layout::record_count(inputs, INPUTS);
+    let mut k = 0;
+    while k < n {
+        if !input_allowed(alphabet, inputs, k) {
+            return Refusal {
+                number: 8,
+                place: k,
+            };
+        }
+        k += 1;
+    }
+    if !all_sums_listed(alphabet, inputs) {
+        return Refusal {
+            number: 8,
+            place: n,
+        };
+    }
+    Refusal {
+        number: 0,
+        place: 0,
+    }
+}
+
+// Rules 5 to 8.
+pub fn digits(base: &[u8], alphabet: &[u8], inputs: &[u8]) -> Refusal
+    requires { ⌜ BasePart (now base) ⌝ }
+    ensures { λ r. ⌜ r ≡ digitCheck (now (base .entry)) (now (alphabet .entry)) (now (inputs .entry)) ⌝ }
+{
+    let first = base_rules(base);
+    if first.number != 0 {
+        return first;
+    }
+    let second = alphabet_rule(alphabet);
+    if second.number != 0 {
+        return second;
+    }
+    input_rule(alphabet, inputs)
 }

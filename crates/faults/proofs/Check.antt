@@ -96,3 +96,10 @@ judge-passed number at test n some h k l =
   where
     not-zero : number ≡ 0 → ⊥
     not-zero e = omega arith
+
+-- for a function that runs one check, and another where it found nothing
+pub found-first : (a b found : Refusal) → found ≡ a → (found .number ≡ 0 → ⊥) → found ≡ (a then b)
+found-first a b found is h = is ∙ sym (then-found a b (rw is at h))
+
+pub found-next : (a b found later : Refusal) → found ≡ a → found .number ≡ 0 → later ≡ b → later ≡ (a then b)
+found-next a b found later is h next = next ∙ sym (then-next a b (rw is at h))

@@ -6,7 +6,7 @@ use native.Mathlib.Decide.{decLt}
 use native.Mathlib.Omega.{arith}
 use native.Mathlib.Nat.{le-antisymm, sub-eq-zero-of-le}
 use native.Mathlib.Numerals.{add-one}
-use borrow.Author.Tests.{eqb-true, eq-eqb}
+use borrow.Author.Tests.{eqb-true, eqb-false, eq-eqb, ne-eqb}
 use Rattle.lists.proofs.Test.{clash}
 use Rattle.lists.specs.Scan.{firstFailing, every}
 
@@ -116,3 +116,20 @@ scan-here test i n h e = rw (left i n h) (scan-hit test i (n - (i + 1)) e)
 
 pub scan-out : (test : ℕ → Bool) (i n : ℕ) → n ≤ i → firstFailing test i (n - i) ≡ i
 scan-out test i n h = rw (sub-eq-zero-of-le h) (scan-end test i)
+
+-- the same for a loop that answers `every`
+pub every-here : (test : ℕ → Bool) (i n : ℕ) → firstFailing test i (n - i) ≡ firstFailing test 0 n → i < n → test i ≡ false → every test 0 n ≡ false
+unfolding every
+every-here test i n same h fail = ne-eqb (firstFailing test 0 n) (0 + n) (λ e. omega (arith, scan-here test i n h fail))
+
+pub every-out : (test : ℕ → Bool) (i n : ℕ) → firstFailing test i (n - i) ≡ firstFailing test 0 n → n ≤ i → every test 0 n ≡ true
+unfolding every
+every-out test i n same h = eq-eqb (firstFailing test 0 n) (0 + n) (omega (arith, scan-out test i n h, scan-high test 0 n))
+
+-- where not every place passes, one fails
+pub every-fails : (test : ℕ → Bool) (i n : ℕ) → every test i n ≡ false → (j : ℕ) × (i ≤ j) × (j < i + n) × (test j ≡ false)
+unfolding every
+every-fails test i n e = (firstFailing test i n, scan-low test i n, below, scan-failed test i n below)
+  where
+    below : firstFailing test i n < i + n
+    below = omega (arith, scan-high test i n, eqb-false (firstFailing test i n) (i + n) e)

@@ -10,7 +10,7 @@ use lib.ListN.{length, getD}
 use borrow.Author.Tests.{ltb-true, leb-true}
 use Rattle.lists.specs.Scan.{every, firstFailing}
 use Rattle.lists.proofs.Scan.{every-sound}
-use Rattle.numeration.specs.Code.{Code, Inputs, OrderedCode, agree, begins, leafOf, precedes, firstDifference}
+use Rattle.numeration.specs.Code.{Code, Inputs, OrderedCode, agree, begins, leafOf, precedes, lower}
 use Rattle.numeration.specs.Pairs.{RowsConvert}
 use Rattle.numeration.specs.Exercises.{System, integers, codeOf, inputAt, inAlphabet, refused14, tern, bin, Right, passes}
 use Rattle.numeration.proofs.Leaves.{leafOf-found, precedes-sound, prefix-code}
@@ -49,11 +49,11 @@ ordered-by-tests c n m some sizes short digits order strings =
     }
 
 pub tern-ordered : OrderedCode (codeOf (tern .leaves)) 1 9
-unfolding codeOf tern every firstFailing agree begins leafOf precedes firstDifference everyString
+unfolding codeOf tern every firstFailing agree begins leafOf precedes lower everyString
 tern-ordered = ordered-by-tests (codeOf (tern .leaves)) 1 9 refl refl refl refl refl refl
 
 pub bin-ordered : OrderedCode (codeOf (bin .leaves)) 2 5
-unfolding codeOf bin every firstFailing agree begins leafOf precedes firstDifference everyString
+unfolding codeOf bin every firstFailing agree begins leafOf precedes lower everyString
 bin-ordered = ordered-by-tests (codeOf (bin .leaves)) 2 5 refl refl refl refl refl refl
 
 -- so every row of their input digits is converted into alphabet digits

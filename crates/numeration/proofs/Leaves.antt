@@ -7,15 +7,14 @@ use Prim.Native.Nat.{ℕ, zero, suc, _+_, _-_, _<_, _≤_, min}
 use native.Mathlib.Omega.{arith}
 use native.Mathlib.Decide.{decLt}
 use native.Mathlib.Nat.{zero-add, add-zero, add-suc}
-use lib.Dec.{ltb}
-use borrow.Author.Tests.{not-false, not-true, ltb-true, eqb-true, lt-ltb, eq-eqb, ne-eqb}
+use borrow.Author.Tests.{not-false, not-true}
 use lib.ListN.{length, getD, List·getD-eq-default}
 use Rattle.lists.specs.Span.{span}
 use Rattle.lists.proofs.Span.{length-span, getD-span}
-use Rattle.lists.proofs.Scan.{scan-passed, scan-failed, scan-ext, scan-unique}
-use Rattle.lists.proofs.Test.{clash, both}
-use Rattle.numeration.specs.Code.{Code, Agree, Inputs, begins, Begins, leafOf, depth, Precedes, Comparable, Separate, HasLeaf, Complete, CompleteAt, OrderedCode, PrefixCode, precedes, firstDifference}
-use Rattle.numeration.proofs.Agreement.{agree-sound, agree-complete, agree-ext, largest-bound, largest-reached}
+use Rattle.lists.proofs.Scan.{scan-passed, scan-failed, scan-ext}
+use Rattle.lists.proofs.Test.{clash}
+use Rattle.numeration.specs.Code.{Code, Agree, Inputs, begins, Begins, leafOf, depth, Precedes, Comparable, Separate, HasLeaf, Complete, CompleteAt, OrderedCode, PrefixCode, precedes}
+use Rattle.numeration.proofs.Agreement.{agree-sound, agree-complete, agree-ext, lower-sound, lower-complete, largest-bound, largest-reached}
 
 -- a place outside the row holds the digit zero, so a row's places all hold input indexes
 pub getD-inputs : (m : ℕ) (row : List ℕ) → 0 < m → Inputs m row → (i : ℕ) → getD row i 0 < m
@@ -107,21 +106,12 @@ module _ {A : Type 0} (c : Code A) where
 
   -- the test of the order says what the statement says
   pub precedes-sound : (k l : ℕ) → precedes c k l ≡ true → Precedes c k l
-  unfolding precedes firstDifference
-  precedes-sound k l h =
-      let d : ℕ = firstDifference c k l in
-      let (e, f) = both (ltb d (min (c .size k) (c .size l))) (ltb (c .digit k d) (c .digit l d)) h in
-      (d, ltb-true _ _ e, (λ i l. eqb-true _ _ (scan-passed _ 0 _ i (omega arith) l)), ltb-true _ _ f)
+  unfolding precedes
+  precedes-sound k l h = lower-sound _ _ _ h
 
   pub precedes-complete : (k l : ℕ) → Precedes c k l → precedes c k l ≡ true
-  unfolding precedes firstDifference
-  precedes-complete k l (i, h, a, d) =
-      let n : ℕ = min (c .size k) (c .size l) in
-      let first : firstDifference c k l ≡ i = scan-unique _ 0 n i (omega arith) (omega arith) (λ j low lt. eq-eqb _ _ (a j lt)) (ne-eqb _ _ (λ e. none e)) in
-      rw (lt-ltb (firstDifference c k l) n (rw first h)) (rw first (lt-ltb _ _ d))
-    where
-      none : c .digit k i ≡ c .digit l i → ⊥
-      none e = omega arith
+  unfolding precedes
+  precedes-complete k l h = lower-complete _ _ _ h
 
   -- strings of n digits suffice where no word is longer than n, and are needed
   pub complete-strings : (n m : ℕ) → 0 < m → ((k : ℕ) → k < c .leaves → c .size k ≤ n) → CompleteAt c n m ↔ Complete c m

@@ -21,6 +21,15 @@ agree v w n = every (λ i. eqb (v i) (w i)) 0 n
 abbrev pub Agree : (ℕ → ℕ) → (ℕ → ℕ) → ℕ → Type 0
 Agree v w n = (i : ℕ) → i < n → v i ≡ w i
 
+-- of the first n places, at the first where two strings differ, the second has the higher digit: as a test, and as a statement
+unfoldable pub lower : (ℕ → ℕ) → (ℕ → ℕ) → ℕ → Bool
+lower v w n =
+    let i = firstFailing (λ i. eqb (v i) (w i)) 0 n in
+    ltb i n && ltb (v i) (w i)
+
+abbrev pub Lower : (ℕ → ℕ) → (ℕ → ℕ) → ℕ → Type 0
+Lower v w n = (i : ℕ) × (i < n) × Agree v w i × (v i < w i)
+
 -- every digit of a string is one of m input indexes
 abbrev pub Below : ℕ → (ℕ → ℕ) → Type 0
 Below m w = (i : ℕ) → w i < m
@@ -50,19 +59,13 @@ module _ {A : Type 0} (c : Code A) where
   unfoldable pub depth : ℕ
   depth = largest (c .size) (c .leaves)
 
-  -- the first place at which two words differ, within both; the shorter length where they agree as far as both reach
-  unfoldable pub firstDifference : ℕ → ℕ → ℕ
-  firstDifference k l = firstFailing (λ i. eqb (c .digit k i) (c .digit l i)) 0 (min (c .size k) (c .size l))
-
   -- "in increasing order of index at the first place where neighbours differ", and neither word begins the other: as a test,
   -- and as a statement
   unfoldable pub precedes : ℕ → ℕ → Bool
-  precedes k l =
-      let i = firstDifference k l in
-      ltb i (min (c .size k) (c .size l)) && ltb (c .digit k i) (c .digit l i)
+  precedes k l = lower (c .digit k) (c .digit l) (min (c .size k) (c .size l))
 
   abbrev pub Precedes : ℕ → ℕ → Type 0
-  Precedes k l = (i : ℕ) × (i < min (c .size k) (c .size l)) × Agree (c .digit k) (c .digit l) i × (c .digit k i < c .digit l i)
+  Precedes k l = Lower (c .digit k) (c .digit l) (min (c .size k) (c .size l))
 
   -- two words agree as far as both reach: one of them begins the other
   abbrev pub Comparable : ℕ → ℕ → Type 0

@@ -1,5 +1,6 @@
 -- Laws of sum, difference and scaling, for every degree. A missing part is zero, so most need no word on the degree.
-use mathlib.Core.Path.{_≡_, refl, sym, ap, _∙_}
+use mathlib.Core.Path.{_≡_, refl, sym, ap, ap₂, _∙_}
+use mathlib.Core.Bool.{true, _&&_}
 use mathlib.Core.List.{List, [], _∷_}
 use Prim.Native.Nat.{ℕ, zero, suc, _+_, _≤_, max}
 use native.Mathlib.Omega.{arith}
@@ -7,9 +8,11 @@ use native.Mathlib.Nat.{not-suc-le-zero}
 use lib.ListN.{length, take, length-map, List·getD-map}
 use lib.IntN.{ℤ, pos, negℤ, _+ℤ_, _-ℤ_, _*ℤ_, +ℤ-assoc, +ℤ-comm, +ℤ-idl, +ℤ-idr, +ℤ-invl, *ℤ-comm, *ℤ-zero, zero-*ℤ}
 use Rattle.lists.proofs.Cons.{cons≡}
+use Rattle.lists.proofs.Test.{both, clash}
+use Rattle.integers.proofs.Test.{eqZ-refl, eqZ→≡}
 use Rattle.integers.proofs.Laws.{*-distrib, +-distrib, *-assoc, one-*}
 use Rattle.integers.proofs.Size.{natAbs-+, natAbs-neg}
-use Rattle.ring.specs.Element.{part, zeros, plus, negative, minus, scale, Within}
+use Rattle.ring.specs.Element.{part, zeros, plus, negative, minus, scale, same, Within}
 
 pub plus-nil : (x : List ℤ) → plus x [] ≡ x
 unfolding plus
@@ -175,3 +178,22 @@ raise-scale k x = cons≡ (sym (*ℤ-zero k)) refl
 pub take-zeros : (n : ℕ) → take n (zeros (suc n)) ≡ zeros n
 take-zeros zero = refl
 take-zeros (suc n) = cons≡ refl (take-zeros n)
+
+-- ---- an element taken from a sum, and the test of equality
+
+pub plus-minus : (x y : List ℤ) → length x ≤ length y → minus (plus x y) x ≡ y
+unfolding minus
+plus-minus x y h =
+    plus-comm (plus x y) (negative x) ∙ sym (plus-assoc (negative x) x y) ∙ ap (λ z. plus z y) (negative-plus x) ∙ zeros-plus y (length x) h
+
+pub same-refl : (x : List ℤ) → same x x ≡ true
+unfolding same
+same-refl [] = refl
+same-refl (a ∷ x) = ap₂ (λ b c. b && c) (eqZ-refl a) (same-refl x)
+
+pub same→≡ : (x y : List ℤ) → same x y ≡ true → x ≡ y
+unfolding same
+same→≡ [] [] h = refl
+same→≡ [] (b ∷ y) h = clash h refl
+same→≡ (a ∷ x) [] h = clash h refl
+same→≡ (a ∷ x) (b ∷ y) h = let c = both _ _ h in cons≡ (eqZ→≡ a b (c .0)) (same→≡ x y (c .1))

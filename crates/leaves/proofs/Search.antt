@@ -1,0 +1,91 @@
+-- Laws of the look-up's binary search.
+use mathlib.Core.Path.{_≡_, sym, ap, _∙_}
+use mathlib.Core.Bool.{true, false}
+use mathlib.Core.List.{List}
+use Prim.Native.Nat.{ℕ, _+_, _<_, _≤_, min}
+use native.Mathlib.Decide.{decLt}
+use native.Mathlib.Omega.{arith}
+use Rattle.lists.proofs.Test.{clash}
+use Rattle.numeration.specs.Code.{Code, Lower, Precedes, Begins}
+use Rattle.numeration.proofs.Agreement.{lower-sound, lower-complete}
+use Rattle.numeration.proofs.Leaves.{precedes-all, ordered-separate, leafOf-unique}
+use Rattle.leaves.specs.Window.{digits, above, Sorted, LookedUp}
+
+module _ {A : Type 0} (c : Code A) (window : List ℕ) where
+  -- a leaf k that begins the window, beside any other
+  module _ (s : Sorted c) (k : ℕ) (leaf : k < c .leaves) (b : Begins c k (digits window)) (other : ℕ) (is : other < c .leaves) where
+    -- above the window are only later leaves
+    later : Lower (digits window) (c .digit other) (min (c .size other) 8) → k < other
+    later (i, h, a, d) =
+        elim (decLt k other) [
+          | yes l ↦ l
+          | no l ↦ elim (decLt other k) [
+            | yes q ↦ absurd (not-before (precedes-all c (s .ordered) other k q leaf))
+            | no q ↦ let same : other ≡ k = omega arith in absurd (not-same same)
+          ]
+        ]
+      where
+        not-same : other ≡ k → ⊥
+        not-same e = omega (arith, b i (omega (arith, ap (c .size) e)), ap (λ (l : ℕ). c .digit l i) e)
+
+        not-before : Precedes c other k → ⊥
+        not-before (j, hj, g, e) =
+            elim (decLt i j) [
+              | yes p ↦ omega (arith, g i p, b i (omega arith))
+              | no p ↦ elim (decLt j i) [
+                | yes q ↦ omega (arith, a j q, b j (omega arith))
+                | no q ↦ let same : j ≡ i = omega arith in omega (arith, b j (omega arith), ap (c .digit other) same, ap (digits window) same)
+              ]
+            ]
+
+    pub above-later : above c window other ≡ true → k < other
+    unfolding above
+    above-later h = later (lower-sound _ _ _ h)
+
+    -- and all later leaves are above it
+    pub not-above : above c window other ≡ false → other ≤ k
+    unfolding above
+    not-above h =
+        elim (decLt k other) [
+          | yes l ↦ clash (lower-complete _ _ _ (higher (precedes-all c (s .ordered) k other l is))) h
+          | no l ↦ omega arith
+        ]
+      where
+        higher : Precedes c k other → Lower (digits window) (c .digit other) (min (c .size other) 8)
+        higher (i, h, a, d) = (i, omega (arith, s .short k leaf), (λ j l. sym (b j (omega arith)) ∙ a j l), omega (arith, b i (omega arith)))
+
+  -- where the search is: leaves from low up to high, among them one that begins the window
+  pub record Between (low high : ℕ) : Type 0 where
+    pub rising : low ≤ high
+    pub inside : high ≤ c .leaves
+    pub some : 0 < c .leaves → low < high
+    pub holds : Sorted c → (k : ℕ) → k < c .leaves → Begins c k (digits window) → (low ≤ k) × (k < high)
+
+  pub between-all : (n : ℕ) → n ≡ c .leaves → Between 0 n
+  between-all n all = record { rising = omega arith; inside = omega arith; some = λ h. omega arith; holds = λ s k h b. omega arith }
+
+  module _ (low high middle : ℕ) (at : Between low high) (l : low < middle) (h : middle < high) where
+    pub between-lower : above c window middle ≡ true → Between low middle
+    between-lower e =
+        record {
+          rising = omega arith;
+          inside = omega (arith, at .inside);
+          some = λ _. l;
+          holds = λ s k leaf b. (at .holds s k leaf b .0, above-later s k leaf b middle (omega (arith, at .inside)) e);
+        }
+
+    pub between-upper : above c window middle ≡ false → Between middle high
+    between-upper e =
+        record {
+          rising = omega arith;
+          inside = at .inside;
+          some = λ _. h;
+          holds = λ s k leaf b. (not-above s k leaf b middle (omega (arith, at .inside)) e, at .holds s k leaf b .1);
+        }
+
+  pub between-one : (low high : ℕ) → Between low high → high ≤ low + 1 → LookedUp c window low
+  between-one low high at h =
+      record {
+        a-leaf = λ n. omega (arith, at .some n, at .inside);
+        the-leaf = λ s w. let (k, leaf, b) = w in let range = at .holds s k leaf b in let same : low ≡ k = omega arith in same ∙ sym (leafOf-unique c (ordered-separate c (s .ordered)) (digits window) k leaf b);
+      }

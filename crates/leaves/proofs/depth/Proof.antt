@@ -1,0 +1,54 @@
+use mathlib.Core.Logic.{⊎-elim}
+use mathlib.Core.Path.{_≡_, refl}
+use Prim.Native.Nat.{_≤_, _-_}
+use native.Mathlib.Omega.{arith}
+use borrow.Author.Needs.{needs}
+use Rattle.numeration.specs.Code.{largest}
+use Rattle.leaves.specs.Leaf.{wordLength}
+use Rattle.leaves.proofs.Leaf.{largest-next, depth-end}
+use Rattle.leaves.proofs.depth.Statement.{statement}
+use Rattle.leaves.proofs.depth.Tie as tie
+
+abbrev Inv-loop : tie.InvT-loop
+Inv-loop leaves count longest₀ leaf₀ longest leaf = (leaf ≤ count) × (longest ≡ largest (wordLength leaves) leaf)
+
+abbrev μ-loop : tie.MeasureT-loop
+μ-loop leaves count longest₀ leaf₀ longest leaf = count - leaf
+
+leaf-count-requires : tie.Need-leaf-count-requires Inv-loop μ-loop
+leaf-count-requires c κs = search needs
+
+loop-holds : tie.Need-loop-holds Inv-loop μ-loop
+unfolding largest
+loop-holds c = (search needs, refl)
+
+word-length-requires : tie.Need-word-length-requires Inv-loop μ-loop
+word-length-requires c κs = omega arith
+
+add-leaf : tie.Need-add-leaf Inv-loop μ-loop
+add-leaf c = search needs
+
+loop-less : tie.Need-loop-less Inv-loop μ-loop
+loop-less c = search needs
+
+loop-again : tie.Need-loop-again Inv-loop μ-loop
+loop-again c =
+    let next = largest-next (wordLength (c .before .before .before .before .before .before .args .leaves .now)) (c .before .before .before .loop .leaf) in
+    (search needs, ⊎-elim (λ w. omega (arith, next)) (λ w. omega (arith, next)) (c .if1 .came))
+
+returns : tie.Need-returns Inv-loop μ-loop
+returns c = depth-end (c .before .before .before .before .args .leaves .now) (c .before .loop .leaf) (c .before .loop .longest) (c .before .loop .inv .1) (omega arith)
+
+pub depth-spec : {M : Type 1} → statement M
+depth-spec =
+    tie.close
+    (tie.spec
+    Inv-loop
+    μ-loop
+    leaf-count-requires
+    loop-holds
+    word-length-requires
+    add-leaf
+    loop-less
+    loop-again
+    returns)

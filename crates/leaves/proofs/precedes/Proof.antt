@@ -1,0 +1,67 @@
+use mathlib.Core.Path.{_∙_, ap₂}
+use Prim.Native.Nat.{min}
+use borrow.Author.Needs.{needs}
+use Rattle.leaves.proofs.Comparison.{lower-differs, lower-same, words-read}
+use Rattle.leaves.proofs.precedes.Statement.{statement}
+use Rattle.leaves.proofs.precedes.Tie as tie
+
+word-start-requires : tie.Need-word-start-requires
+word-start-requires c κs = search needs
+
+add-word-start : tie.Need-add-word-start
+add-word-start c = search needs
+
+word-start-requires-2 : tie.Need-word-start-requires-2
+word-start-requires-2 c κs = search needs
+
+word-length-requires : tie.Need-word-length-requires
+word-length-requires c κs = search needs
+
+add-word-length : tie.Need-add-word-length
+add-word-length c = search needs
+
+word-length-requires-2 : tie.Need-word-length-requires-2
+word-length-requires-2 c κs = search needs
+
+least-requires : tie.Need-least-requires
+least-requires c κs = search needs
+
+first-difference-requires : tie.Need-first-difference-requires
+first-difference-requires c κs = search needs
+
+add-byte-at : tie.Need-add-byte-at
+add-byte-at c = search needs
+
+byte-at-requires : tie.Need-byte-at-requires
+byte-at-requires c κs = search needs
+
+add-byte-at-2 : tie.Need-add-byte-at-2
+add-byte-at-2 c = search needs
+
+byte-at-requires-2 : tie.Need-byte-at-requires-2
+byte-at-requires-2 c κs = search needs
+
+returns : tie.Need-returns
+returns c = lower-differs _ _ _ _ (c .before .before .before .first-difference .ensures) (c .before .before .if1 .taken) _ _ (c .before .byte-at .ensures) (c .byte-at2 .ensures) ∙ words-read (c .before .before .before .before .before .before .before .before .before .before .before .args .leaves .now) (c .before .before .before .before .before .before .before .before .before .before .before .args .words .now) _ _ _ _ _ (c .before .before .before .before .before .before .before .before .word-start .ensures .0) (c .before .before .before .before .before .before .before .word-start2 .ensures .0) (c .before .before .before .before .least .ensures ∙ ap₂ min (c .before .before .before .before .before .before .word-length .ensures .0) (c .before .before .before .before .before .word-length2 .ensures .0))
+
+returns-2 : tie.Need-returns-2
+returns-2 c = lower-same _ _ _ _ (c .before .first-difference .ensures) (c .if1 .left) ∙ words-read (c .before .before .before .before .before .before .before .before .before .args .leaves .now) (c .before .before .before .before .before .before .before .before .before .args .words .now) _ _ _ _ _ (c .before .before .before .before .before .before .word-start .ensures .0) (c .before .before .before .before .before .word-start2 .ensures .0) (c .before .before .least .ensures ∙ ap₂ min (c .before .before .before .before .word-length .ensures .0) (c .before .before .before .word-length2 .ensures .0))
+
+pub precedes-spec : {M : Type 1} → statement M
+precedes-spec =
+    tie.close
+    (tie.spec
+    word-start-requires
+    add-word-start
+    word-start-requires-2
+    word-length-requires
+    add-word-length
+    word-length-requires-2
+    least-requires
+    first-difference-requires
+    add-byte-at
+    byte-at-requires
+    add-byte-at-2
+    byte-at-requires-2
+    returns
+    returns-2)

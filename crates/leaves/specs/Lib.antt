@@ -1,0 +1,5 @@
+pub mod Leaf
+pub mod Coverage
+pub mod Check
+pub mod Window
+pub mod Broken

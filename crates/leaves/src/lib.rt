@@ -1,0 +1,371 @@
+// The leaves of a table as a complete prefix code: rules 9 to 13 of document 01, the depth, and the look-up with a leaf's word and
+// weight. Sections 3 and 4 come as two parts, of a file or not.
+ghost use mathlib.Core.Path.{_≡_};
+ghost use mathlib.Core.List.{List};
+ghost use Prim.Native.Nat.{ℕ, _+_, _-_, _≤_, _<_};
+ghost use lib.ListN.{length, getD};
+ghost use lib.Dec.{eqb};
+ghost use Rattle.lists.specs.Scan.{firstFailing};
+ghost use Rattle.faults.specs.Check.{none};
+ghost use Rattle.ring.specs.Element.{Within};
+ghost use Rattle.numeration.specs.Code as code;
+ghost use Rattle.leaves.specs.Leaf.{leafCount, wordStart, wordLength, codeOf, wordGiven, weightGiven};
+ghost use Rattle.leaves.specs.Coverage as coverage;
+ghost use Rattle.leaves.specs.Check.{expectedStart, leafAllowed, placeCheck, indexCheck, orderCheck, coverCheck, zeroCheck, leafCheck};
+ghost use Rattle.leaves.specs.Window as windows;
+use faults::Refusal;
+
+// The bytes of a leaf: offset and length of its word, then its weight.
+const LEAF: usize = 8;
+
+// The most digits of a word, and the digits of a window.
+const LONGEST: usize = 8;
+
+pub fn leaf_count(leaves: &[u8]) -> usize
+    ensures { λ r. ⌜ r ≡ leafCount (now (leaves .entry)) ⌝ }
+{
+    leaves.len() / LEAF
+}
+
+// Where a leaf's word starts in section 4, and its length.
+fn word_start(leaves: &[u8], leaf: usize) -> usize
+    requires { ⌜ leaf < leafCount (now leaves) ⌝ }
+    ensures { λ r. ⌜ (r ≡ wordStart (now (leaves .entry)) leaf) × (r < 65536) ⌝ }
+{
+    layout::unsigned(leaves, leaf * LEAF)
+}
+
+pub fn word_length(leaves: &[u8], leaf: usize) -> usize
+    requires { ⌜ leaf < leafCount (now leaves) ⌝ }
+    ensures { λ r. ⌜ (r ≡ wordLength (now (leaves .entry)) leaf) × (r < 65536) ⌝ }
+{
+    layout::unsigned(leaves, leaf * LEAF + 2)
+}
+
+// The byte at a place, 0 past the end.
+fn byte_at(bytes: &[u8], at: usize) -> u8
+    ensures { λ r. ⌜ r ≡ getD (now (bytes .entry)) at 0 ⌝ }
+{
+    if at < bytes.len() { bytes[at] } else { 0 }
+}
+
+fn least(a: usize, b: usize) -> usize
+    ensures { λ r. ⌜ r ≡ Prim.Native.Nat.min a b ⌝ }
+{
+    if a < b { a } else { b }
+}
+
+// A leaf's word as that part of section 4: an empty one where there is no such leaf or its record points outside.
+pub fn word<'a>(leaves: &[u8], words: &'a [u8], leaf: usize) -> &'a [u8]
+    ensures { λ r. ⌜ now r ≡ wordGiven (now (leaves .entry)) (now (words .entry)) leaf ⌝ }
+{
+    if leaf_count(leaves) <= leaf {
+        return &words[0..0];
+    }
+    let start = word_start(leaves, leaf);
+    let end = start + word_length(leaves, leaf);
+    if words.len() < end {
+        return &words[0..0];
+    }
+    &words[start..end]
+}
+
+// A leaf's weight: zero where there is no such leaf.
+pub fn weight(leaves: &[u8], leaf: usize) -> [i64; 2]
+    ensures { λ r. ⌜ (r ≡ weightGiven (now (leaves .entry)) leaf) × Within 32768 r ⌝ }
+{
+    if leaf < leaf_count(leaves) {
+        return digits::element(leaves, leaf * LEAF + 4);
+    }
+    [0, 0]
+}
+
+// The depth: the longest word length.
+pub fn depth(leaves: &[u8]) -> usize
+    ensures { λ r. ⌜ ((words : List ℕ) → r ≡ code.depth (codeOf (now (leaves .entry)) words)) ⌝ }
+{
+    let count = leaf_count(leaves);
+    let mut longest = 0;
+    let mut leaf = 0;
+    while leaf < count {
+        let length = word_length(leaves, leaf);
+        if longest < length {
+            longest = length;
+        }
+        leaf += 1;
+    }
+    longest
+}
+
+// Where a leaf's word must start: at 0, or where the one before ends.
+fn expected_start(leaves: &[u8], leaf: usize) -> usize
+    requires { ⌜ leaf < leafCount (now leaves) ⌝ }
+    ensures { λ r. ⌜ r ≡ expectedStart (now (leaves .entry)) leaf ⌝ }
+{
+    if leaf == 0 {
+        0
+    } else {
+        word_start(leaves, leaf - 1) + word_length(leaves, leaf - 1)
+    }
+}
+
+// Rule 9 at a leaf, with the length of section 4.
+fn leaf_allowed(leaves: &[u8], all: usize, leaf: usize) -> bool
+    requires { ⌜ leaf < leafCount (now leaves) ⌝ }
+    ensures { λ r. ⌜ r ≡ leafAllowed (now (leaves .entry)) all leaf ⌝ }
+{
+    let start = word_start(leaves, leaf);
+    let length = word_length(leaves, leaf);
+    if length < 1 {
+        return false;
+    }
+    if LONGEST < length {
+        return false;
+    }
+    if start != expected_start(leaves, leaf) {
+        return false;
+    }
+    if all < start + length {
+        return false;
+    }
+    if leaf + 1 < leaf_count(leaves) {
+        return true;
+    }
+    start + length == all
+}
+
+// Rule 9: the words lie one after the other.
+fn places(leaves: &[u8], words: &[u8]) -> Refusal
+    ensures { λ r. ⌜ r ≡ placeCheck (now (leaves .entry)) (now (words .entry)) ⌝ }
+{
+    let count = leaf_count(leaves);
+    let mut leaf = 0;
+    while leaf < count {
+        if !leaf_allowed(leaves, words.len(), leaf) {
+            return Refusal {
+                number: 9,
+                place: leaf,
+            };
+        }
+        leaf += 1;
+    }
+    Refusal {
+        number: 0,
+        place: 0,
+    }
+}
+
+// Rule 10: every word byte is an input index.
+fn indexes(words: &[u8], inputs: usize) -> Refusal
+    ensures { λ r. ⌜ r ≡ indexCheck (now (words .entry)) inputs ⌝ }
+{
+    let mut i = 0;
+    while i < words.len() {
+        if inputs <= wide(words[i]) {
+            return Refusal {
+                number: 10,
+                place: i,
+            };
+        }
+        i += 1;
+    }
+    Refusal {
+        number: 0,
+        place: 0,
+    }
+}
+
+fn wide(x: u8) -> usize
+    ensures { λ r. ⌜ r ≡ x ⌝ }
+{
+    x as usize
+}
+
+// The first of n places at which the bytes from a on differ from the other bytes from b on, or n.
+fn first_difference(bytes: &[u8], a: usize, other: &[u8], b: usize, n: usize) -> usize
+    requires { ⌜ (a < 65536) × (b < 65536) × (n < 65536) ⌝ }
+    ensures { λ r. ⌜ r ≡ firstFailing (λ i. eqb (getD (now (bytes .entry)) (a + i) 0) (getD (now (other .entry)) (b + i) 0)) 0 n ⌝ }
+{
+    let mut i = 0;
+    while i < n {
+        if byte_at(bytes, a + i) != byte_at(other, b + i) {
+            return i;
+        }
+        i += 1;
+    }
+    i
+}
+
+// Rule 11 at a leaf and the next one: the later word is above, and neither begins the other.
+fn precedes(leaves: &[u8], words: &[u8], leaf: usize) -> bool
+    requires { ⌜ leaf + 1 < leafCount (now leaves) ⌝ }
+    ensures { λ r. ⌜ r ≡ code.precedes (codeOf (now (leaves .entry)) (now (words .entry))) leaf (leaf + 1) ⌝ }
+{
+    let a = word_start(leaves, leaf);
+    let b = word_start(leaves, leaf + 1);
+    let n = least(word_length(leaves, leaf), word_length(leaves, leaf + 1));
+    let i = first_difference(words, a, words, b, n);
+    if i < n {
+        return byte_at(words, a + i) < byte_at(words, b + i);
+    }
+    false
+}
+
+// Rule 11: the words rise, and none begins another.
+fn order(leaves: &[u8], words: &[u8]) -> Refusal
+    ensures { λ r. ⌜ r ≡ orderCheck (now (leaves .entry)) (now (words .entry)) ⌝ }
+{
+    let count = leaf_count(leaves);
+    let mut leaf = 0;
+    while leaf + 1 < count {
+        if !precedes(leaves, words, leaf) {
+            return Refusal {
+                number: 11,
+                place: leaf + 1,
+            };
+        }
+        leaf += 1;
+    }
+    Refusal {
+        number: 0,
+        place: 0,
+    }
+}
+
+// Of the leaves from low up to high, the first whose digit at a place isn't this one.
+fn run_end(
+    leaves: &[u8],
+    words: &[u8],
+    place: usize,
+    digit: usize,
+    low: usize,
+    high: usize,
+) -> usize
+    requires { ⌜ (place ≤ 8) × (low ≤ high) × (high ≤ leafCount (now leaves)) ⌝ }
+    ensures { λ r. ⌜ r ≡ coverage.runEnd (codeOf (now (leaves .entry)) (now (words .entry))) place digit low high ⌝ }
+{
+    let mut leaf = low;
+    while leaf < high {
+        if wide(byte_at(words, word_start(leaves, leaf) + place)) != digit {
+            return leaf;
+        }
+        leaf += 1;
+    }
+    leaf
+}
+
+// Rule 12 among the leaves from low up to high, which share their first digits: strings without a leaf are looked for one digit
+// deeper at a time, with so many digits left of eight.
+fn covered(leaves: &[u8], words: &[u8], inputs: usize, left: usize, low: usize, high: usize) -> bool
+    requires { ⌜ (left ≤ 8) × (high ≤ leafCount (now leaves)) ⌝ }
+    ensures { λ r. ⌜ r ≡ coverage.covered (codeOf (now (leaves .entry)) (now (words .entry))) inputs left (8 - left) low high ⌝ }
+{
+    let place = LONGEST - left;
+    if high <= low {
+        return false;
+    }
+    if word_length(leaves, low) <= place {
+        return true;
+    }
+    if left == 0 {
+        return false;
+    }
+    let mut from = low;
+    let mut digit = 0;
+    while digit < inputs {
+        let end = run_end(leaves, words, place, digit, from, high);
+        if !covered(leaves, words, inputs, left - 1, from, end) {
+            return false;
+        }
+        from = end;
+        digit += 1;
+    }
+    true
+}
+
+// Rule 12: every string of eight begins with a leaf.
+fn cover(leaves: &[u8], words: &[u8], inputs: usize) -> Refusal
+    ensures { λ r. ⌜ r ≡ coverCheck (now (leaves .entry)) (now (words .entry)) inputs ⌝ }
+{
+    if covered(leaves, words, inputs, LONGEST, 0, leaf_count(leaves)) {
+        return Refusal {
+            number: 0,
+            place: 0,
+        };
+    }
+    Refusal {
+        number: 12,
+        place: 0,
+    }
+}
+
+// Rule 13: leaf 0 has the weight zero.
+fn zero_weight(leaves: &[u8]) -> Refusal
+    requires { ⌜ 0 < leafCount (now leaves) ⌝ }
+    ensures { λ r. ⌜ r ≡ zeroCheck (now (leaves .entry)) ⌝ }
+{
+    if ring::equal(digits::element(leaves, 4), [0, 0]) {
+        return Refusal {
+            number: 0,
+            place: 0,
+        };
+    }
+    Refusal {
+        number: 13,
+        place: 0,
+    }
+}
+
+// Rules 9 to 13, of sections 3 and 4 and the count of input digits.
+pub fn prefix_code(leaves: &[u8], words: &[u8], inputs: usize) -> Refusal
+    ensures { λ r. ⌜ r ≡ leafCheck (now (leaves .entry)) (now (words .entry)) inputs ⌝ }
+{
+    let nine = places(leaves, words);
+    if nine.number != 0 {
+        return nine;
+    }
+    let ten = indexes(words, inputs);
+    if ten.number != 0 {
+        return ten;
+    }
+    let eleven = order(leaves, words);
+    if eleven.number != 0 {
+        return eleven;
+    }
+    let twelve = cover(leaves, words, inputs);
+    if twelve.number != 0 {
+        return twelve;
+    }
+    zero_weight(leaves)
+}
+
+// Whether a leaf's word is above the window at the first place where they differ.
+fn above(leaves: &[u8], words: &[u8], window: &[u8; 8], leaf: usize) -> bool
+    requires { ⌜ leaf < leafCount (now leaves) ⌝ }
+    ensures { λ r. ⌜ r ≡ windows.above (codeOf (now (leaves .entry)) (now (words .entry))) (now (window .entry)) leaf ⌝ }
+{
+    let start = word_start(leaves, leaf);
+    let n = least(word_length(leaves, leaf), LONGEST);
+    let i = first_difference(window, 0, words, start, n);
+    if i < n {
+        return byte_at(window, i) < byte_at(words, start + i);
+    }
+    false
+}
+
+// The number of the leaf whose word begins the window, by binary search of the ordered words.
+pub fn look_up(leaves: &[u8], words: &[u8], window: [u8; 8]) -> usize
+    ensures { λ r. ⌜ windows.LookedUp (codeOf (now (leaves .entry)) (now (words .entry))) window r ⌝ }
+{
+    let mut low = 0;
+    let mut high = leaf_count(leaves);
+    while low + 1 < high {
+        let middle = low + (high - low) / 2;
+        if above(leaves, words, &window, middle) {
+            high = middle;
+        } else {
+            low = middle;
+        }
+    }
+    low
+}
