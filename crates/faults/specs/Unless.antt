@@ -1,0 +1,9 @@
+-- From a check's refusal to a call's outcome (document 01, "Who sends a fault").
+use mathlib.Core.Bool.{true, false}
+use lib.Dec.{eqb}
+use Rattle.faults.specs.declared.Refusal.{Refusal}
+use Rattle.faults.specs.Outcome.{Group, Outcome, refused}
+
+-- refused in the group's name where the check found something, else what follows
+unfoldable pub unless : {F : Type 0} → Group → Refusal → Outcome F → Outcome F
+unless whose found rest = elim (eqb (found .number) 0) [ true ↦ rest | false ↦ refused whose (found .number) (found .place) ]

@@ -1,0 +1,41 @@
+-- What a file that passes rules 1 to 4 gives.
+use mathlib.Core.Path.{_≡_, sym, ap, _∙_}
+use mathlib.Core.List.{List}
+use Prim.Native.Nat.{ℕ, _≤_, _<_}
+use native.Mathlib.Omega.{arith}
+use lib.ListN.{length}
+use Rattle.faults.specs.declared.Refusal.{Refusal}
+use Rattle.faults.specs.Check.{_then_}
+use Rattle.faults.proofs.Check.{then-kept}
+use Rattle.layout.specs.Section.{sectionStart, sectionEnd, partOf}
+use Rattle.layout.specs.Directory.{directoryCheck}
+use Rattle.layout.specs.Length.{lengthCheck, sectionLengths}
+use Rattle.layout.specs.Limit.{limitCheck}
+use Rattle.layout.proofs.Laid.{laid}
+use Rattle.reader.specs.Table.{layoutCheck, digitsOf, leavesOf, tableCheck}
+
+-- what a stage that found nothing says of its definition
+pub stage-nothing : (found a : Refusal) → found ≡ a → found .number ≡ 0 → a .number ≡ 0
+stage-nothing found a e z = ap (λ (r : Refusal). r .number) (sym e) ∙ z
+
+-- rules 1 and 2, 3, and 4, each found nothing
+pub layout-kept : (file : List ℕ) → layoutCheck file .number ≡ 0 → (directoryCheck file .number ≡ 0) × (lengthCheck (sectionLengths file) .number ≡ 0) × (limitCheck file .number ≡ 0)
+unfolding layoutCheck
+layout-kept file h =
+    let first = then-kept (directoryCheck file) (lengthCheck (sectionLengths file) then limitCheck file) h in
+    let rest = then-kept (lengthCheck (sectionLengths file)) (limitCheck file) (first .1) in
+    (first .0, rest .0, rest .1)
+
+-- rules 1 to 4, 5 to 8, and 9 to 13, each found nothing
+pub table-kept : (file : List ℕ) → tableCheck file .number ≡ 0 → (layoutCheck file .number ≡ 0) × (digitsOf file .number ≡ 0) × (leavesOf file .number ≡ 0)
+unfolding tableCheck
+table-kept file h =
+    let first = then-kept (layoutCheck file) (digitsOf file then leavesOf file) h in
+    let rest = then-kept (digitsOf file) (leavesOf file) (first .1) in
+    (first .0, rest .0, rest .1)
+
+pub directory-room : (file : List ℕ) → directoryCheck file .number ≡ 0 → 20 ≤ length file
+directory-room file h = laid file h .low
+
+pub section-room : (file : List ℕ) → directoryCheck file .number ≡ 0 → (section : ℕ) → section < 5 → sectionEnd file section ≤ length file
+section-room file h section l = laid file h .placed section l .inside

@@ -1,0 +1,40 @@
+use Rattle.reader.proofs.Kept.{stage-nothing}
+use Rattle.reader.specs.Table.{layoutCheck, digitsOf, tableCheck}
+use Rattle.faults.proofs.Check.{found-first, found-next}
+use borrow.Author.Needs.{needs}
+use Rattle.reader.proofs.rules.Statement.{statement}
+use Rattle.reader.proofs.rules.Tie as tie
+
+layout-rules-requires : tie.Need-layout-rules-requires
+layout-rules-requires c κs = search needs
+
+returns : tie.Need-returns
+unfolding tableCheck
+returns c = found-first (layoutCheck (c .before .before .before .before .args .file .now)) _ _ (c .before .before .layout-rules .ensures) (c .if1 .taken)
+
+digit-rules-requires : tie.Need-digit-rules-requires
+digit-rules-requires c κs = stage-nothing (c .before .before .layout-rules .result) _ (c .before .before .layout-rules .ensures) (c .if1 .left)
+
+returns-2 : tie.Need-returns-2
+unfolding tableCheck
+returns-2 c =
+    found-next (layoutCheck (c .before .before .before .before .before .before .before .args .file .now)) _ _ _ (c .before .before .before .before .before .layout-rules .ensures) (c .before .before .before .if1 .left) (found-first (digitsOf (c .before .before .before .before .before .before .before .args .file .now)) _ _ (c .before .before .digit-rules .ensures) (c .if2 .taken))
+
+leaf-rules-requires : tie.Need-leaf-rules-requires
+leaf-rules-requires c κs = stage-nothing (c .before .before .before .before .before .layout-rules .result) _ (c .before .before .before .before .before .layout-rules .ensures) (c .before .before .before .if1 .left)
+
+returns-3 : tie.Need-returns-3
+unfolding tableCheck
+returns-3 c =
+    found-next (layoutCheck (c .before .before .before .before .before .before .before .before .args .file .now)) _ _ _ (c .before .before .before .before .before .before .layout-rules .ensures) (c .before .before .before .before .if1 .left) (found-next (digitsOf (c .before .before .before .before .before .before .before .before .args .file .now)) _ _ _ (c .before .before .before .digit-rules .ensures) (c .before .if2 .left) (c .leaf-rules .ensures))
+
+pub rules-spec : {M : Type 1} → statement M
+rules-spec =
+    tie.close
+    (tie.spec
+    layout-rules-requires
+    returns
+    digit-rules-requires
+    returns-2
+    leaf-rules-requires
+    returns-3)

@@ -1,0 +1,50 @@
+use Rattle.reader.specs.Table.{wordPart, tableFacts}
+use Rattle.leaves.specs.Leaf.{codeOf}
+use Rattle.numeration.specs.Code.{depth}
+use mathlib.Core.Path.{_≡_, ap, _∙_}
+use Rattle.reader.proofs.Kept.{layout-kept}
+use lib.Dec.{lit<}
+use borrow.Author.Needs.{needs}
+use Rattle.reader.proofs.table_facts.Statement.{statement}
+use Rattle.reader.proofs.table_facts.Tie as tie
+
+section-facts-requires : tie.Need-section-facts-requires
+section-facts-requires c κs = search needs
+
+section-facts-requires-2 : tie.Need-section-facts-requires-2
+section-facts-requires-2 c κs = search needs
+
+section-facts-requires-3 : tie.Need-section-facts-requires-3
+section-facts-requires-3 c κs = search needs
+
+section-facts-requires-4 : tie.Need-section-facts-requires-4
+section-facts-requires-4 c κs = search needs
+
+section-facts-requires-5 : tie.Need-section-facts-requires-5
+section-facts-requires-5 c κs = search needs
+
+section-requires : tie.Need-section-requires
+section-requires c κs = (layout-kept (c .before .before .before .before .before .before .args .file .now) (c .before .before .before .before .before .before .pre) .0, lit< tt)
+
+depth-requires : tie.Need-depth-requires
+depth-requires c κs = search needs
+
+returns : tie.Need-returns
+unfolding tableFacts
+returns c =
+    let words = wordPart (c .before .before .before .before .before .before .before .before .args .file .now) in
+    let deep = c .depth .ensures words ∙ ap (λ leaves. depth (codeOf leaves words)) (c .before .section .ensures) in
+    λ i. record { base = c .before .before .before .before .before .before .section-facts .ensures i; alphabet = c .before .before .before .before .before .section-facts2 .ensures i; inputs = c .before .before .before .before .section-facts3 .ensures i; leaves = c .before .before .before .section-facts4 .ensures i; words = c .before .before .section-facts5 .ensures i; depth = deep i }
+
+pub table-facts-spec : {M : Type 1} → statement M
+table-facts-spec =
+    tie.close
+    (tie.spec
+    section-facts-requires
+    section-facts-requires-2
+    section-facts-requires-3
+    section-facts-requires-4
+    section-facts-requires-5
+    section-requires
+    depth-requires
+    returns)
