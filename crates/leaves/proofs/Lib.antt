@@ -2,5 +2,8 @@ pub mod Leaf
 pub mod Place
 pub mod Comparison
 pub mod Coverage
+pub mod Strings
 pub mod Search
 pub mod Stage
+pub mod Broken
+pub mod Formed

@@ -2,7 +2,7 @@
 use mathlib.Core.Path.{_≡_}
 use mathlib.Core.List.{List, [], _∷_}
 use mathlib.Core.Logic.{_⊎_}
-use Prim.Native.Nat.{ℕ, zero, suc, _+_, _-_, _<_, _≤_}
+use Prim.Native.Nat.{ℕ, zero, suc, _+_, _<_}
 use lib.ListN.{length, getD}
 use Rattle.faults.specs.Rule.{Rule, rule}
 use Rattle.ring.specs.Element.{zeros}
@@ -31,7 +31,7 @@ Broken10 words m p = (p < length words) × ¬ (getD words p 0 < m)
 
 -- 11: a leaf's word isn't above the previous one, or one of the two begins the other (later leaf)
 abbrev pub Broken11 : List ℕ → List ℕ → ℕ → Type 0
-Broken11 leaves words p = (1 ≤ p) × (p < leafCount leaves) × ¬ (Precedes (codeOf leaves words) (p - 1) p)
+Broken11 leaves words p = (k : ℕ) × (p ≡ suc k) × (suc k < leafCount leaves) × ¬ (Precedes (codeOf leaves words) k (suc k))
 
 -- 12: some string of eight has no leaf
 abbrev pub Broken12 : List ℕ → List ℕ → ℕ → ℕ → Type 0

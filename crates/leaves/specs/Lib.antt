@@ -3,3 +3,4 @@ pub mod Coverage
 pub mod Check
 pub mod Window
 pub mod Broken
+pub mod Formed
