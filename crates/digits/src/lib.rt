@@ -68,13 +68,15 @@ fn base_rules(base: &[u8]) -> Refusal
 {
     let s = layout::signed(base, 0);
     let t = layout::signed(base, 2);
-    if ring::has_square_discriminant(s, t) {
+    let square = ring::has_square_discriminant(s, t);
+    let expanding = ring::is_expanding(s, t, layout::signed(base, 4), layout::signed(base, 6));
+    if square {
         return Refusal {
             number: 5,
             place: 0,
         };
     }
-    if !ring::is_expanding(s, t, layout::signed(base, 4), layout::signed(base, 6)) {
+    if !expanding {
         return Refusal {
             number: 6,
             place: 0,
@@ -101,16 +103,16 @@ fn record_allowed(part: &[u8], k: usize) -> bool
 fn alphabet_rule(alphabet: &[u8]) -> Refusal
     ensures { λ r. ⌜ r ≡ alphabetCheck (now (alphabet .entry)) ⌝ }
 {
-    let n = layout::record_count(alphabet, ALPHABET);
-    let mut k = 0;
-    while k < n {
-        if !record_allowed(alphabet, k) {
+    let count = layout::record_count(alphabet, ALPHABET);
+    let mut digit = 0;
+    while digit < count {
+        if !record_allowed(alphabet, digit) {
             return Refusal {
                 number: 7,
-                place: k,
+                place: digit,
             };
         }
-        k += 1;
+        digit += 1;
     }
     Refusal {
         number: 0,
@@ -188,21 +190,21 @@ fn input_allowed(alphabet: &[u8], inputs: &[u8], k: usize) -> bool
 fn input_rule(alphabet: &[u8], inputs: &[u8]) -> Refusal
     ensures { λ r. ⌜ r ≡ inputCheck (now (alphabet .entry)) (now (inputs .entry)) ⌝ }
 {
-    let n = layout::record_count(inputs, INPUTS);
-    let mut k = 0;
-    while k < n {
-        if !input_allowed(alphabet, inputs, k) {
+    let count = layout::record_count(inputs, INPUTS);
+    let mut input = 0;
+    while input < count {
+        if !input_allowed(alphabet, inputs, input) {
             return Refusal {
                 number: 8,
-                place: k,
+                place: input,
             };
         }
-        k += 1;
+        input += 1;
     }
     if !all_sums_listed(alphabet, inputs) {
         return Refusal {
             number: 8,
-            place: n,
+            place: count,
         };
     }
     Refusal {

@@ -12,10 +12,10 @@ use Rattle.digits.proofs.alphabet_rule.Statement.{statement}
 use Rattle.digits.proofs.alphabet_rule.Tie as tie
 
 abbrev Inv-loop : tie.InvT-loop
-Inv-loop alphabet n k₀ k = (k ≤ n) × (firstFailing (recordAllowed alphabet) k (n - k) ≡ firstFailing (recordAllowed alphabet) 0 n)
+Inv-loop alphabet count digit₀ digit = (digit ≤ count) × (firstFailing (recordAllowed alphabet) digit (count - digit) ≡ firstFailing (recordAllowed alphabet) 0 count)
 
 abbrev μ-loop : tie.MeasureT-loop
-μ-loop alphabet n k₀ k = n - k
+μ-loop alphabet count digit₀ digit = count - digit
 
 record-count-requires : tie.Need-record-count-requires Inv-loop μ-loop
 record-count-requires c κs = search needs
@@ -30,8 +30,8 @@ returns : tie.Need-returns Inv-loop μ-loop
 unfolding alphabetCheck
 returns c = judge-here 7 (λ k. k) _ _ _ (c .before .before .before .loop .inv .1) (c .before .before .loop-test .taken) (sym (c .before .record-allowed .ensures) ∙ not-true _ (c .if1 .taken)) ∙ ap (judge 7 (λ k. k) _) (c .before .before .before .before .record-count .ensures)
 
-add-k : tie.Need-add-k Inv-loop μ-loop
-add-k c = search needs
+add-digit : tie.Need-add-digit Inv-loop μ-loop
+add-digit c = search needs
 
 loop-less : tie.Need-loop-less Inv-loop μ-loop
 loop-less c = search needs
@@ -53,7 +53,7 @@ alphabet-rule-spec =
     loop-holds
     record-allowed-requires
     returns
-    add-k
+    add-digit
     loop-less
     loop-again
     returns-2)

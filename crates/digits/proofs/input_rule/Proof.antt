@@ -7,10 +7,10 @@ use Rattle.digits.proofs.input_rule.Statement.{statement}
 use Rattle.digits.proofs.input_rule.Tie as tie
 
 abbrev Inv-loop : tie.InvT-loop
-Inv-loop alphabet inputs n k₀ k = (k ≤ n) × Passed alphabet inputs n k
+Inv-loop alphabet inputs count input₀ input = (input ≤ count) × Passed alphabet inputs count input
 
 abbrev μ-loop : tie.MeasureT-loop
-μ-loop alphabet inputs n k₀ k = n - k
+μ-loop alphabet inputs count input₀ input = count - input
 
 record-count-requires : tie.Need-record-count-requires Inv-loop μ-loop
 record-count-requires c κs = search needs
@@ -24,8 +24,8 @@ input-allowed-requires c κs = search needs
 returns : tie.Need-returns Inv-loop μ-loop
 returns c = input-broken _ _ _ _ (c .before .before .before .before .record-count .ensures) (c .before .before .before .loop .inv .1) _ (c .before .before .loop-test .taken) (c .before .input-allowed .ensures) (not-true _ (c .if1 .taken))
 
-add-k : tie.Need-add-k Inv-loop μ-loop
-add-k c = search needs
+add-input : tie.Need-add-input Inv-loop μ-loop
+add-input c = search needs
 
 loop-less : tie.Need-loop-less Inv-loop μ-loop
 loop-less c = search needs
@@ -52,7 +52,7 @@ input-rule-spec =
     loop-holds
     input-allowed-requires
     returns
-    add-k
+    add-input
     loop-less
     loop-again
     all-sums-listed-requires
