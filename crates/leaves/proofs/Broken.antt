@@ -104,7 +104,7 @@ module _ (leaves words : List ℕ) (m : ℕ) where
       places-decided (rule 13 (Broken13 leaves)) (λ _. same (weightOf leaves 0) (zeros degree)) 1 (omega arith)
       (λ p b. (omega (arith, b .0), λ t. b .1 (same→≡ _ _ t))) (λ p l t. (omega arith, λ e. clash (ap (λ x. same x (zeros degree)) e ∙ same-refl (zeros degree)) t))
 
-  leaves-decided : 0 < m → Decided (leafRules leaves words m) (leafCheck leaves words m)
+  pub leaves-decided : 0 < m → Decided (leafRules leaves words m) (leafCheck leaves words m)
   unfolding leafCheck
   leaves-decided some =
       then-decided _ _ _ _ place-decided

@@ -43,7 +43,7 @@ pub fn word_length(leaves: &[u8], leaf: usize) -> usize
 }
 
 // The byte at a place, 0 past the end.
-fn byte_at(bytes: &[u8], at: usize) -> u8
+pub fn byte_at(bytes: &[u8], at: usize) -> u8
     ensures { λ r. ⌜ r ≡ getD (now (bytes .entry)) at 0 ⌝ }
 {
     if at < bytes.len() { bytes[at] } else { 0 }
