@@ -15,15 +15,15 @@ use Rattle.numeration.proofs.Agreement.{agree-sound}
 use Rattle.numeration.proofs.Leaves.{leafOf-begins, precedes-all}
 
 module _ {A : Type 0} (c : Code A) (m : ℕ) (p : PrefixCode c m) (ordered : (k : ℕ) → suc k < c .leaves → Precedes c k (suc k)) (u : ℕ) (hu : u < c .leaves) where
-  in-tail : (i : ℕ) → i < pred (c .size u) → tailThenZeros c u i ≡ tail c u i
+  pub in-tail : (i : ℕ) → i < pred (c .size u) → tailThenZeros c u i ≡ tail c u i
   unfolding tailThenZeros
   in-tail i h = rw (lt-ltb i (pred (c .size u)) h, tailThenZeros)
 
-  behind-tail : (i : ℕ) → pred (c .size u) ≤ i → tailThenZeros c u i ≡ 0
+  pub behind-tail : (i : ℕ) → pred (c .size u) ≤ i → tailThenZeros c u i ≡ 0
   unfolding tailThenZeros
   behind-tail i h = rw (le-ltb i (pred (c .size u)) h, tailThenZeros)
 
-  string-inputs : Below m (tailThenZeros c u)
+  pub string-inputs : Below m (tailThenZeros c u)
   unfolding tail
   string-inputs i =
       elim (decLt i (pred (c .size u))) [

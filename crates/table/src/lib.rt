@@ -1,7 +1,19 @@
 // The check of a table, and its line of text.
 ghost use mathlib.Core.Path.{_≡_};
-ghost use lib.ListN.{length};
-ghost use Prim.Native.Nat.{_≤_};
+ghost use lib.ListN.{length, getD};
+ghost use Rattle.ring.specs.Matrix.{RowsWithin};
+ghost use Rattle.layout.specs.Section.{degree};
+ghost use Rattle.digits.specs.Record.{recordAt, elementCount};
+ghost use Rattle.numeration.specs.Code.{agree};
+ghost use Rattle.numeration.specs.Conversion.{outDigit};
+ghost use Rattle.numeration.specs.Elements.{elements};
+ghost use Rattle.numeration.specs.Pairs.{pairPasses};
+ghost use Rattle.leaves.specs.Leaf.{leafCount, codeOf, wordGiven, weightGiven};
+ghost use Rattle.leaves.specs.Check.{leafCheck};
+ghost use Rattle.table.specs.Pairs.{inAlphabet};
+ghost use Prim.Native.Nat.{ℕ, _+_, _≤_, _<_, _^_, min, pred};
+ghost use Rattle.lists.specs.Span.{span};
+ghost use Rattle.lists.specs.Scan.{firstFailing};
 ghost use Rattle.lists.specs.Overwrite.{overwrite};
 ghost use Rattle.table.specs.Answer.{outcomeOf};
 ghost use Rattle.table.specs.Line.{acceptedLine, refusedLine, lineCount, lineInto};
@@ -17,6 +29,91 @@ pub struct Facts {
 pub enum Checked {
     Accepted(Facts),
     Refused(Fault),
+}
+
+// The upper word without its first digit, and zeros behind it.
+fn tail_window(upper: &[u8]) -> [u8; 8]
+    ensures { λ r. ⌜ r ≡ span (λ i. getD (now (upper .entry)) i 0) 1 8 ⌝ }
+{
+    [
+        leaves::byte_at(upper, 1),
+        leaves::byte_at(upper, 2),
+        leaves::byte_at(upper, 3),
+        leaves::byte_at(upper, 4),
+        leaves::byte_at(upper, 5),
+        leaves::byte_at(upper, 6),
+        leaves::byte_at(upper, 7),
+        leaves::byte_at(upper, 8),
+    ]
+}
+
+// Whether the upper word without its first digit and the lower word agree as far as both reach.
+fn fit(upper: &[u8], lower: &[u8]) -> bool
+    ensures { λ r. ⌜ r ≡ agree (λ i. getD (now (upper .entry)) (i + 1) 0) (λ i. getD (now (lower .entry)) i 0) (min (pred (length (now (upper .entry)))) (length (now (lower .entry)))) ⌝ }
+{
+    let mut i = 0;
+    while i < lower.len() {
+        if upper.len() <= i + 1 {
+            return true;
+        }
+        if upper[i + 1] != lower[i] {
+            return false;
+        }
+        i += 1;
+    }
+    true
+}
+
+// Whether a fitting pair gives an alphabet digit.
+fn gives_digit(
+    base: [[i64; 2]; 2],
+    alphabet: &[u8],
+    inputs: &[u8],
+    leaves: &[u8],
+    words: &[u8],
+    upper: usize,
+    lower: usize,
+) -> bool
+    requires { ⌜ RowsWithin (2 ^ 24) base × (getD (wordGiven (now leaves) (now words) upper) 0 0 < elementCount (now inputs)) ⌝ }
+    ensures { λ r. ⌜ r ≡ inAlphabet (now (alphabet .entry)) (outDigit (elements degree base) (recordAt (now (inputs .entry)) (getD (wordGiven (now (leaves .entry)) (now (words .entry)) upper) 0 0)) (weightGiven (now (leaves .entry)) lower) (weightGiven (now (leaves .entry)) upper)) ⌝ }
+{
+    let first = leaves::byte_at(leaves::word(leaves, words, upper), 0) as usize;
+    let digit = conversion::out_digit(
+        base,
+        digits::record_at(inputs, first),
+        leaves::weight(leaves, lower),
+        leaves::weight(leaves, upper),
+    );
+    let count = layout::record_count(alphabet, 1);
+    digits::find(alphabet, count, digit) < count
+}
+
+// The lowest lower leaf that fits and gives no alphabet digit, or the leaf count. Those that fit are neighbours, from the leaf of the
+// upper word's tail on.
+fn bad_lower(
+    base: [[i64; 2]; 2],
+    alphabet: &[u8],
+    inputs: &[u8],
+    leaves: &[u8],
+    words: &[u8],
+    upper: usize,
+) -> usize
+    requires { ⌜ RowsWithin (2 ^ 24) base × (0 < elementCount (now inputs)) × (leafCheck (now leaves) (now words) (elementCount (now inputs)) .number ≡ 0) × (upper < leafCount (now leaves)) ⌝ }
+    ensures { λ r. ⌜ r ≡ firstFailing (pairPasses (elements degree base) (recordAt (now (inputs .entry))) (codeOf (now (leaves .entry)) (now (words .entry))) (inAlphabet (now (alphabet .entry))) upper) 0 (leafCount (now (leaves .entry))) ⌝ }
+{
+    let count = leaves::leaf_count(leaves);
+    let top = leaves::word(leaves, words, upper);
+    let mut lower = leaves::look_up(leaves, words, tail_window(top));
+    while lower < count {
+        if !fit(top, leaves::word(leaves, words, lower)) {
+            return count;
+        }
+        if !gives_digit(base, alphabet, inputs, leaves, words, upper, lower) {
+            return lower;
+        }
+        lower += 1;
+    }
+    count
 }
 
 fn accepted_line(f: Facts, out: &mut [u8]) -> usize

@@ -1,0 +1,42 @@
+-- Rule 14 of document 01 over the five sections, of a file or not: "The check also takes every two leaves, upper U and lower L,
+-- that fit .. The first digit of U, plus L's weight, minus β times U's weight, must be in the alphabet."
+use mathlib.Core.Bool.{Bool}
+use mathlib.Core.List.{List}
+use Prim.Native.Nat.{ℕ}
+use lib.IntN.{ℤ}
+use lib.Dec.{ltb}
+use Rattle.lists.specs.Scan.{firstFailing}
+use Rattle.faults.specs.declared.Refusal.{Refusal}
+use Rattle.faults.specs.Check.{judge}
+use Rattle.layout.specs.Section.{degree}
+use Rattle.digits.specs.Record.{recordAt, elementCount, indexIn}
+use Rattle.digits.specs.Base.{baseMatrix}
+use Rattle.numeration.specs.Group.{Operations}
+use Rattle.numeration.specs.Elements.{elements}
+use Rattle.numeration.specs.Pairs.{pairPasses, upperPasses}
+use Rattle.leaves.specs.Leaf.{leafCount, codeOf}
+
+-- the ring's elements with multiplication by the base
+abbrev pub system : List ℕ → Operations (List ℤ)
+system base = elements degree (baseMatrix base)
+
+-- an element is in the alphabet
+unfoldable pub inAlphabet : List ℕ → List ℤ → Bool
+inAlphabet alphabet x = ltb (indexIn alphabet (elementCount alphabet) x) (elementCount alphabet)
+
+module _ (base alphabet inputs leaves words : List ℕ) where
+  -- a pair that doesn't fit, or gives an alphabet digit
+  abbrev pub passes : ℕ → ℕ → Bool
+  passes u l = pairPasses (system base) (recordAt inputs) (codeOf leaves words) (inAlphabet alphabet) u l
+
+  -- the lowest lower leaf that fails with u, or the leaf count
+  unfoldable pub badLower : ℕ → ℕ
+  badLower u = firstFailing (passes u) 0 (leafCount leaves)
+
+  -- the lowest upper leaf that fails, or the leaf count
+  unfoldable pub badUpper : ℕ
+  badUpper = firstFailing (upperPasses (system base) (recordAt inputs) (codeOf leaves words) (inAlphabet alphabet)) 0 (leafCount leaves)
+
+  -- 14: two fitting leaves give no alphabet digit (lowest U)
+  unfoldable pub pairCheck : Refusal
+  pairCheck = judge 14 (λ k. k) (upperPasses (system base) (recordAt inputs) (codeOf leaves words) (inAlphabet alphabet)) (leafCount leaves)
