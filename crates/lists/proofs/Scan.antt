@@ -133,3 +133,12 @@ every-fails test i n e = (firstFailing test i n, scan-low test i n, below, scan-
   where
     below : firstFailing test i n < i + n
     below = omega (arith, scan-high test i n, eqb-false (firstFailing test i n) (i + n) e)
+
+-- by where the first failing place is
+pub every-below : (test : ℕ → Bool) (n : ℕ) → firstFailing test 0 n < n → every test 0 n ≡ false
+unfolding every
+every-below test n h = ne-eqb (firstFailing test 0 n) (0 + n) (λ e. omega arith)
+
+pub every-reached : (test : ℕ → Bool) (n : ℕ) → n ≤ firstFailing test 0 n → every test 0 n ≡ true
+unfolding every
+every-reached test n h = eq-eqb (firstFailing test 0 n) (0 + n) (omega (arith, scan-high test 0 n))

@@ -11,8 +11,14 @@ use Rattle.layout.specs.Section.{sectionStart, sectionEnd, partOf}
 use Rattle.layout.specs.Directory.{directoryCheck}
 use Rattle.layout.specs.Length.{lengthCheck, sectionLengths}
 use Rattle.layout.specs.Limit.{limitCheck}
+use lib.Dec.{lit<}
 use Rattle.layout.proofs.Laid.{laid}
-use Rattle.reader.specs.Table.{layoutCheck, digitsOf, leavesOf, tableCheck}
+use Rattle.layout.proofs.Passed.{whole-records}
+use Rattle.digits.specs.Base.{BasePart}
+use Rattle.digits.specs.Record.{elementCount}
+use Rattle.digits.proofs.Passed.{base-ready}
+use Rattle.leaves.specs.Check.{leafCheck}
+use Rattle.reader.specs.Table.{basePart, inputPart, leafPart, wordPart, layoutCheck, digitsOf, leavesOf, tableCheck}
 
 -- what a stage that found nothing says of its definition
 pub stage-nothing : (found a : Refusal) → found ≡ a → found .number ≡ 0 → a .number ≡ 0
@@ -39,3 +45,16 @@ directory-room file h = laid file h .low
 
 pub section-room : (file : List ℕ) → directoryCheck file .number ≡ 0 → (section : ℕ) → section < 5 → sectionEnd file section ≤ length file
 section-room file h section l = laid file h .placed section l .inside
+
+-- what rule 14 and conversion ask of the sections of a table that passes
+pub record Sections (file : List ℕ) : Type 0 where
+  pub base : BasePart (basePart file)
+  pub some-input : 0 < elementCount (inputPart file)
+  pub leaves : leafCheck (leafPart file) (wordPart file) (elementCount (inputPart file)) .number ≡ 0
+
+pub sections : (file : List ℕ) → tableCheck file .number ≡ 0 → Sections file
+unfolding leavesOf
+sections file h =
+    let kept = table-kept file h in
+    let laid = layout-kept file (kept .0) in
+    record { base = base-ready file (laid .0) (laid .1) (laid .2); some-input = whole-records file (laid .0) (laid .1) 2 (lit< tt) .least; leaves = kept .2 }

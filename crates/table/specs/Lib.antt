@@ -1,3 +1,4 @@
 pub mod Pairs
 pub mod Answer
 pub mod Line
+pub mod Check

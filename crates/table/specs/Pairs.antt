@@ -1,6 +1,6 @@
 -- Rule 14 of document 01 over the five sections, of a file or not: "The check also takes every two leaves, upper U and lower L,
 -- that fit .. The first digit of U, plus L's weight, minus β times U's weight, must be in the alphabet."
-use mathlib.Core.Bool.{Bool}
+use mathlib.Core.Bool.{Bool, true, false}
 use mathlib.Core.List.{List}
 use Prim.Native.Nat.{ℕ}
 use lib.IntN.{ℤ}
@@ -15,6 +15,7 @@ use Rattle.numeration.specs.Group.{Operations}
 use Rattle.numeration.specs.Elements.{elements}
 use Rattle.numeration.specs.Pairs.{pairPasses, upperPasses}
 use Rattle.leaves.specs.Leaf.{leafCount, codeOf}
+use Rattle.table.specs.declared.Pair.{Pair}
 
 -- the ring's elements with multiplication by the base
 abbrev pub system : List ℕ → Operations (List ℤ)
@@ -40,3 +41,11 @@ module _ (base alphabet inputs leaves words : List ℕ) where
   -- 14: two fitting leaves give no alphabet digit (lowest U)
   unfoldable pub pairCheck : Refusal
   pairCheck = judge 14 (λ k. k) (upperPasses (system base) (recordAt inputs) (codeOf leaves words) (inAlphabet alphabet)) (leafCount leaves)
+
+  -- the failing pair that the stage names: the lowest upper leaf and its lowest lower leaf; the leaf count twice where none fails
+  unfoldable pub badPair : Pair
+  badPair =
+      elim (ltb badUpper (leafCount leaves)) [
+        | true ↦ record { upper = badUpper; lower = badLower badUpper }
+        | false ↦ record { upper = leafCount leaves; lower = leafCount leaves }
+      ]

@@ -3,6 +3,7 @@ ghost use mathlib.Core.Path.{_≡_};
 ghost use lib.ListN.{length, getD};
 ghost use Rattle.ring.specs.Matrix.{RowsWithin};
 ghost use Rattle.layout.specs.Section.{degree};
+ghost use Rattle.digits.specs.Base.{BasePart};
 ghost use Rattle.digits.specs.Record.{recordAt, elementCount};
 ghost use Rattle.numeration.specs.Code.{agree};
 ghost use Rattle.numeration.specs.Conversion.{outDigit};
@@ -10,20 +11,30 @@ ghost use Rattle.numeration.specs.Elements.{elements};
 ghost use Rattle.numeration.specs.Pairs.{pairPasses};
 ghost use Rattle.leaves.specs.Leaf.{leafCount, codeOf, wordGiven, weightGiven};
 ghost use Rattle.leaves.specs.Check.{leafCheck};
-ghost use Rattle.table.specs.Pairs.{inAlphabet};
+ghost use Rattle.table.specs.Pairs.{inAlphabet, badPair, pairCheck};
 ghost use Prim.Native.Nat.{ℕ, _+_, _≤_, _<_, _^_, min, pred};
 ghost use Rattle.lists.specs.Span.{span};
 ghost use Rattle.lists.specs.Scan.{firstFailing};
 ghost use Rattle.lists.specs.Overwrite.{overwrite};
+ghost use Rattle.reader.specs.Table.{tableCheck};
+ghost use Rattle.table.specs.Check.{pairsOf, checkOutcome};
 ghost use Rattle.table.specs.Answer.{outcomeOf};
 ghost use Rattle.table.specs.Line.{acceptedLine, refusedLine, lineCount, lineInto};
 use faults::Fault;
+use faults::Refusal;
+use reader::Reading;
 
 // The facts of the check: depth, leaf count and alphabet size.
 pub struct Facts {
     pub depth: usize,
     pub leaves: usize,
     pub digits: usize,
+}
+
+// Two leaves, upper and lower.
+pub struct Pair {
+    pub upper: usize,
+    pub lower: usize,
 }
 
 pub enum Checked {
@@ -114,6 +125,85 @@ fn bad_lower(
         lower += 1;
     }
     count
+}
+
+// The lowest upper leaf that fails with some lower leaf, and the lowest such lower leaf; the leaf count twice where none fails.
+pub fn bad_pair(base: &[u8], alphabet: &[u8], inputs: &[u8], leaves: &[u8], words: &[u8]) -> Pair
+    requires { ⌜ BasePart (now base) × (0 < elementCount (now inputs)) × (leafCheck (now leaves) (now words) (elementCount (now inputs)) .number ≡ 0) ⌝ }
+    ensures { λ r. ⌜ r ≡ badPair (now (base .entry)) (now (alphabet .entry)) (now (inputs .entry)) (now (leaves .entry)) (now (words .entry)) ⌝ }
+{
+    let matrix = digits::base_of(base);
+    let count = leaves::leaf_count(leaves);
+    let mut upper = 0;
+    while upper < count {
+        let lower = bad_lower(matrix, alphabet, inputs, leaves, words, upper);
+        if lower < count {
+            return Pair { upper, lower };
+        }
+        upper += 1;
+    }
+    Pair {
+        upper: count,
+        lower: count,
+    }
+}
+
+// Rule 14.
+pub fn pairs(base: &[u8], alphabet: &[u8], inputs: &[u8], leaves: &[u8], words: &[u8]) -> Refusal
+    requires { ⌜ BasePart (now base) × (0 < elementCount (now inputs)) × (leafCheck (now leaves) (now words) (elementCount (now inputs)) .number ≡ 0) ⌝ }
+    ensures { λ r. ⌜ r ≡ pairCheck (now (base .entry)) (now (alphabet .entry)) (now (inputs .entry)) (now (leaves .entry)) (now (words .entry)) ⌝ }
+{
+    let found = bad_pair(base, alphabet, inputs, leaves, words);
+    if found.upper < leaves::leaf_count(leaves) {
+        return Refusal {
+            number: 14,
+            place: found.upper,
+        };
+    }
+    Refusal {
+        number: 0,
+        place: 0,
+    }
+}
+
+// Rule 14 of a file that passes 1 to 13.
+fn file_pairs(file: &[u8]) -> Refusal
+    requires { ⌜ tableCheck (now file) .number ≡ 0 ⌝ }
+    ensures { λ r. ⌜ r ≡ pairsOf (now (file .entry)) ⌝ }
+{
+    pairs(
+        reader::section(file, 0),
+        reader::section(file, 1),
+        reader::section(file, 2),
+        reader::section(file, 3),
+        reader::section(file, 4),
+    )
+}
+
+// The check of a table file: accepted with its facts, or the author's fault.
+pub fn check(file: &[u8]) -> Checked
+    ensures { λ r. ⌜ outcomeOf r ≡ checkOutcome (now (file .entry)) ⌝ }
+{
+    let answer = reader::read(file);
+    match answer {
+        Reading::Refused(fault) => Checked::Refused(fault),
+        Reading::Facts(table) => {
+            let found = file_pairs(file);
+            if found.number != 0 {
+                return Checked::Refused(Fault::Author {
+                    number: found.number,
+                    place: found.place,
+                });
+            }
+            let leaves = table.leaves;
+            let alphabet = table.alphabet;
+            Checked::Accepted(Facts {
+                depth: table.depth,
+                leaves: leaves.count,
+                digits: alphabet.count,
+            })
+        }
+    }
 }
 
 fn accepted_line(f: Facts, out: &mut [u8]) -> usize

@@ -1,0 +1,26 @@
+-- The failing pair says whether rule 14 is broken, and where.
+use Rattle.table.proofs.Bad.{pairs-broken, pairs-kept}
+use Prim.Native.Nat.{ℕ, _<_, _≤_}
+use mathlib.Core.Path.{_≡_, sym, subst}
+use borrow.Author.Needs.{needs}
+use Rattle.table.proofs.pairs.Statement.{statement}
+use Rattle.table.proofs.pairs.Tie as tie
+
+bad-pair-requires : tie.Need-bad-pair-requires
+bad-pair-requires c κs = search needs
+
+leaf-count-requires : tie.Need-leaf-count-requires
+leaf-count-requires c κs = search needs
+
+returns : tie.Need-returns
+returns c =
+    let a = c .before .before .before .before .before .before .before .before .before .args in
+    pairs-broken (a .base .now) (a .alphabet .now) (a .inputs .now) (a .leaves .now) (a .words .now) (c .before .before .before .bad-pair .result) (c .before .before .before .bad-pair .ensures) (subst (λ (n : ℕ). c .before .before .before .bad-pair .result .upper < n) (c .before .before .leaf-count .ensures) (c .if1 .taken))
+
+returns-2 : tie.Need-returns-2
+returns-2 c =
+    let a = c .before .before .before .before .before .before .before .before .before .args in
+    pairs-kept (a .base .now) (a .alphabet .now) (a .inputs .now) (a .leaves .now) (a .words .now) (c .before .before .before .bad-pair .result) (c .before .before .before .bad-pair .ensures) (subst (λ (n : ℕ). n ≤ c .before .before .before .bad-pair .result .upper) (c .before .before .leaf-count .ensures) (c .if1 .left))
+
+pub pairs-spec : {M : Type 1} → statement M
+pairs-spec = tie.close (tie.spec bad-pair-requires leaf-count-requires returns returns-2)
