@@ -2,11 +2,10 @@
 // weight. Sections 3 and 4 come as two parts, of a file or not.
 ghost use mathlib.Core.Path.{_≡_};
 ghost use mathlib.Core.List.{List};
-ghost use Prim.Native.Nat.{ℕ, _+_, _-_, _≤_, _<_};
-ghost use lib.ListN.{length, getD};
+ghost use Prim.Native.Nat.{ℕ, _+_, _-_, _≤_, _<_, min};
+ghost use lib.ListN.{getD};
 ghost use lib.Dec.{eqb};
 ghost use Rattle.lists.specs.Scan.{firstFailing};
-ghost use Rattle.faults.specs.Check.{none};
 ghost use Rattle.ring.specs.Element.{Within};
 ghost use Rattle.numeration.specs.Code as code;
 ghost use Rattle.leaves.specs.Leaf.{leafCount, wordStart, wordLength, codeOf, wordGiven, weightGiven};
@@ -42,6 +41,12 @@ pub fn word_length(leaves: &[u8], leaf: usize) -> usize
     layout::unsigned(leaves, leaf * LEAF + 2)
 }
 
+fn wide(x: u8) -> usize
+    ensures { λ r. ⌜ r ≡ x ⌝ }
+{
+    x as usize
+}
+
 // The byte at a place, 0 past the end.
 pub fn byte_at(bytes: &[u8], at: usize) -> u8
     ensures { λ r. ⌜ r ≡ getD (now (bytes .entry)) at 0 ⌝ }
@@ -50,7 +55,7 @@ pub fn byte_at(bytes: &[u8], at: usize) -> u8
 }
 
 fn least(a: usize, b: usize) -> usize
-    ensures { λ r. ⌜ r ≡ Prim.Native.Nat.min a b ⌝ }
+    ensures { λ r. ⌜ r ≡ min a b ⌝ }
 {
     if a < b { a } else { b }
 }
@@ -175,12 +180,6 @@ fn indexes(words: &[u8], inputs: usize) -> Refusal
     }
 }
 
-fn wide(x: u8) -> usize
-    ensures { λ r. ⌜ r ≡ x ⌝ }
-{
-    x as usize
-}
-
 // The first of n places at which the bytes from a on differ from the other bytes from b on, or n.
 fn first_difference(bytes: &[u8], a: usize, other: &[u8], b: usize, n: usize) -> usize
     requires { ⌜ (a < 65536) × (b < 65536) × (n < 65536) ⌝ }
@@ -196,6 +195,18 @@ fn first_difference(bytes: &[u8], a: usize, other: &[u8], b: usize, n: usize) ->
     i
 }
 
+// Of n places, at the first where the bytes from a on differ from the other bytes from b on, the other byte is the higher.
+fn lower(bytes: &[u8], a: usize, other: &[u8], b: usize, n: usize) -> bool
+    requires { ⌜ (a < 65536) × (b < 65536) × (n < 65536) ⌝ }
+    ensures { λ r. ⌜ r ≡ code.lower (λ i. getD (now (bytes .entry)) (a + i) 0) (λ i. getD (now (other .entry)) (b + i) 0) n ⌝ }
+{
+    let i = first_difference(bytes, a, other, b, n);
+    if n <= i {
+        return false;
+    }
+    byte_at(bytes, a + i) < byte_at(other, b + i)
+}
+
 // Rule 11 at a leaf and the next one: the later word is above, and neither begins the other.
 fn precedes(leaves: &[u8], words: &[u8], leaf: usize) -> bool
     requires { ⌜ leaf + 1 < leafCount (now leaves) ⌝ }
@@ -204,11 +215,7 @@ fn precedes(leaves: &[u8], words: &[u8], leaf: usize) -> bool
     let a = word_start(leaves, leaf);
     let b = word_start(leaves, leaf + 1);
     let n = least(word_length(leaves, leaf), word_length(leaves, leaf + 1));
-    let i = first_difference(words, a, words, b, n);
-    if i < n {
-        return byte_at(words, a + i) < byte_at(words, b + i);
-    }
-    false
+    lower(words, a, words, b, n)
 }
 
 // Rule 11: the words rise, and none begins another.
@@ -346,11 +353,7 @@ fn above(leaves: &[u8], words: &[u8], window: &[u8; 8], leaf: usize) -> bool
 {
     let start = word_start(leaves, leaf);
     let n = least(word_length(leaves, leaf), LONGEST);
-    let i = first_difference(window, 0, words, start, n);
-    if i < n {
-        return byte_at(window, i) < byte_at(words, start + i);
-    }
-    false
+    lower(window, 0, words, start, n)
 }
 
 // The number of the leaf whose word begins the window, by binary search of the ordered words.

@@ -44,7 +44,7 @@ loop-again-2 : tie.Need-loop-again-2 Inv-loop μ-loop
 loop-again-2 c = between-upper _ _ _ _ _ (c .before .before .before .before .loop .inv) (omega arith) (omega arith) (sym (c .before .above .ensures) ∙ c .if1 .left)
 
 returns : tie.Need-returns Inv-loop μ-loop
-returns c = between-one _ _ _ _ (c .before .loop .inv) (c .loop-test .left)
+returns c = between-one _ _ _ _ (c .before .loop .inv) (omega arith)
 
 pub look-up-spec : {M : Type 1} → statement M
 look-up-spec =

@@ -1,7 +1,7 @@
 use mathlib.Core.Path.{_∙_, ap₂}
 use Prim.Native.Nat.{min}
 use borrow.Author.Needs.{needs}
-use Rattle.leaves.proofs.Comparison.{lower-differs, lower-same, words-read}
+use Rattle.leaves.proofs.Comparison.{words-read}
 use Rattle.leaves.proofs.precedes.Statement.{statement}
 use Rattle.leaves.proofs.precedes.Tie as tie
 
@@ -26,26 +26,11 @@ word-length-requires-2 c κs = search needs
 least-requires : tie.Need-least-requires
 least-requires c κs = search needs
 
-first-difference-requires : tie.Need-first-difference-requires
-first-difference-requires c κs = search needs
-
-add-byte-at : tie.Need-add-byte-at
-add-byte-at c = search needs
-
-byte-at-requires : tie.Need-byte-at-requires
-byte-at-requires c κs = search needs
-
-add-byte-at-2 : tie.Need-add-byte-at-2
-add-byte-at-2 c = search needs
-
-byte-at-requires-2 : tie.Need-byte-at-requires-2
-byte-at-requires-2 c κs = search needs
+lower-requires : tie.Need-lower-requires
+lower-requires c κs = search needs
 
 returns : tie.Need-returns
-returns c = lower-differs _ _ _ _ (c .before .before .before .first-difference .ensures) (c .before .before .if1 .taken) _ _ (c .before .byte-at .ensures) (c .byte-at2 .ensures) ∙ words-read (c .before .before .before .before .before .before .before .before .before .before .before .args .leaves .now) (c .before .before .before .before .before .before .before .before .before .before .before .args .words .now) _ _ _ _ _ (c .before .before .before .before .before .before .before .before .word-start .ensures .0) (c .before .before .before .before .before .before .before .word-start2 .ensures .0) (c .before .before .before .before .least .ensures ∙ ap₂ min (c .before .before .before .before .before .before .word-length .ensures .0) (c .before .before .before .before .before .word-length2 .ensures .0))
-
-returns-2 : tie.Need-returns-2
-returns-2 c = lower-same _ _ _ _ (c .before .first-difference .ensures) (c .if1 .left) ∙ words-read (c .before .before .before .before .before .before .before .before .before .args .leaves .now) (c .before .before .before .before .before .before .before .before .before .args .words .now) _ _ _ _ _ (c .before .before .before .before .before .before .word-start .ensures .0) (c .before .before .before .before .before .word-start2 .ensures .0) (c .before .before .least .ensures ∙ ap₂ min (c .before .before .before .before .word-length .ensures .0) (c .before .before .before .word-length2 .ensures .0))
+returns c = c .lower .ensures ∙ words-read (c .before .before .before .before .before .before .before .before .args .leaves .now) (c .before .before .before .before .before .before .before .before .args .words .now) _ _ _ _ _ (c .before .before .before .before .before .word-start .ensures .0) (c .before .before .before .before .word-start2 .ensures .0) (c .before .least .ensures ∙ ap₂ min (c .before .before .before .word-length .ensures .0) (c .before .before .word-length2 .ensures .0))
 
 pub precedes-spec : {M : Type 1} → statement M
 precedes-spec =
@@ -58,10 +43,5 @@ precedes-spec =
     add-word-length
     word-length-requires-2
     least-requires
-    first-difference-requires
-    add-byte-at
-    byte-at-requires
-    add-byte-at-2
-    byte-at-requires-2
-    returns
-    returns-2)
+    lower-requires
+    returns)
