@@ -1,1 +1,4 @@
 pub mod Kept
+pub mod Broken
+pub mod Formed
+pub mod Ready
