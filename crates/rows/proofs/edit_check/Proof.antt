@@ -1,0 +1,38 @@
+use mathlib.Core.Path.{_∙_, ap}
+use Rattle.rows.specs.Check.{editCheck}
+use Rattle.faults.proofs.Check.{then-here, then-on}
+use borrow.Author.Needs.{needs}
+use Rattle.rows.proofs.edit_check.Statement.{statement}
+use Rattle.rows.proofs.edit_check.Tie as tie
+
+judge-one-requires : tie.Need-judge-one-requires
+judge-one-requires c κs = search needs
+
+returns : tie.Need-returns
+unfolding editCheck
+returns c = then-here _ _ _ (c .before .before .judge-one .ensures) (c .if1 .taken)
+
+judge-one-requires-2 : tie.Need-judge-one-requires-2
+judge-one-requires-2 c κs = search needs
+
+returns-2 : tie.Need-returns-2
+unfolding editCheck
+returns-2 c = then-here _ _ _ (c .before .before .judge-one2 .ensures) (c .if2 .taken) ∙ then-on _ _ _ (c .before .before .before .before .before .judge-one .ensures) (c .before .before .before .if1 .left)
+
+judge-one-requires-3 : tie.Need-judge-one-requires-3
+judge-one-requires-3 c κs = search needs
+
+returns-3 : tie.Need-returns-3
+unfolding editCheck
+returns-3 c = c .judge-one3 .ensures ∙ then-on _ _ _ (c .before .before .before .judge-one2 .ensures) (c .before .if2 .left) ∙ then-on _ _ _ (c .before .before .before .before .before .before .judge-one .ensures) (c .before .before .before .before .if1 .left)
+
+pub edit-check-spec : {M : Type 1} → statement M
+edit-check-spec =
+    tie.close
+    (tie.spec
+    judge-one-requires
+    returns
+    judge-one-requires-2
+    returns-2
+    judge-one-requires-3
+    returns-3)
