@@ -1,6 +1,6 @@
 -- Demand 1 for rules 20 to 26: each stage finds the first broken rule, as the plain statements have it, and nothing else.
 use mathlib.Core.Path.{_≡_, sym}
-use mathlib.Core.Bool.{true, false}
+use mathlib.Core.Bool.{false}
 use mathlib.Core.List.{List, [], _∷_}
 use mathlib.Core.Logic.{_⊎_, inl, inr, ⊎-elim}
 use Prim.Native.Nat.{ℕ, _+_, _<_, _≤_}
@@ -9,11 +9,13 @@ use lib.ListN.{length, getD}
 use lib.Dec.{leb, ltb}
 use borrow.Author.Tests.{ltb-true, ltb-false, leb-true, leb-false, eqb-false}
 use Rattle.lists.proofs.Test.{not-both}
+use Rattle.faults.specs.Check.{none}
 use Rattle.faults.specs.Rule.{rule, Exact}
 use Rattle.faults.proofs.Rule.{Decided, exact, places-decided, once-decided, then-decided}
 use Rattle.rows.specs.Check.{judgeOne, lengthsAllowed, indexAllowed, indexCheck, roomAllowed, rowCheck, oneRowCheck, editCheck}
-use Rattle.rows.specs.Broken.{Broken20, Broken20-one, NoIndex, Broken23, rowRules, oneRowRules, editRules}
-use Rattle.rows.proofs.Fit.{lengths-say, room-says}
+use Rattle.rows.specs.Broken.{Broken20, NoIndex, rowRules, oneRowRules, editRules}
+use Rattle.rows.specs.Fit.{RowFits, RowsFit, EditFits}
+use Rattle.rows.proofs.Fit.{lengths-say}
 
 -- rule 20
 Unequal : ℕ → ℕ → Type 0
@@ -78,3 +80,19 @@ edit-decided row place digit n digits =
 -- Rules 24 to 26: what an editor asks for
 pub edit-exact : (row place digit n digits : ℕ) → Exact (editRules row place digit n digits) (editCheck row place digit n digits)
 edit-exact row place digit n digits = exact _ _ (edit-decided row place digit n digits)
+
+-- so nothing is found exactly in rows and edits that fit
+pub rows-pass : (first second : List ℕ) (sum digits depth : ℕ) → RowsFit first second sum digits depth → rowCheck first second sum digits depth ≡ none
+unfolding Unequal
+rows-pass first second sum digits depth fit =
+    rows-exact first second sum digits depth .passed .1
+    (λ p b. lengths-agree _ _ (fit .short, fit .same-length) (b .1), (λ p b. b .1 (fit .first-indexes p (b .0)), (λ p b. b .1 (fit .second-indexes p (b .0)), (λ p b. omega (arith, b .1, fit .room), tt))))
+
+pub row-passes : (row : List ℕ) (digits : ℕ) → RowFits row digits → oneRowCheck row digits ≡ none
+row-passes row digits fit =
+    one-row-exact row digits .passed .1 (λ p b. omega (arith, b .1, fit .short), (λ p b. b .1 (fit .indexes p (b .0)), tt))
+
+pub edit-passes : (row place digit n digits : ℕ) → EditFits row place digit n digits → editCheck row place digit n digits ≡ none
+edit-passes row place digit n digits fit =
+    edit-exact row place digit n digits .passed .1
+    (λ p b. omega (arith, b .1, fit .known-row), (λ p b. b .1 (fit .in-row), (λ p b. b .1 (fit .index), tt)))

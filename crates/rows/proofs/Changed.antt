@@ -8,8 +8,8 @@ use lib.ListN.{length, getD, set, length-set, List·getD-eq-default}
 use lib.Seq.{getD-set-same, getD-set-other}
 use borrow.Author.Tests.{eq-eqb, ne-eqb}
 use Rattle.rows.specs.declared.Change.{Change}
-use Rattle.rows.specs.Changed.{changed}
-use Rattle.rows.specs.Fit.{Indexes}
+use Rattle.rows.specs.Changed.{changed, noChange}
+use Rattle.rows.specs.Fit.{Indexes, RowsFit}
 
 module _ (change : Change) (number : ℕ) (row : List ℕ) where
   pub changed-own : change .row ≡ number → changed change number row ≡ set row (change .place) (change .digit)
@@ -56,3 +56,18 @@ module _ (change : Change) (number : ℕ) (row : List ℕ) where
     where
       l : k < length row
       l = omega (arith, length-changed)
+
+pub unchanged : (number : ℕ) (row : List ℕ) → number < 2 → changed noChange number row ≡ row
+unchanged number row h = changed-other noChange number row (λ e. omega arith)
+
+-- rows that pass rules 20 to 23 pass them after a change to an alphabet index
+pub changed-fit : (change : Change) (first second : List ℕ) (sum digits depth : ℕ) → RowsFit first second sum digits depth → change .digit < digits
+    → RowsFit (changed change 0 first) (changed change 1 second) sum digits depth
+changed-fit change first second sum digits depth fit new =
+    record {
+      same-length = length-changed change 1 second ∙ fit .same-length ∙ sym (length-changed change 0 first);
+      short = omega (arith, length-changed change 0 first, fit .short);
+      first-indexes = changed-indexes change 0 first digits (fit .first-indexes) new;
+      second-indexes = changed-indexes change 1 second digits (fit .second-indexes) new;
+      room = omega (arith, length-changed change 0 first, fit .room);
+    }

@@ -3,7 +3,7 @@ ghost use mathlib.Core.Path.{_≡_};
 ghost use lib.ListN.{length, getD};
 ghost use Rattle.lists.specs.Scan.{firstFailing};
 ghost use Rattle.rows.specs.Check.{judgeOne, lengthsAllowed, indexAllowed, indexCheck, roomAllowed, rowCheck, oneRowCheck, editCheck};
-ghost use Rattle.rows.specs.Changed.{changed};
+ghost use Rattle.rows.specs.Changed.{changed, noChange};
 use faults::Refusal;
 
 // A rule that judges one thing, at place 0.
@@ -121,6 +121,17 @@ pub struct Change {
     pub row: usize,
     pub place: usize,
     pub digit: u8,
+}
+
+// The change that leaves both rows as they are.
+pub fn no_change() -> Change
+    ensures { λ r. ⌜ r ≡ noChange ⌝ }
+{
+    Change {
+        row: 2,
+        place: 0,
+        digit: 0,
+    }
 }
 
 // The byte of a row, read with the change made; 0 outside the row. A change of another row changes nothing.

@@ -8,7 +8,7 @@ use Prim.Native.Nat.{ℕ, zero, suc, _*_, _<_, _≤_}
 use native.Mathlib.Decide.{decLt}
 use native.Mathlib.Nat.{le-antisymm}
 use native.Mathlib.Omega.{arith}
-use lib.ListN.{length, drop, length-map, length-replicate, List·getD-map, drop-of-length-le}
+use lib.ListN.{length, length-map, length-replicate, List·getD-map, drop-of-length-le}
 use lib.Seq.{drop-cons}
 use lib.IntN.{ℤ, pos}
 use Rattle.ring.specs.Element.{zeros}
@@ -24,7 +24,7 @@ use Rattle.layout.specs.Section.{degree, elementSize}
 use Rattle.digits.specs.Record.{recordAt}
 use Rattle.digits.proofs.Record.{element-parts}
 use Rattle.worth.specs.Total.{largest, limited, digitAt, nextTotal, worthFrom, worthOf}
-use Rattle.worth.specs.Broken.{digitsOf, totalAt, Passes, Broken28, valueRules, refusalOf, worthCheck}
+use Rattle.worth.specs.Broken.{digitsOf, totalAt, OutsideAt, Broken28, valueRules, refusalOf, worthCheck}
 use Rattle.worth.proofs.Limit.{limited-within, limited-fails}
 use Rattle.worth.proofs.Total.{worth-end, worth-next, worth-stops}
 
@@ -85,17 +85,17 @@ module _ (base : List (List ℤ)) (alphabet row : List ℕ) where
   lead = rw (← total-top) (leads base (digitAt alphabet row) total (length row) total-next (length row) (omega arith))
 
   -- the test of a total and the plain statement
-  passes-fails : (p : ℕ) → Passes base alphabet row p → limited (total p) ≡ true → ⊥
+  outside-fails : (p : ℕ) → OutsideAt base alphabet row p → limited (total p) ≡ true → ⊥
   unfolding total
-  passes-fails p b t = omega (arith, b .1 .1, within-part largest (totalAt base alphabet row p) (limited-within _ t) (b .1 .0))
+  outside-fails p b t = omega (arith, b .1 .1, within-part largest (totalAt base alphabet row p) (limited-within _ t) (b .1 .0))
 
-  fails-passes : (p : ℕ) → p < length row → limited (total p) ≡ false → Passes base alphabet row p
+  fails-outside : (p : ℕ) → p < length row → limited (total p) ≡ false → OutsideAt base alphabet row p
   unfolding total
-  fails-passes p h t = (h, limited-fails _ t)
+  fails-outside p h t = (h, limited-fails _ t)
 
   -- an answer with what it rests on
   data Reached (outcome : Outcome (List ℤ)) : Type 0 where
-    whole-row : outcome ≡ facts (totalAt base alphabet row 0) → ((q : ℕ) → ¬ (Passes base alphabet row q)) → Reached outcome
+    whole-row : outcome ≡ facts (totalAt base alphabet row 0) → ((q : ℕ) → ¬ (OutsideAt base alphabet row q)) → Reached outcome
     broken-at : (p : ℕ) → outcome ≡ refused rows 28 p → Broken28 base alphabet row p → Reached outcome
 
   reached : Reached (worthOf base alphabet row)
@@ -103,8 +103,8 @@ module _ (base : List (List ℤ)) (alphabet row : List ℕ) where
   reached = go lead
     where
       go : Lead total (length row) (worthOf base alphabet row) → Reached (worthOf base alphabet row)
-      go (whole e all) = whole-row e (λ q b. passes-fails q b (all q (omega arith) (b .0)))
-      go (stopped p l e f all) = broken-at p e (fails-passes p l f, λ q h b. passes-fails q b (all q h (b .0)))
+      go (whole e all) = whole-row e (λ q b. outside-fails q b (all q (omega arith) (b .0)))
+      go (stopped p l e f all) = broken-at p e (fails-outside p l f, λ q h b. outside-fails q b (all q h (b .0)))
 
   -- one highest place
   one-highest : (p q : ℕ) → Broken28 base alphabet row p → Broken28 base alphabet row q → p ≡ q
@@ -129,10 +129,10 @@ module _ (base : List (List ℤ)) (alphabet row : List ℕ) where
           same r = cc
 
   -- an element exactly where no total has such a part, and then base times total plus digit from the top place down
-  pub element-exactly : (x : List ℤ) → (worthOf base alphabet row ≡ facts x) ↔ ((x ≡ topDown (elements degree base) (digitsOf alphabet row)) × ((p : ℕ) → ¬ (Passes base alphabet row p)))
+  pub element-exactly : (x : List ℤ) → (worthOf base alphabet row ≡ facts x) ↔ ((x ≡ topDown (elements degree base) (digitsOf alphabet row)) × ((p : ℕ) → ¬ (OutsideAt base alphabet row p)))
   element-exactly x = go reached
     where
-      go : Reached (worthOf base alphabet row) → (worthOf base alphabet row ≡ facts x) ↔ ((x ≡ topDown (elements degree base) (digitsOf alphabet row)) × ((p : ℕ) → ¬ (Passes base alphabet row p)))
+      go : Reached (worthOf base alphabet row) → (worthOf base alphabet row ≡ facts x) ↔ ((x ≡ topDown (elements degree base) (digitsOf alphabet row)) × ((p : ℕ) → ¬ (OutsideAt base alphabet row p)))
       go (whole-row e kept) = (λ r. (same (sym r ∙ e), kept), λ w. e ∙ ap facts (sym (w .0)))
         where
           same : _≡_ {A = Outcome (List ℤ)} (facts x) (facts (totalAt base alphabet row 0)) → x ≡ totalAt base alphabet row 0

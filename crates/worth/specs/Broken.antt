@@ -23,13 +23,13 @@ abbrev pub totalAt : List (List ℤ) → List ℕ → List ℕ → ℕ → List 
 totalAt base alphabet row p = topDown (elements degree base) (drop p (digitsOf alphabet row))
 
 -- with the digit at p the total has a part outside ±2,147,483,647
-abbrev pub Passes : List (List ℤ) → List ℕ → List ℕ → ℕ → Type 0
-Passes base alphabet row p = (p < length row) × ((k : ℕ) × (2147483647 < natAbs (part (totalAt base alphabet row p) k)))
+abbrev pub OutsideAt : List (List ℤ) → List ℕ → List ℕ → ℕ → Type 0
+OutsideAt base alphabet row p = (p < length row) × ((k : ℕ) × (2147483647 < natAbs (part (totalAt base alphabet row p) k)))
 
 -- 28: .. if, starting from zero and from the top place down, base times total plus digit ever has a part outside
 -- ±2,147,483,647 (place): the first met is the highest
 abbrev pub Broken28 : List (List ℤ) → List ℕ → List ℕ → ℕ → Type 0
-Broken28 base alphabet row p = Passes base alphabet row p × ((q : ℕ) → p < q → ¬ (Passes base alphabet row q))
+Broken28 base alphabet row p = OutsideAt base alphabet row p × ((q : ℕ) → p < q → ¬ (OutsideAt base alphabet row q))
 
 abbrev pub valueRules : List (List ℤ) → List ℕ → List ℕ → List Rule
 valueRules base alphabet row = rule 28 (Broken28 base alphabet row) ∷ []

@@ -1,9 +1,10 @@
-use lib.ListN.{getD}
-use Prim.Native.Nat.{ℕ}
-use mathlib.Core.Path.{sym, ap}
+-- One case for each answer.
 use mathlib.Core.List.{List}
-use Rattle.rows.proofs.Changed.{changed-other, changed-outside, changed-elsewhere, changed-here}
+use mathlib.Core.Path.{sym, ap}
+use Prim.Native.Nat.{ℕ}
+use lib.ListN.{getD}
 use borrow.Author.Needs.{needs}
+use Rattle.rows.proofs.Changed.{changed-other, changed-outside, changed-elsewhere, changed-here}
 use Rattle.rows.proofs.byte_at.Statement.{statement}
 use Rattle.rows.proofs.byte_at.Tie as tie
 

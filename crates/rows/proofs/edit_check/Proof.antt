@@ -1,7 +1,8 @@
-use mathlib.Core.Path.{_∙_, ap}
-use Rattle.rows.specs.Check.{editCheck}
-use Rattle.faults.proofs.Check.{then-here, then-on}
+-- One check, and the next where it found nothing.
+use mathlib.Core.Path.{_∙_}
 use borrow.Author.Needs.{needs}
+use Rattle.faults.proofs.Check.{then-here, then-on}
+use Rattle.rows.specs.Check.{editCheck}
 use Rattle.rows.proofs.edit_check.Statement.{statement}
 use Rattle.rows.proofs.edit_check.Tie as tie
 

@@ -1,13 +1,14 @@
-use denote.Ref.{now}
-use lib.ListN.{length}
-use Prim.Native.Nat.{_≤_, _-_}
+-- The places passed hold alphabet indexes.
 use mathlib.Core.Path.{_≡_, sym, _∙_}
-use Rattle.lists.specs.Scan.{firstFailing}
-use Rattle.lists.proofs.Scan.{scan-on, scan-here, scan-out}
-use Rattle.rows.proofs.Allowed.{outside, inside}
-use Rattle.rows.specs.Check.{indexAllowed}
+use Prim.Native.Nat.{_≤_, _-_}
 use native.Mathlib.Nat.{sub-zero}
 use native.Mathlib.Omega.{arith}
+use lib.ListN.{length}
+use denote.Ref.{now}
+use Rattle.lists.proofs.Scan.{scan-on, scan-here, scan-out}
+use Rattle.lists.specs.Scan.{firstFailing}
+use Rattle.rows.specs.Check.{indexAllowed}
+use Rattle.rows.proofs.Allowed.{outside, inside}
 use Rattle.rows.proofs.first_outside.Statement.{statement}
 use Rattle.rows.proofs.first_outside.Tie as tie
 

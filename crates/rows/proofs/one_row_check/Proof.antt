@@ -1,7 +1,8 @@
+-- One check, and the next where it found nothing.
 use mathlib.Core.Path.{_∙_}
-use Rattle.rows.specs.Check.{oneRowCheck}
-use Rattle.faults.proofs.Check.{then-here, then-on}
 use borrow.Author.Needs.{needs}
+use Rattle.faults.proofs.Check.{then-here, then-on}
+use Rattle.rows.specs.Check.{oneRowCheck}
 use Rattle.rows.proofs.one_row_check.Statement.{statement}
 use Rattle.rows.proofs.one_row_check.Tie as tie
 

@@ -1,8 +1,9 @@
+-- One check, and the next where it found nothing.
 use mathlib.Core.Path.{_≡_, _∙_, ap}
-use Rattle.rows.specs.Check.{judgeOne, lengthsAllowed, rowCheck}
-use Rattle.faults.proofs.Check.{then-here, then-on}
 use lib.ListN.{length}
 use borrow.Author.Needs.{needs}
+use Rattle.faults.proofs.Check.{then-here, then-on}
+use Rattle.rows.specs.Check.{judgeOne, lengthsAllowed, rowCheck}
 use Rattle.rows.proofs.row_check.Statement.{statement}
 use Rattle.rows.proofs.row_check.Tie as tie
 

@@ -1,3 +1,4 @@
+-- An alphabet index names a whole record.
 use native.Mathlib.Omega.{arith}
 use borrow.Author.Needs.{needs}
 use Rattle.worth.proofs.digit_at.Statement.{statement}

@@ -1,7 +1,7 @@
-use Rattle.worth.proofs.Limit.{too-low, not-too-low}
-use mir.ValLaws.{toZ-ofZ}
+-- A test below and a test above.
 use mir.Syntax.{w64}
-use mathlib.Core.Path.{_≡_}
+use mir.ValLaws.{toZ-ofZ}
+use Rattle.worth.proofs.Limit.{too-low, not-too-low}
 use Rattle.worth.proofs.inside.Statement.{statement}
 use Rattle.worth.proofs.inside.Tie as tie
 

@@ -1,14 +1,15 @@
-use Rattle.worth.proofs.Limit.{limited-two}
-use Rattle.worth.specs.Total.{largest}
-use Rattle.ring.specs.Element.{part}
-use mir.ValLaws.{toZ-ofZ}
-use mir.Syntax.{w64}
+-- Both parts, the first one first.
+use mathlib.Core.Bool.{true, _&&_}
+use mathlib.Core.Path.{_≡_, sym, ap, _∙_}
 use lib.Dec.{leb}
 use lib.IntN.{natAbs}
 use lib.ListN.{length}
-use mathlib.Core.Bool.{true, _&&_}
-use mathlib.Core.Path.{_≡_, sym, ap, _∙_}
+use mir.Syntax.{w64}
+use mir.ValLaws.{toZ-ofZ}
 use borrow.Author.Needs.{needs}
+use Rattle.ring.specs.Element.{part}
+use Rattle.worth.specs.Total.{largest}
+use Rattle.worth.proofs.Limit.{limited-two}
 use Rattle.worth.proofs.is_limited.Statement.{statement}
 use Rattle.worth.proofs.is_limited.Tie as tie
 

@@ -1,17 +1,18 @@
-use Rattle.faults.specs.Outcome.{facts}
-use Rattle.worth.proofs.Total.{turn, stop, end}
-use Rattle.worth.proofs.Limit.{limited-within}
-use Rattle.worth.specs.Total.{largest, digitAt, worthFrom, worthOf}
-use Rattle.ring.proofs.Parts.{within-two}
-use Rattle.ring.proofs.Element.{within-le}
-use Rattle.ring.specs.Element.{Within, plus}
-use borrow.Author.Tests.{not-true, not-false}
-use lib.IntN.{pos}
-use lib.Dec.{lit≤}
-use lib.ListN.{length}
-use Prim.Native.Nat.{_≤_, _^_, _+_, zero-le}
+-- Before each place the total is within the limit, and the row leads on from it where it leads from zero.
 use mathlib.Core.Path.{_≡_, refl, sym, ap, ap₂, _∙_}
+use Prim.Native.Nat.{_≤_, _-_, _^_, zero-le}
 use native.Mathlib.Omega.{arith}
+use lib.Dec.{lit≤}
+use lib.IntN.{pos}
+use lib.ListN.{length}
+use borrow.Author.Tests.{not-true, not-false}
+use Rattle.faults.specs.Outcome.{facts}
+use Rattle.ring.proofs.Element.{within-le}
+use Rattle.ring.proofs.Parts.{within-two}
+use Rattle.ring.specs.Element.{Within, plus}
+use Rattle.worth.specs.Total.{largest, digitAt, nextTotal, worthFrom, worthOf}
+use Rattle.worth.proofs.Limit.{limited-within}
+use Rattle.worth.proofs.Total.{turn, stop, end}
 use Rattle.worth.proofs.row_value.Statement.{statement}
 use Rattle.worth.proofs.row_value.Tie as tie
 
@@ -20,6 +21,10 @@ Inv-loop base alphabet row total₀ left₀ total left = (left ≤ length row) �
 
 abbrev μ-loop : tie.MeasureT-loop
 μ-loop base alphabet row total₀ left₀ total left = left
+
+-- what was computed at a place
+next-is : (c : tie.After-sum Inv-loop μ-loop) → c .sum .result ≡ nextTotal (c .before .before .before .before .before .before .before .args .base) (c .before .before .before .before .loop .total) (digitAt (c .before .before .before .before .before .before .before .args .alphabet .now) (c .before .before .before .before .before .before .before .args .row .now) (c .before .before .before .before .loop .left - 1))
+next-is c = c .sum .ensures ∙ ap₂ plus (c .before .before .times-base .ensures .0) (c .before .digit-at .ensures .0)
 
 loop-holds : tie.Need-loop-holds Inv-loop μ-loop
 unfolding worthOf
@@ -41,7 +46,7 @@ is-limited-requires : tie.Need-is-limited-requires Inv-loop μ-loop
 is-limited-requires c κs = tt
 
 returns : tie.Need-returns Inv-loop μ-loop
-returns c = stop _ _ _ (c .before .before .before .before .before .before .loop .total) _ (c .before .before .before .before .before .loop-test .taken) (c .before .before .sum .ensures ∙ ap₂ plus (c .before .before .before .before .times-base .ensures .0) (c .before .before .before .digit-at .ensures .0)) (sym (c .before .is-limited .ensures) ∙ not-true _ (c .if1 .taken)) ∙ c .before .before .before .before .before .before .loop .inv .2
+returns c = stop _ _ _ (c .before .before .before .before .before .before .loop .total) _ (c .before .before .before .before .before .loop-test .taken) (next-is (c .before .before)) (sym (c .before .is-limited .ensures) ∙ not-true _ (c .if1 .taken)) ∙ c .before .before .before .before .before .before .loop .inv .2
 
 loop-less : tie.Need-loop-less Inv-loop μ-loop
 loop-less c = omega arith
@@ -49,7 +54,7 @@ loop-less c = omega arith
 loop-again : tie.Need-loop-again Inv-loop μ-loop
 loop-again c =
     let within = sym (c .before .is-limited .ensures) ∙ not-false _ (c .if1 .left) in
-    (omega arith, limited-within _ within, turn _ _ _ (c .before .before .before .before .before .before .loop .total) _ (c .before .before .before .before .before .loop-test .taken) (c .before .before .sum .ensures ∙ ap₂ plus (c .before .before .before .before .times-base .ensures .0) (c .before .before .before .digit-at .ensures .0)) within ∙ c .before .before .before .before .before .before .loop .inv .2)
+    (omega arith, limited-within _ within, turn _ _ _ (c .before .before .before .before .before .before .loop .total) _ (c .before .before .before .before .before .loop-test .taken) (next-is (c .before .before)) within ∙ c .before .before .before .before .before .before .loop .inv .2)
 
 shown-requires : tie.Need-shown-requires Inv-loop μ-loop
 shown-requires c κs = c .before .loop .inv .1

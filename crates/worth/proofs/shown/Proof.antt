@@ -1,14 +1,15 @@
-use Rattle.worth.specs.Total.{largest}
-use Rattle.ring.specs.Element.{part}
-use Rattle.ring.proofs.Parts.{entry, two-parts}
+-- A part within the limit fits 32 bits.
+use mathlib.Core.Path.{_≡_, refl, sym, ap, _∙_}
+use Prim.Native.Nat.{ℕ}
+use lib.ListN.{length}
+use mir.Syntax.{w32, w64}
+use mir.Val.{toZ, ofZ}
+use borrow.Author.Needs.{needs}
 use Rattle.integers.proofs.Machine.{Term, plain-fits, stored-is}
 use Rattle.lists.proofs.Cons.{cons≡}
-use mir.Val.{toZ, ofZ}
-use mir.Syntax.{w32, w64}
-use lib.ListN.{length}
-use Prim.Native.Nat.{ℕ}
-use mathlib.Core.Path.{_≡_, refl, sym, ap, _∙_}
-use borrow.Author.Needs.{needs}
+use Rattle.ring.proofs.Parts.{entry, two-parts}
+use Rattle.ring.specs.Element.{part}
+use Rattle.worth.specs.Total.{largest}
 use Rattle.worth.proofs.shown.Statement.{statement}
 use Rattle.worth.proofs.shown.Tie as tie
 
