@@ -43,13 +43,6 @@ pub then-next : (a b : Refusal) → a .number ≡ 0 → (a then b) ≡ b
 unfolding _then_
 then-next a b h = rw (eq-eqb _ _ h, _then_)
 
--- the same for what a function found: it answers so, or goes on to the next check
-pub then-here : (a b found : Refusal) → found ≡ a → (found .number ≡ 0 → ⊥) → found ≡ (a then b)
-then-here a b found e h = e ∙ sym (then-found a b (rw e at h))
-
-pub then-on : (a b found : Refusal) → found ≡ a → found .number ≡ 0 → b ≡ (a then b)
-then-on a b found e h = sym (then-next a b (rw e at h))
-
 -- the checks before the i-th found nothing: a loop's turn, its hit and its end
 pub turn-next : (check : ℕ → Refusal) (i n : ℕ) → check i .number ≡ 0 → inTurn check i (suc n) ≡ inTurn check (suc i) n
 unfolding inTurn

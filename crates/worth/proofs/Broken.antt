@@ -18,7 +18,10 @@ use Rattle.numeration.specs.Elements.{elements, HasParts}
 use Rattle.numeration.proofs.Elements.{elements-group}
 use Rattle.numeration.proofs.Sums.{value-topDown}
 use Rattle.faults.specs.Outcome.{Outcome, facts, refused, rows}
+use Rattle.faults.specs.Check.{refusal, none}
+use Rattle.faults.specs.Unless.{unless}
 use Rattle.faults.specs.Rule.{Exact}
+use Rattle.faults.proofs.Unless.{unless-found, unless-none}
 use Rattle.faults.proofs.Rule.{Decided, passes, refuses, exact}
 use Rattle.layout.specs.Section.{degree, elementSize}
 use Rattle.digits.specs.Record.{recordAt}
@@ -166,3 +169,12 @@ module _ (base : List (List ℤ)) (alphabet row : List ℕ) where
 
 pub worth-exact : (base : List (List ℤ)) (alphabet row : List ℕ) → Exact (valueRules base alphabet row) (worthCheck base alphabet row)
 worth-exact base alphabet row = exact _ _ (worth-decided base alphabet row)
+
+-- the outcome as a check and what follows: 28 in the rows' name, else the value
+pub worth-outcome : (base : List (List ℤ)) (alphabet row : List ℕ) → length base ≡ degree → worthOf base alphabet row ≡ unless rows (worthCheck base alphabet row) (facts (value (elements degree base) (digitsOf alphabet row)))
+unfolding worthCheck refusalOf
+worth-outcome base alphabet row h = go (reached base alphabet row)
+  where
+    go : Reached base alphabet row (worthOf base alphabet row) → worthOf base alphabet row ≡ unless rows (refusalOf (worthOf base alphabet row)) (facts (value (elements degree base) (digitsOf alphabet row)))
+    go (whole-row e kept) = rw e (ap facts (element-is-value base alphabet row h _ e) ∙ sym (unless-none rows none _ refl))
+    go (broken-at p e b) = rw e (sym (unless-found rows (refusal 28 p) _ (λ z. omega arith)))

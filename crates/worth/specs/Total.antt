@@ -9,8 +9,8 @@ use Rattle.ring.specs.Element.{zeros, plus}
 use Rattle.ring.specs.Matrix.{times}
 use Rattle.midpoint.specs.Midpoint.{parts}
 use Rattle.faults.specs.Outcome.{Outcome, facts, refused, rows}
-use Rattle.layout.specs.Section.{degree, recordCount}
-use Rattle.digits.specs.Record.{recordAt}
+use Rattle.layout.specs.Section.{degree}
+use Rattle.digits.specs.Record.{elementCount, recordAt}
 use Rattle.worth.specs.declared.Worth.{Worth}
 use Rattle.worth.specs.declared.Worth.the-variants.{Whole, Over}
 
@@ -24,7 +24,7 @@ limited (a ∷ x) = leb (natAbs a) largest && limited x
 
 -- every byte of a row is an alphabet index
 abbrev pub Indexed : List ℕ → List ℕ → Type 0
-Indexed alphabet row = (k : ℕ) → k < length row → getD row k 0 < recordCount 1 alphabet
+Indexed alphabet row = (k : ℕ) → k < length row → getD row k 0 < elementCount alphabet
 
 -- the digit at a place of a row
 abbrev pub digitAt : List ℕ → List ℕ → ℕ → List ℤ

@@ -10,9 +10,6 @@ ghost use Rattle.midpoint.specs.Midpoint.{parts};
 ghost use Rattle.worth.specs.Total.{largest, limited, Indexed, digitAt, outcomeOf, worthOf};
 use midpoint::Element;
 
-// The bytes of an element.
-const ELEMENT: usize = 4;
-
 // The value, or the place of the digit with which a part passed its limit.
 pub enum Worth {
     Whole(Element),
@@ -40,7 +37,7 @@ fn digit_at(alphabet: &[u8], row: &[u8], place: usize) -> [i64; 2]
     requires { ⌜ (place < length (now row)) × Indexed (now alphabet) (now row) ⌝ }
     ensures { λ r. ⌜ (r ≡ digitAt (now (alphabet .entry)) (now (row .entry)) place) × Within 32768 r ⌝ }
 {
-    digits::element(alphabet, row[place] as usize * ELEMENT)
+    digits::record_at(alphabet, row[place] as usize)
 }
 
 // An element as callers see it.
