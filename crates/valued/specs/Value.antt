@@ -1,0 +1,28 @@
+-- The value call ("Value, midpoint, program" of document 01): "takes a table and one row: 1 to 13, 20, 21, then 28 (rows group)".
+use mathlib.Core.List.{List}
+use Prim.Native.Nat.{ℕ}
+use lib.IntN.{ℤ}
+use Rattle.midpoint.specs.Midpoint.{parts}
+use Rattle.faults.specs.Outcome.{Outcome, facts, author, rows, refusedBy}
+use Rattle.faults.specs.Unless.{unless}
+use Rattle.digits.specs.Base.{baseMatrix}
+use Rattle.digits.specs.Record.{elementCount}
+use Rattle.reader.specs.Table.{basePart, alphabetPart, tableCheck}
+use Rattle.rows.specs.Check.{oneRowCheck}
+use Rattle.worth.specs.Total.{worthOf}
+use Rattle.valued.specs.declared.Valued.{Valued}
+use Rattle.valued.specs.declared.Valued.the-variants.{Value, Refused}
+
+-- the outcome that an answer states: "of the value call, the element"
+abbrev pub valuedAs : Valued → Outcome (List ℤ)
+valuedAs (Value e) = facts (parts e)
+valuedAs (Refused fault) = refusedBy fault
+
+-- 20, 21, then 28
+unfoldable pub rowOutcome : List ℕ → List ℕ → Outcome (List ℤ)
+rowOutcome table row =
+    unless rows (oneRowCheck row (elementCount (alphabetPart table))) (worthOf (baseMatrix (basePart table)) (alphabetPart table) row)
+
+-- for every table and row: 1 to 13 before
+unfoldable pub valueOutcome : List ℕ → List ℕ → Outcome (List ℤ)
+valueOutcome table row = unless author (tableCheck table) (rowOutcome table row)
