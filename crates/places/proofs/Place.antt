@@ -15,7 +15,7 @@ use Rattle.digits.specs.Record.{recordAt, elementCount}
 use Rattle.digits.specs.Digits.{sumIndex}
 use Rattle.digits.proofs.Index.{index-high}
 use Rattle.numeration.specs.Group.{Operations}
-use Rattle.numeration.specs.Code.{Code, HasLeaf, leafOf, depth}
+use Rattle.numeration.specs.Code.{Code, HasLeaf, leafOf}
 use Rattle.numeration.specs.Conversion.{window, outDigit, weightInto, weightAt, convert}
 use Rattle.numeration.proofs.Leaves.{leafOf-ext, depth-reached}
 use Rattle.numeration.proofs.Windows.{window-by-place}
