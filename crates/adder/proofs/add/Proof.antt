@@ -1,0 +1,107 @@
+use Rattle.reader.specs.declared.Table.{Table}
+use Rattle.rows.specs.Fit.{RowsFit}
+use Rattle.adder.proofs.Rows.{few-places}
+use mathlib.Core.Path.{_≡_, sym, ap, _∙_}
+use Prim.Native.Nat.{_+_}
+use native.Mathlib.Omega.{arith}
+use lib.ListN.{length}
+use Rattle.faults.specs.Outcome.{rows, whose, numberOf, placeOf}
+use Rattle.faults.specs.declared.Refusal.{Refusal}
+use Rattle.rows.proofs.Fit.{rows-fit}
+use Rattle.rows.specs.Check.{rowCheck}
+use Rattle.reader.proofs.Answer.{read-facts}
+use Rattle.reader.specs.Table.{readAs, tableCheck, tableFacts}
+use Rattle.adder.specs.Sum.{digitCount}
+use Rattle.adder.proofs.Sum.{table-refused, rows-refused, rows-passed, sum-lent, sum-by}
+use borrow.Author.Needs.{needs}
+use Rattle.adder.proofs.add.Statement.{statement}
+use Rattle.adder.proofs.add.Tie as tie
+
+-- facts: the table passes rules 1 to 13, and they are its facts
+known : (c : tie.After-answer) → (tableCheck (c .before .before .before .before .before .before .before .args .table .now) .number ≡ 0) × (c .answer .given .0 .0 ≡ tableFacts (c .before .before .before .before .before .before .before .args .table .now))
+known c = read-facts (c .before .before .before .before .before .before .before .args .table .now) _ (sym (ap readAs (c .answer .given .1)) ∙ c .before .before .read .ensures)
+
+checked : (c : tie.After-row-check) → c .row-check .result ≡ rowCheck (c .before .before .before .before .before .before .before .before .before .before .args .first .now) (c .before .before .before .before .before .before .before .before .before .before .args .second .now) (length (c .before .before .before .before .before .before .before .before .before .before .args .sum .now)) (digitCount (c .before .before .before .before .before .before .before .before .before .before .args .table .now)) (tableFacts (c .before .before .before .before .before .before .before .before .before .before .args .table .now) .depth)
+checked c =
+    let a = c .before .before .before .before .before .before .before .before .before .before .args in
+    let t = known (c .before .before .before) .1 in
+    c .row-check .ensures ∙ (λ i. rowCheck (a .first .now) (a .second .now) (length (a .sum .now)) (t i .alphabet .count) (t i .depth))
+
+nothing : (c : tie.Else1) → rowCheck (c .before .before .before .before .before .before .before .before .before .before .before .before .args .first .now) (c .before .before .before .before .before .before .before .before .before .before .before .before .args .second .now) (length (c .before .before .before .before .before .before .before .before .before .before .before .before .args .sum .now)) (digitCount (c .before .before .before .before .before .before .before .before .before .before .before .before .args .table .now)) (tableFacts (c .before .before .before .before .before .before .before .before .before .before .before .before .args .table .now) .depth) .number ≡ 0
+nothing c = ap (λ (r : Refusal). r .number) (sym (checked (c .before .before))) ∙ c .if1 .left
+
+fitting : (c : tie.Else1) → RowsFit (c .before .before .before .before .before .before .before .before .before .before .before .before .args .first .now) (c .before .before .before .before .before .before .before .before .before .before .before .before .args .second .now) (length (c .before .before .before .before .before .before .before .before .before .before .before .before .args .sum .now)) (digitCount (c .before .before .before .before .before .before .before .before .before .before .before .before .args .table .now)) (tableFacts (c .before .before .before .before .before .before .before .before .before .before .before .before .args .table .now) .depth)
+fitting c = rows-fit (c .before .before .before .before .before .before .before .before .before .before .before .before .args .first .now) (c .before .before .before .before .before .before .before .before .before .before .before .before .args .second .now) (length (c .before .before .before .before .before .before .before .before .before .before .before .before .args .sum .now)) (digitCount (c .before .before .before .before .before .before .before .before .before .before .before .before .args .table .now)) (tableFacts (c .before .before .before .before .before .before .before .before .before .before .before .before .args .table .now) .depth) (nothing c)
+
+read-requires : tie.Need-read-requires
+read-requires c κs = search needs
+
+enum-known-answer : tie.Need-enum-known-answer
+enum-known-answer c = search needs
+
+enum-known-answer-2 : tie.Need-enum-known-answer-2
+enum-known-answer-2 c = search needs
+
+enum-known-answer-3 : tie.Need-enum-known-answer-3
+enum-known-answer-3 c = search needs
+
+enum-told : tie.Need-enum-told
+enum-told c = search needs
+
+returns : tie.Need-returns
+returns c = search needs
+
+returns-2 : tie.Need-returns-2
+returns-2 c =
+    let a = c .before .before .before .before .before .before .before .before .before .before .before .args in
+    let fault = c .before .answer3 .given .0 .0 in
+    let is = table-refused (a .table .now) (a .first .now) (a .second .now) (length (a .sum .now)) (whose fault) (numberOf fault) (placeOf fault) (sym (ap readAs (c .before .answer3 .given .1)) ∙ sym (ap readAs (c .before .before .before .before .answer2 .given .1)) ∙ c .before .before .before .before .before .before .read .ensures) in
+    (is, sum-lent (a .table .now) (a .first .now) (a .second .now) (a .sum .now) (whose fault) (numberOf fault) (placeOf fault) is)
+
+row-check-requires : tie.Need-row-check-requires
+row-check-requires c κs = search needs
+
+returns-3 : tie.Need-returns-3
+returns-3 c =
+    let a = c .before .before .before .before .before .before .before .before .before .before .before .before .args in
+    let found = c .before .before .row-check .result in
+    let is = rows-refused (a .table .now) (a .first .now) (a .second .now) (length (a .sum .now)) found (known (c .before .before .before .before .before) .0) (checked (c .before .before)) (c .if1 .taken) in
+    (is, sum-lent (a .table .now) (a .first .now) (a .second .now) (a .sum .now) rows (found .number) (found .place) is)
+
+add-add-rows : tie.Need-add-add-rows
+add-add-rows c =
+    let a = c .before .before .before .before .before .before .before .before .before .before .before .before .before .args in
+    let facts = known (c .before .before .before .before .before .before) in
+    omega (arith, ap (λ (t : Table). t .depth) (facts .1), few-places (a .table .now) (a .first .now) (a .second .now) (length (a .sum .now)) (facts .0) (fitting (c .before)))
+
+add-rows-requires : tie.Need-add-rows-requires
+add-rows-requires c κs =
+    let facts = known (c .before .before .before .before .before .before .before) in
+    (facts .0, fitting (c .before .before), λ i. length (c .before .before .before .before .before .before .before .before .before .before .before .before .before .before .args .first .now) + facts .1 i .depth)
+
+same-length : tie.Need-same-length
+same-length c = search needs
+
+returns-4 : tie.Need-returns-4
+returns-4 c =
+    let a = c .before .before .before .before .before .before .before .before .before .before .before .before .before .before .before .before .before .args in
+    let is = rows-passed (a .table .now) (a .first .now) (a .second .now) (length (a .sum .now)) (known (c .before .before .before .before .before .before .before .before .before .before) .0) (nothing (c .before .before .before .before .before)) in
+    (c .before .before .add-rows .ensures .0 ∙ is, c .before .before .add-rows .ensures .1 ∙ sum-by (a .table .now) (a .first .now) (a .second .now) (a .sum .now) is)
+
+pub add-spec : {M : Type 1} → statement M
+add-spec =
+    tie.close
+    (tie.spec
+    read-requires
+    enum-known-answer
+    enum-known-answer-2
+    enum-known-answer-3
+    enum-told
+    returns
+    returns-2
+    row-check-requires
+    returns-3
+    add-add-rows
+    add-rows-requires
+    same-length
+    returns-4)

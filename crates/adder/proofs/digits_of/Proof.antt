@@ -1,0 +1,67 @@
+use mathlib.Core.Path.{sym, ap, subst, _∙_}
+use Prim.Native.Nat.{_+_}
+use native.Mathlib.Omega.{arith}
+use lib.Dec.{lit<}
+use Rattle.lists.specs.Overwrite.{overwrite}
+use Rattle.lists.specs.Scan.{firstFailing}
+use Rattle.lists.specs.Span.{span}
+use Rattle.layout.specs.Section.{degree}
+use Rattle.numeration.specs.Elements.{elements}
+use Rattle.digits.specs.Base.{BasePart, baseMatrix}
+use Rattle.places.specs.Place.{indexAt, digitAllowed}
+use Rattle.adder.specs.Sum.{rowPart}
+use Rattle.reader.proofs.Ready.{ready-passed}
+use Rattle.adder.proofs.Table.{directory-kept, few-digits, few-inputs, base-small, inputs-in, windows-begun}
+use borrow.Author.Needs.{needs}
+use Rattle.adder.proofs.digits_of.Statement.{statement}
+use Rattle.adder.proofs.digits_of.Tie as tie
+
+section-requires : tie.Need-section-requires
+section-requires c κs = (directory-kept (c .before .before .before .args .table .now) (c .before .before .before .pre .0), lit< tt)
+
+base-of-requires : tie.Need-base-of-requires
+base-of-requires c κs = subst BasePart (sym (c .section .ensures)) (ready-passed (c .before .before .before .before .args .table .now) (c .before .before .before .before .pre .0) .base)
+
+section-requires-2 : tie.Need-section-requires-2
+section-requires-2 c κs = (directory-kept (c .before .before .before .before .before .args .table .now) (c .before .before .before .before .before .pre .0), lit< tt)
+
+section-requires-3 : tie.Need-section-requires-3
+section-requires-3 c κs = (directory-kept (c .before .before .before .before .before .before .args .table .now) (c .before .before .before .before .before .before .pre .0), lit< tt)
+
+section-requires-4 : tie.Need-section-requires-4
+section-requires-4 c κs = (directory-kept (c .before .before .before .before .before .before .before .args .table .now) (c .before .before .before .before .before .before .before .pre .0), lit< tt)
+
+section-requires-5 : tie.Need-section-requires-5
+section-requires-5 c κs = (directory-kept (c .before .before .before .before .before .before .before .before .args .table .now) (c .before .before .before .before .before .before .before .before .pre .0), lit< tt)
+
+convert-requires : tie.Need-convert-requires
+convert-requires c κs =
+    let file = c .before .before .before .before .before .before .before .before .before .before .args .table .now in
+    let row = c .before .before .before .before .before .before .before .before .before .before .args .row .now in
+    let given = c .before .before .before .before .before .before .before .before .before .before .pre .0 in
+    let all = c .before .before .before .before .before .before .before .before .before .before .pre .1 in
+    (base-small file given _ _ (c .before .before .before .before .before .base-of .ensures) (c .before .before .before .before .before .before .section .ensures), omega (arith, few-digits file given _ (c .before .before .before .before .section2 .ensures)), few-inputs file given _ (c .before .before .before .section3 .ensures) .0, inputs-in file given _ row (c .before .before .before .section3 .ensures) all, windows-begun file given _ _ row (c .before .before .section4 .ensures) (c .before .section5 .ensures) all, c .before .before .before .before .before .before .before .before .before .before .pre .2, c .before .before .before .before .before .before .before .before .before .before .pre .3)
+
+same-length : tie.Need-same-length
+same-length c = search needs
+
+returns : tie.Need-returns
+unfolding rowPart
+returns c =
+    let a = c .before .before .before .before .before .before .before .before .before .before .before .before .before .args in
+    let base = c .before .before .before .before .before .before .before .before .base-of .ensures ∙ ap baseMatrix (c .before .before .before .before .before .before .before .before .before .section .ensures) in
+    (c .before .before .convert .ensures .0 ∙ (λ i. firstFailing (λ k. digitAllowed (elements degree (base i)) (c .before .before .before .before .before .before .before .section2 .ensures i) (c .before .before .before .before .before .before .section3 .ensures i) (c .before .before .before .before .before .section4 .ensures i) (c .before .before .before .before .section5 .ensures i) (a .row .now) (a .from + k)) 0 (a .count)), c .before .before .convert .ensures .1 ∙ (λ i. overwrite (a .out .now) 0 (span (λ k. indexAt (elements degree (base i)) (c .before .before .before .before .before .before .before .section2 .ensures i) (c .before .before .before .before .before .before .section3 .ensures i) (c .before .before .before .before .before .section4 .ensures i) (c .before .before .before .before .section5 .ensures i) (a .row .now) (a .from + k)) 0 (c .before .before .convert .result))))
+
+pub digits-of-spec : {M : Type 1} → statement M
+digits-of-spec =
+    tie.close
+    (tie.spec
+    section-requires
+    base-of-requires
+    section-requires-2
+    section-requires-3
+    section-requires-4
+    section-requires-5
+    convert-requires
+    same-length
+    returns)

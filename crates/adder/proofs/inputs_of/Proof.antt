@@ -1,0 +1,29 @@
+use mathlib.Core.Path.{_∙_}
+use native.Mathlib.Omega.{arith}
+use lib.Dec.{lit<}
+use Rattle.rows.specs.Changed.{changed}
+use Rattle.places.specs.Place.{inputAt, partRow}
+use Rattle.adder.proofs.Table.{directory-kept, digits-counted, few-inputs}
+use Rattle.adder.proofs.inputs_of.Statement.{statement}
+use Rattle.adder.proofs.inputs_of.Tie as tie
+
+section-requires : tie.Need-section-requires
+section-requires c κs = (directory-kept (c .before .before .before .args .table .now) (c .before .before .before .pre .0), lit< tt)
+
+section-requires-2 : tie.Need-section-requires-2
+section-requires-2 c κs = (directory-kept (c .before .before .before .before .args .table .now) (c .before .before .before .before .pre .0), lit< tt)
+
+input-row-requires : tie.Need-input-row-requires
+input-row-requires c κs =
+    let file = c .before .before .before .before .before .args .table .now in
+    let size = digits-counted file (c .before .before .before .before .before .pre .0) _ (c .before .section .ensures) in
+    (c .before .before .before .before .before .pre .1, c .before .before .before .before .before .pre .2, omega (arith, few-inputs file (c .before .before .before .before .before .pre .0) _ (c .section2 .ensures) .1), λ k h. omega (arith, size, c .before .before .before .before .before .pre .3 k h), λ k h. omega (arith, size, c .before .before .before .before .before .pre .4 k h))
+
+returns : tie.Need-returns
+returns c =
+    let a = c .before .before .before .before .before .before .args in
+    c .input-row .ensures ∙ (λ i. partRow (inputAt (c .before .before .section .ensures i) (c .before .section2 .ensures i) (changed (a .change) 0 (a .first .now)) (changed (a .change) 1 (a .second .now))) (a .from) (a .end))
+
+pub inputs-of-spec : {M : Type 1} → statement M
+inputs-of-spec =
+    tie.close (tie.spec section-requires section-requires-2 input-row-requires returns)

@@ -1,0 +1,101 @@
+// Addition of two rows.
+ghost use mathlib.Core.Path.{_≡_};
+ghost use Prim.Native.Nat.{ℕ, _+_, _≤_, _<_};
+ghost use lib.ListN.{length, getD};
+ghost use Rattle.lists.specs.Scan.{firstFailing};
+ghost use Rattle.lists.specs.Overwrite.{overwrite};
+ghost use Rattle.numeration.specs.Code.{Inputs};
+ghost use Rattle.reader.specs.Table.{tableCheck, tableFacts};
+ghost use Rattle.reader.specs.Ready.{inputCount};
+ghost use Rattle.rows.specs.Changed.{changed};
+ghost use Rattle.rows.specs.Fit.{RowsFit};
+ghost use Rattle.places.specs.Place.{partRow};
+ghost use Rattle.adder.specs.Sum.{inputOf, digitCount, placeCount, rowAllowed, rowPart, sumRow, digitsOutcome, addOutcome, atExit, addSum};
+ghost use Rattle.adder.specs.Answer.{outcomeOf};
+use faults::Fault;
+use reader::Reading;
+use rows::Change;
+
+// The facts of addition: n + h, the bytes written.
+pub struct AddedFacts {
+    pub places: usize,
+}
+
+pub enum Added {
+    Sum(AddedFacts),
+    Refused(Fault),
+}
+
+// The row of input indexes of two rows with the change made, at the places from `from` up to `end`; zeros elsewhere.
+pub fn inputs_of(
+    table: &[u8],
+    change: Change,
+    first: &[u8],
+    second: &[u8],
+    from: usize,
+    end: usize,
+) -> [u8; 256]
+    requires { ⌜ (tableCheck (now table) .number ≡ 0) × (from ≤ end) × (end ≤ 256) × ((k : ℕ) → k < end → getD (changed change 0 (now first)) k 0 < digitCount (now table)) × ((k : ℕ) → k < end → getD (changed change 1 (now second)) k 0 < digitCount (now table)) ⌝ }
+    ensures { λ r. ⌜ r ≡ partRow (inputOf (now (table .entry)) (changed change 0 (now (first .entry))) (changed change 1 (now (second .entry)))) from end ⌝ }
+{
+    let alphabet = reader::section(table, 1);
+    let inputs = reader::section(table, 2);
+    places::input_row(alphabet, inputs, change, first, second, from, end)
+}
+
+// Writes the alphabet indexes of the digits of a row of input indexes at the places from `from` on, up to the first digit that isn't
+// in the alphabet, at most `count` of them; how many.
+pub fn digits_of(table: &[u8], row: &[u8], from: usize, count: usize, out: &mut [u8]) -> usize
+    requires { ⌜ (tableCheck (now table) .number ≡ 0) × Inputs (inputCount (now table)) (now row) × (from + count < 65536) × (count ≤ length (now out)) ⌝ }
+    ensures { λ r. ⌜ (r ≡ firstFailing (λ k. rowAllowed (now (table .entry)) (now (row .entry)) (from + k)) 0 count) × (now (out .exit) ≡ overwrite (now (out .entry)) 0 (rowPart (now (table .entry)) (now (row .entry)) from r)) ⌝ }
+{
+    let base = digits::base_of(reader::section(table, 0));
+    let alphabet = reader::section(table, 1);
+    let inputs = reader::section(table, 2);
+    let leaves = reader::section(table, 3);
+    let words = reader::section(table, 4);
+    places::convert(base, alphabet, inputs, leaves, words, row, from, count, out)
+}
+
+// The sum row of rows that pass 20 to 23, or fault 27. Every digit is computed before any is written.
+fn add_rows(table: &[u8], first: &[u8], second: &[u8], places: usize, sum: &mut [u8]) -> Added
+    requires { ⌜ (tableCheck (now table) .number ≡ 0) × RowsFit (now first) (now second) (length (now sum)) (digitCount (now table)) (tableFacts (now table) .depth) × (places ≡ placeCount (now table) (now first)) ⌝ }
+    ensures { λ r. ⌜ (outcomeOf r ≡ digitsOutcome (now (table .entry)) (now (first .entry)) (now (second .entry))) × (now (sum .exit) ≡ atExit (digitsOutcome (now (table .entry)) (now (first .entry)) (now (second .entry))) (now (sum .entry)) (overwrite (now (sum .entry)) 0 (sumRow (now (table .entry)) (now (first .entry)) (now (second .entry))))) ⌝ }
+{
+    let row = inputs_of(table, rows::no_change(), first, second, 0, first.len());
+    let mut digits = [0u8; 264];
+    let found = digits_of(table, &row, 0, places, &mut digits);
+    if found < places {
+        return Added::Refused(Fault::Author {
+            number: 27,
+            place: found,
+        });
+    }
+    text::put(sum, 0, &digits[..places]);
+    Added::Sum(AddedFacts { places })
+}
+
+// The sum of two rows in the first n + h bytes of the sum buffer, or a fault and nothing written.
+pub fn add(table: &[u8], first: &[u8], second: &[u8], sum: &mut [u8]) -> Added
+    ensures { λ r. ⌜ (outcomeOf r ≡ addOutcome (now (table .entry)) (now (first .entry)) (now (second .entry)) (length (now (sum .entry)))) × (now (sum .exit) ≡ addSum (now (table .entry)) (now (first .entry)) (now (second .entry)) (now (sum .entry))) ⌝ }
+{
+    let answer = reader::read(table);
+    let Reading::Facts(facts) = answer else {
+        let Reading::Refused(fault) = answer else {
+            return Added::Refused(Fault::Author {
+                number: 0,
+                place: 0,
+            });
+        };
+        return Added::Refused(fault);
+    };
+    let alphabet = facts.alphabet;
+    let found = rows::row_check(first, second, sum.len(), alphabet.count, facts.depth);
+    if found.number != 0 {
+        return Added::Refused(Fault::Rows {
+            number: found.number,
+            place: found.place,
+        });
+    }
+    add_rows(table, first, second, first.len() + facts.depth, sum)
+}

@@ -1,0 +1,73 @@
+-- The loop of conversion: k digits are written, the next gets its weight from below.
+use mathlib.Core.Path.{_≡_, refl, sym, ap, _∙_}
+use mathlib.Core.Bool.{Bool}
+use mathlib.Core.List.{List}
+use Prim.Native.Nat.{ℕ, _+_, _-_, _<_, _≤_}
+use native.Mathlib.Nat.{add-zero, add-assoc, sub-zero}
+use native.Mathlib.Omega.{arith}
+use lib.ListN.{length, set, length-set}
+use lib.IntN.{ℤ}
+use Rattle.lists.specs.Span.{span}
+use Rattle.lists.specs.Scan.{firstFailing}
+use Rattle.lists.specs.Overwrite.{overwrite}
+use Rattle.lists.proofs.Scan.{scan-on, scan-here, scan-out}
+use Rattle.lists.proofs.Overwrite.{overwrite-none}
+use Rattle.ring.specs.Element.{Within}
+use Rattle.digits.specs.Record.{elementCount}
+use Rattle.numeration.specs.Group.{Operations}
+use Rattle.numeration.specs.Conversion.{weightInto}
+use Rattle.leaves.specs.Leaf.{codeOf}
+use Rattle.places.specs.Place.{indexAt, digitAllowed}
+use Rattle.places.proofs.Filled.{first-written}
+use Rattle.places.proofs.Place.{index-in, index-out}
+
+module _ (o : Operations (List ℤ)) (alphabet inputs leaves words row : List ℕ) (from count : ℕ) (entry : List ℕ) where
+  abbrev pub allowed : ℕ → Bool
+  allowed k = digitAllowed o alphabet inputs leaves words row (from + k)
+
+  abbrev pub index : ℕ → ℕ
+  index k = indexAt o alphabet inputs leaves words row (from + k)
+
+  pub record Converted (out : List ℕ) (below : List ℤ) (k : ℕ) : Type 0 where
+    pub passed : firstFailing allowed k (count - k) ≡ firstFailing allowed 0 count
+    pub written : out ≡ overwrite entry 0 (span index 0 k)
+    pub long : length out ≡ length entry
+    pub weight : below ≡ weightInto (codeOf leaves words) row (from + k)
+    pub small : Within 32768 below
+    pub reached : k ≤ count
+
+  -- what the call gives
+  abbrev pub Gives : List ℕ → ℕ → Type 0
+  Gives out r = (r ≡ firstFailing allowed 0 count) × (out ≡ overwrite entry 0 (span index 0 r))
+
+  pub converted-start : (below : List ℤ) → below ≡ weightInto (codeOf leaves words) row from → Within 32768 below → Converted entry below 0
+  unfolding span
+  converted-start below w s =
+      record {
+        passed = ap (firstFailing allowed 0) (sub-zero count);
+        written = sym (overwrite-none entry 0);
+        long = refl;
+        weight = w ∙ ap (weightInto (codeOf leaves words) row) (sym (add-zero from));
+        small = s;
+        reached = omega arith;
+      }
+
+  module _ (out : List ℕ) (below : List ℤ) (k : ℕ) (is : Converted out below k) where
+    pub converted-next : (own : List ℤ) (v : ℕ) → k < count → count ≤ length entry → v ≡ index k → v < elementCount alphabet → own ≡ weightInto (codeOf leaves words) row (from + k + 1) → Within 32768 own
+        → Converted (set out k v) own (k + 1)
+    converted-next own v h room e l w s =
+        record {
+          passed = sym (scan-on allowed k count h (index-in o alphabet inputs leaves words row (from + k) (omega arith))) ∙ is .passed;
+          written = first-written entry out index k v (omega arith) (is .written) e;
+          long = length-set out k v ∙ is .long;
+          weight = w ∙ ap (weightInto (codeOf leaves words) row) (add-assoc from k 1);
+          small = s;
+          reached = omega arith;
+        }
+
+    pub converted-here : (v : ℕ) → k < count → v ≡ index k → elementCount alphabet ≤ v → Gives out k
+    converted-here v h e l =
+        (sym (scan-here allowed k count h (index-out o alphabet inputs leaves words row (from + k) (omega arith))) ∙ is .passed, is .written)
+
+    pub converted-end : count ≤ k → Gives out k
+    converted-end h = (sym (scan-out allowed k count h) ∙ is .passed, is .written)

@@ -1,0 +1,84 @@
+-- Laws of windows, weights and the digits that come out, for the functions that compute them.
+use mathlib.Core.Path.{_≡_, refl, sym, ap, _∙_}
+use mathlib.Core.Bool.{true, false}
+use mathlib.Core.List.{List}
+use Prim.Native.Nat.{ℕ, suc, _+_, _-_, _<_, _≤_}
+use native.Mathlib.Nat.{zero-add}
+use native.Mathlib.Numerals.{add-one}
+use native.Mathlib.Omega.{arith}
+use lib.ListN.{getD}
+use lib.IntN.{ℤ}
+use borrow.Author.Tests.{lt-ltb, le-ltb}
+use Rattle.lists.specs.Span.{span}
+use Rattle.lists.proofs.Span.{getD-span}
+use Rattle.digits.specs.Record.{recordAt, elementCount}
+use Rattle.digits.specs.Digits.{sumIndex}
+use Rattle.digits.proofs.Index.{index-high}
+use Rattle.numeration.specs.Group.{Operations}
+use Rattle.numeration.specs.Code.{Code, HasLeaf, leafOf}
+use Rattle.numeration.specs.Conversion.{window, outDigit, weightInto, weightAt, convert}
+use Rattle.numeration.proofs.Leaves.{leafOf-ext, depth-reached}
+use Rattle.numeration.proofs.Windows.{window-by-place}
+use Rattle.leaves.specs.Leaf.{codeOf, weightGiven}
+use Rattle.leaves.specs.Window.{digits, LookedUp}
+use Rattle.leaves.proofs.Leaf.{weight-there}
+use Rattle.table.specs.Pairs.{inAlphabet}
+use Rattle.places.specs.Place.{alphabetIndex, indexAt, digitAllowed, Begun}
+
+-- a sum's index is at most the count of input digits
+pub sum-index-high : (alphabet inputs : List ℕ) (i j : ℕ) → sumIndex alphabet inputs i j ≤ elementCount inputs
+unfolding sumIndex
+sum-index-high alphabet inputs i j = index-high inputs (elementCount inputs) _
+
+-- digit k of the window below place j
+pub window-outside : (row : List ℕ) (j k : ℕ) → j ≤ k → 0 ≡ window row j k
+window-outside row j k h = window-by-place (λ d e. 0 ≡ d) row row j k (λ _. refl) (λ i e. absurd (none i e))
+  where
+    none : (i : ℕ) → i + suc k ≡ j → ⊥
+    none i e = omega arith
+
+pub window-inside : (row : List ℕ) (j k : ℕ) → k < j → getD row (j - k - 1) 0 ≡ window row j k
+window-inside row j k h =
+    window-by-place (λ d e. getD row (j - k - 1) 0 ≡ d) row row j k (λ l. absurd (none l))
+    (λ i e. ap (λ (n : ℕ). getD row n 0) (place i e))
+  where
+    none : j ≤ k → ⊥
+    none l = omega arith
+
+    place : (i : ℕ) → i + suc k ≡ j → j - k - 1 ≡ i
+    place i e = omega arith
+
+-- the leaf that the look-up finds in the first eight digits has the weight into the place
+pub weight-found : (leaves words row : List ℕ) → Begun leaves words row → (j r : ℕ) → LookedUp (codeOf leaves words) (span (window row j) 0 8) r → weightGiven leaves r ≡ weightInto (codeOf leaves words) row j
+unfolding weightInto
+weight-found leaves words row is j r found =
+    let (k, h, b) = is .begun j in
+    let leaf : HasLeaf c (digits eight) = (k, h, λ i l. b i l ∙ sym (same i (omega (arith, is .sorted .short k h)))) in
+    let (deep, d, e) = depth-reached c (omega arith) in
+    let at : r ≡ leafOf c (window row j) = found .the-leaf (is .sorted) leaf ∙ leafOf-ext c (digits eight) (window row j) (λ i l. same i (omega (arith, is .sorted .short deep d))) in
+    sym (weight-there leaves r (found .a-leaf (omega arith))) ∙ ap (c .weight) at
+  where
+    c : Code (List ℤ)
+    c = codeOf leaves words
+
+    eight : List ℕ
+    eight = span (window row j) 0 8
+
+    same : (i : ℕ) → i < 8 → digits eight i ≡ window row j i
+    same i l = getD-span (window row j) 0 8 i 0 l ∙ ap (window row j) (zero-add i)
+
+module _ (o : Operations (List ℤ)) (alphabet inputs leaves words row : List ℕ) where
+  -- the digit at place j, from its input digit, the weight from below and its own
+  pub index-from : (j input index : ℕ) (below own : List ℤ) → input ≡ getD row j 0 → below ≡ weightInto (codeOf leaves words) row j → own ≡ weightInto (codeOf leaves words) row (j + 1)
+      → index ≡ alphabetIndex alphabet (outDigit o (recordAt inputs input) below own) → index ≡ indexAt o alphabet inputs leaves words row j
+  unfolding indexAt convert weightAt
+  index-from j input index below own read b w e =
+      e ∙ (λ i. alphabetIndex alphabet (outDigit o (recordAt inputs (read i)) (b i) ((w ∙ ap (weightInto (codeOf leaves words) row) (add-one j)) i)))
+
+  pub index-in : (j : ℕ) → indexAt o alphabet inputs leaves words row j < elementCount alphabet → digitAllowed o alphabet inputs leaves words row j ≡ true
+  unfolding indexAt inAlphabet
+  index-in j h = lt-ltb _ _ h
+
+  pub index-out : (j : ℕ) → elementCount alphabet ≤ indexAt o alphabet inputs leaves words row j → digitAllowed o alphabet inputs leaves words row j ≡ false
+  unfolding indexAt inAlphabet
+  index-out j h = le-ltb _ _ h

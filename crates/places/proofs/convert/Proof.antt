@@ -1,0 +1,122 @@
+use borrow.Author.Needs.{needs}
+use mathlib.Core.Path.{_≡_, sym, subst}
+use Prim.Native.Nat.{ℕ, _≤_, _<_, _-_, _+_}
+use native.Mathlib.Omega.{arith}
+use lib.Dec.{lit<}
+use Rattle.layout.specs.Section.{degree}
+use Rattle.digits.specs.Record.{elementCount}
+use Rattle.numeration.specs.Elements.{elements}
+use Rattle.numeration.proofs.Leaves.{getD-inputs}
+use Rattle.places.specs.Place.{indexAt}
+use Rattle.places.proofs.Loop.{Converted, converted-start, converted-next, converted-here, converted-end}
+use Rattle.places.proofs.Place.{index-from}
+use Rattle.places.proofs.convert.Statement.{statement}
+use Rattle.places.proofs.convert.Tie as tie
+
+abbrev Inv-loop : tie.InvT-loop
+Inv-loop base alphabet inputs leaves words row from count out₀ size below₀ k₀ out below k =
+    Converted (elements degree base) alphabet inputs leaves words row from count out₀ out below k
+
+abbrev μ-loop : tie.MeasureT-loop
+μ-loop base alphabet inputs leaves words row from count out₀ size below₀ k₀ out below k = count - k
+
+-- the digit at this place
+at : (c : tie.After-out-index Inv-loop μ-loop) → c .out-index .result ≡ indexAt (elements degree (c .before .before .before .before .before .before .before .before .before .before .before .before .before .args .base)) (c .before .before .before .before .before .before .before .before .before .before .before .before .before .args .alphabet .now) (c .before .before .before .before .before .before .before .before .before .before .before .before .before .args .inputs .now) (c .before .before .before .before .before .before .before .before .before .before .before .before .before .args .leaves .now) (c .before .before .before .before .before .before .before .before .before .before .before .before .before .args .words .now) (c .before .before .before .before .before .before .before .before .before .before .before .before .before .args .row .now) (c .before .before .before .before .before .before .before .before .before .before .before .before .before .args .from + c .before .before .before .before .loop .k)
+at c =
+    let a = c .before .before .before .before .before .before .before .before .before .before .before .before .before .args in
+    index-from (elements degree (a .base)) (a .alphabet .now) (a .inputs .now) (a .leaves .now) (a .words .now) (a .row .now) (a .from + c .before .before .before .before .loop .k) (c .before .byte-at .result) (c .out-index .result) (c .before .before .before .before .loop .below) (c .before .before .weight-into2 .result) (c .before .byte-at .ensures) (c .before .before .before .before .loop .inv .weight) (c .before .before .weight-into2 .ensures .0) (c .out-index .ensures)
+
+record-count-requires : tie.Need-record-count-requires Inv-loop μ-loop
+record-count-requires c κs = lit< tt
+
+weight-into-requires : tie.Need-weight-into-requires Inv-loop μ-loop
+weight-into-requires c κs = c .before .before .before .before .before .before .before .pre .4
+
+loop-holds : tie.Need-loop-holds Inv-loop μ-loop
+loop-holds c =
+    let a = c .before .before .before .before .before .before .before .before .args in
+    converted-start (elements degree (a .base)) (a .alphabet .now) (a .inputs .now) (a .leaves .now) (a .words .now) (a .row .now) (a .from) (a .count) (a .out .now) (c .weight-into .result) (c .weight-into .ensures .0) (c .weight-into .ensures .1)
+
+add-weight-into : tie.Need-add-weight-into Inv-loop μ-loop
+add-weight-into c = omega (arith, c .before .before .before .before .before .before .before .before .before .before .pre .5)
+
+add-weight-into-2 : tie.Need-add-weight-into-2 Inv-loop μ-loop
+add-weight-into-2 c = omega (arith, c .before .before .before .before .before .before .before .before .before .before .pre .5)
+
+weight-into-requires-2 : tie.Need-weight-into-requires-2 Inv-loop μ-loop
+weight-into-requires-2 c κs = c .before .before .before .before .before .before .before .before .before .before .pre .4
+
+add-byte-at : tie.Need-add-byte-at Inv-loop μ-loop
+add-byte-at c = omega (arith, c .before .before .before .before .before .before .before .before .before .before .before .pre .5)
+
+byte-at-requires : tie.Need-byte-at-requires Inv-loop μ-loop
+byte-at-requires c κs = tt
+
+cast-input : tie.Need-cast-input Inv-loop μ-loop
+cast-input c = search needs
+
+out-index-requires : tie.Need-out-index-requires Inv-loop μ-loop
+out-index-requires c κs =
+    let a = c .before .before .before .before .before .before .before .before .before .before .before .before .args in
+    (c .before .before .before .before .before .before .before .before .before .before .before .before .pre .0, subst (λ (n : ℕ). n < elementCount (a .inputs .now)) (sym (c .byte-at .ensures)) (getD-inputs (elementCount (a .inputs .now)) (a .row .now) (c .before .before .before .before .before .before .before .before .before .before .before .before .pre .2) (c .before .before .before .before .before .before .before .before .before .before .before .before .pre .3) (a .from + c .before .before .before .loop .k)), c .before .before .before .loop .inv .small, c .before .weight-into2 .ensures .1)
+
+same-length : tie.Need-same-length Inv-loop μ-loop
+same-length c = c .before .before .before .before .before .loop .inv .long
+
+returns : tie.Need-returns Inv-loop μ-loop
+returns c =
+    let a = c .before .before .before .before .before .before .before .before .before .before .before .before .before .before .args in
+    converted-here (elements degree (a .base)) (a .alphabet .now) (a .inputs .now) (a .leaves .now) (a .words .now) (a .row .now) (a .from) (a .count) (a .out .now) (c .before .before .before .before .before .loop .out) (c .before .before .before .before .before .loop .below) (c .before .before .before .before .before .loop .k) (c .before .before .before .before .before .loop .inv) (c .before .out-index .result) (c .before .before .before .before .loop-test .taken) (at (c .before)) (subst (λ (n : ℕ). n ≤ c .before .out-index .result) (c .before .before .before .before .before .before .before .record-count .ensures) (c .if1 .taken))
+
+cast-out : tie.Need-cast-out Inv-loop μ-loop
+cast-out c =
+    let size : c .before .before .before .before .before .before .before .record-count .result ≡ elementCount (c .before .before .before .before .before .before .before .before .before .before .before .before .before .before .args .alphabet .now) = c .before .before .before .before .before .before .before .record-count .ensures in
+    omega (arith, c .before .before .before .before .before .before .before .before .before .before .before .before .before .before .pre .1, c .if1 .left)
+
+slice-write-out : tie.Need-slice-write-out Inv-loop μ-loop
+slice-write-out c = omega (arith, c .before .before .before .before .before .before .before .before .before .before .before .before .before .before .pre .6, c .before .before .before .before .before .loop .inv .long)
+
+add-k : tie.Need-add-k Inv-loop μ-loop
+add-k c = omega arith
+
+loop-less : tie.Need-loop-less Inv-loop μ-loop
+loop-less c = omega arith
+
+loop-again : tie.Need-loop-again Inv-loop μ-loop
+loop-again c =
+    let a = c .before .before .before .before .before .before .before .before .before .before .before .before .before .before .args in
+    converted-next (elements degree (a .base)) (a .alphabet .now) (a .inputs .now) (a .leaves .now) (a .words .now) (a .row .now) (a .from) (a .count) (a .out .now) (c .before .before .before .before .before .loop .out) (c .before .before .before .before .before .loop .below) (c .before .before .before .before .before .loop .k) (c .before .before .before .before .before .loop .inv) (c .before .before .before .weight-into2 .result) (c .before .out-index .result) (c .before .before .before .before .loop-test .taken) (c .before .before .before .before .before .before .before .before .before .before .before .before .before .before .pre .6) (at (c .before)) (subst (λ (n : ℕ). c .before .out-index .result < n) (c .before .before .before .before .before .before .before .record-count .ensures) (c .if1 .left)) (c .before .before .before .weight-into2 .ensures .0) (c .before .before .before .weight-into2 .ensures .1)
+
+same-length-2 : tie.Need-same-length-2 Inv-loop μ-loop
+same-length-2 c = c .before .loop .inv .long
+
+returns-2 : tie.Need-returns-2 Inv-loop μ-loop
+returns-2 c =
+    let a = c .before .before .before .before .before .before .before .before .before .before .args in
+    converted-end (elements degree (a .base)) (a .alphabet .now) (a .inputs .now) (a .leaves .now) (a .words .now) (a .row .now) (a .from) (a .count) (a .out .now) (c .before .loop .out) (c .before .loop .below) (c .before .loop .k) (c .before .loop .inv) (c .loop-test .left)
+
+pub convert-spec : {M : Type 1} → statement M
+convert-spec =
+    tie.close
+    (tie.spec
+    Inv-loop
+    μ-loop
+    record-count-requires
+    weight-into-requires
+    loop-holds
+    add-weight-into
+    add-weight-into-2
+    weight-into-requires-2
+    add-byte-at
+    byte-at-requires
+    cast-input
+    out-index-requires
+    same-length
+    returns
+    cast-out
+    slice-write-out
+    add-k
+    loop-less
+    loop-again
+    same-length-2
+    returns-2)
