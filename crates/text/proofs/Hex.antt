@@ -1,15 +1,17 @@
--- Hexadecimal text: its digits, its length, one byte more.
+-- Hexadecimal text: its digits, its length, one byte more, and that it says its bytes.
 use mathlib.Core.Path.{_≡_, refl, sym, ap, _∙_}
 use mathlib.Core.List.{List, [], _∷_, _++_, append-assoc}
-use Prim.Native.Nat.{ℕ, _+_, _*_, _/_, _%_, _<_, _≤_}
+use Prim.Native.Nat.{ℕ, _+_, _-_, _*_, _/_, _%_, _<_, _≤_}
 use native.Mathlib.Omega.{arith}
+use native.Mathlib.Decide.{decLt}
 use native.Mathlib.Numerals.{add-one}
 use lib.ListN.{length, getD, take, set, length-append}
 use lib.Seq.{take-suc, length-take-le}
 use borrow.Author.Tests.{lt-ltb, le-ltb}
 use Rattle.lists.specs.Overwrite.{overwrite}
 use Rattle.lists.proofs.Overwrite.{overwrite-snoc}
-use Rattle.text.specs.Hex.{hexByte, hexDigits, hex}
+use Rattle.lists.proofs.Cons.{cons≡}
+use Rattle.text.specs.Hex.{hexByte, hexDigits, hex, hexValue, readHex}
 
 pub hex-low : (d : ℕ) → d < 10 → hexByte d ≡ 48 + d
 unfolding hexByte
@@ -68,3 +70,26 @@ hex-step s t bytes p e i x y h l ee te xe ye =
     let second : set (set t e x) (e + 1) y ≡ overwrite s p (b ++ (y ∷ [])) = cc (overwrite-snoc s p b y (omega (arith, length-append a (x ∷ [])))) in
     let text : b ++ (y ∷ []) ≡ hexDigits (take (i + 1) bytes) = cc (one-more bytes i l) in
     second ∙ ap (overwrite s p) text
+
+-- ---- what the text says
+
+value-low : (byte : ℕ) → byte < 97 → hexValue byte ≡ byte - 48
+unfolding hexValue
+value-low byte h = rw (lt-ltb byte 97 h, hexValue)
+
+value-high : (byte : ℕ) → 97 ≤ byte → hexValue byte ≡ byte - 87
+unfolding hexValue
+value-high byte h = rw (le-ltb byte 97 h, hexValue)
+
+value-of : (d : ℕ) → hexValue (hexByte d) ≡ d
+value-of d =
+    elim (decLt d 10) [
+      | yes l ↦ ap hexValue (hex-low d l) ∙ value-low (48 + d) (omega arith) ∙ omega arith
+      | no m ↦ ap hexValue (hex-high d (omega arith)) ∙ value-high (87 + d) (omega arith) ∙ omega arith
+    ]
+
+-- a buffer's digits say the buffer
+pub hex-reads : (bytes : List ℕ) → readHex (hexDigits bytes) ≡ bytes
+unfolding readHex hexDigits
+hex-reads [] = refl
+hex-reads (byte ∷ bytes) = cons≡ (omega (arith, value-of (byte / 16), value-of (byte % 16))) (hex-reads bytes)
