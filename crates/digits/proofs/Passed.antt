@@ -18,7 +18,7 @@ use Rattle.digits.specs.Record.{elementAt, RecordsWithin}
 use Rattle.digits.specs.Base.{BasePart}
 use Rattle.digits.proofs.Record.{element-two}
 
-element-within : (bytes : List ℕ) (at n : ℕ) → ((k : ℕ) → k < degree → natAbs (signedAt bytes (at + 2 * k)) ≤ n) → Within n (elementAt bytes at)
+pub element-within : (bytes : List ℕ) (at n : ℕ) → ((k : ℕ) → k < degree → natAbs (signedAt bytes (at + 2 * k)) ≤ n) → Within n (elementAt bytes at)
 element-within bytes at n h = rw (element-two bytes at) (within-two n _ _ (rw (add-zero at) at (h 0 (omega arith))) (h 1 (omega arith)))
 
 -- base, alphabet and input digits

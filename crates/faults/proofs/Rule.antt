@@ -110,6 +110,14 @@ places-decided r test n some sound complete =
       λ w. subst (r .Broken) (sym (w .2)) (complete (w .0) (w .1) (w .3)),
     ))
 
+-- a rule that judges one thing, at place 0
+pub once-decided : (number : ℕ) (Bad : Type 0) (allowed : Bool) → 0 < number → (allowed ≡ true → Bad → ⊥) → (allowed ≡ false → Bad)
+    → Decided (rule number (λ p. (p ≡ 0) × Bad) ∷ []) (judge number (λ k. k) (λ _. allowed) 1)
+once-decided number Bad allowed some sound complete =
+    places-decided (rule number (λ p. (p ≡ 0) × Bad)) (λ _. allowed) 1 some
+    (λ p b. (omega (arith, b .0), λ t. sound t (b .1)))
+    (λ p l t. (omega arith, complete t))
+
 -- checks one after the other, the second judged only where the first found nothing
 pub then-decided : (rs ss : List Rule) (a b : Refusal) → Decided rs a → (AllKept rs → Decided ss b) → Decided (rs ++ ss) (a then b)
 then-decided rs ss a b (passes e kept) next = rw (then-next a b (ap (λ (r : Refusal). r .number) e)) (after (next kept))

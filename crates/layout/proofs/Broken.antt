@@ -34,7 +34,7 @@ size-decided file =
     (λ p h t. (omega arith, size-fails _ t))
 
 -- rule 2
-follows-expected : (file : List ℕ) (p : ℕ) → Follows file p ↔ (sectionStart file p ≡ expectedStart file p)
+pub follows-expected : (file : List ℕ) (p : ℕ) → Follows file p ↔ (sectionStart file p ≡ expectedStart file p)
 unfolding expectedStart
 follows-expected file zero = (λ e. e, λ e. e)
 follows-expected file (suc p) = (λ e. e, λ e. e)

@@ -2,12 +2,11 @@
 use mathlib.Core.Path.{_≡_, sym, ap, _∙_}
 use mathlib.Core.List.{List}
 use Prim.Native.Nat.{ℕ, _≤_, _<_}
-use native.Mathlib.Omega.{arith}
 use lib.ListN.{length}
 use Rattle.faults.specs.declared.Refusal.{Refusal}
-use Rattle.faults.specs.Check.{_then_}
+use Rattle.faults.specs.Check.{none, _then_}
 use Rattle.faults.proofs.Check.{then-kept}
-use Rattle.layout.specs.Section.{sectionStart, sectionEnd, partOf}
+use Rattle.layout.specs.Section.{sectionEnd}
 use Rattle.layout.specs.Directory.{directoryCheck}
 use Rattle.layout.specs.Length.{lengthCheck, sectionLengths}
 use Rattle.layout.specs.Limit.{limitCheck}
@@ -23,6 +22,9 @@ use Rattle.reader.specs.Table.{basePart, inputPart, leafPart, wordPart, 
 -- what a stage that found nothing says of its definition
 pub stage-nothing : (found a : Refusal) → found ≡ a → found .number ≡ 0 → a .number ≡ 0
 stage-nothing found a e z = ap (λ (r : Refusal). r .number) (sym e) ∙ z
+
+pub no-number : (a : Refusal) → a ≡ none → a .number ≡ 0
+no-number a e = ap (λ (r : Refusal). r .number) e
 
 -- rules 1 and 2, 3, and 4, each found nothing
 pub layout-kept : (file : List ℕ) → layoutCheck file .number ≡ 0 → (directoryCheck file .number ≡ 0) × (lengthCheck (sectionLengths file) .number ≡ 0) × (limitCheck file .number ≡ 0)

@@ -1,2 +1,5 @@
 pub mod Kept
 pub mod Answer
+pub mod Broken
+pub mod Formed
+pub mod Ready

@@ -1,1 +1,4 @@
 pub mod Table
+pub mod Broken
+pub mod Formed
+pub mod Ready

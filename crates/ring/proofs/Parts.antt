@@ -32,7 +32,7 @@ within-two n a b h k (suc (suc i)) = zero-le
 abbrev pub entry : (n : ℕ) (x : List ℤ) → Within n x → ℕ → Term
 entry n x h k = leaf (part x k) n (within-part n x h k)
 
-two-parts : (x : List ℤ) → length x ≡ 2 → x ≡ part x 0 ∷ part x 1 ∷ []
+pub two-parts : (x : List ℤ) → length x ≡ 2 → x ≡ part x 0 ∷ part x 1 ∷ []
 unfolding span
 two-parts x h = listed (pos 0) 2 x h
 

@@ -1,0 +1,4 @@
+pub mod Allowed
+pub mod Changed
+pub mod Broken
+pub mod Fit

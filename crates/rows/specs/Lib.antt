@@ -1,0 +1,4 @@
+pub mod Check
+pub mod Changed
+pub mod Broken
+pub mod Fit

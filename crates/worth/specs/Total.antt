@@ -1,0 +1,53 @@
+-- The value of a row from the top place down, with rule 28 ("Value, midpoint, program" of document 01).
+use mathlib.Core.Bool.{Bool, true, false, _&&_}
+use mathlib.Core.List.{List, [], _∷_}
+use Prim.Native.Nat.{ℕ, zero, suc, _<_}
+use lib.ListN.{length, getD}
+use lib.IntN.{ℤ, natAbs}
+use lib.Dec.{leb}
+use Rattle.ring.specs.Element.{zeros, plus}
+use Rattle.ring.specs.Matrix.{times}
+use Rattle.midpoint.specs.Midpoint.{parts}
+use Rattle.faults.specs.Outcome.{Outcome, facts, refused, rows}
+use Rattle.layout.specs.Section.{degree}
+use Rattle.digits.specs.Record.{elementCount, recordAt}
+use Rattle.worth.specs.declared.Worth.{Worth}
+use Rattle.worth.specs.declared.Worth.the-variants.{Whole, Over}
+
+-- a part of a total is within ±2,147,483,647
+abbrev pub largest : ℕ
+largest = 2147483647
+
+unfoldable pub limited : List ℤ → Bool
+limited [] = true
+limited (a ∷ x) = leb (natAbs a) largest && limited x
+
+-- every byte of a row is an alphabet index
+abbrev pub Indexed : List ℕ → List ℕ → Type 0
+Indexed alphabet row = (k : ℕ) → k < length row → getD row k 0 < elementCount alphabet
+
+-- the digit at a place of a row
+abbrev pub digitAt : List ℕ → List ℕ → ℕ → List ℤ
+digitAt alphabet row p = recordAt alphabet (getD row p 0)
+
+-- base times total plus digit
+abbrev pub nextTotal : List (List ℤ) → List ℤ → List ℤ → List ℤ
+nextTotal base total digit = plus (times base total) digit
+
+-- on from a total over the p lowest places: the value, or 28 at the place of the digit just added
+unfoldable pub worthFrom : List (List ℤ) → (ℕ → List ℤ) → ℕ → List ℤ → Outcome (List ℤ)
+worthFrom base digit zero total = facts total
+worthFrom base digit (suc p) total =
+    elim (limited (nextTotal base total (digit p))) [
+      | true ↦ worthFrom base digit p (nextTotal base total (digit p))
+      | false ↦ refused rows 28 p
+    ]
+
+-- "starting from zero and from the top place down"
+unfoldable pub worthOf : List (List ℤ) → List ℕ → List ℕ → Outcome (List ℤ)
+worthOf base alphabet row = worthFrom base (digitAt alphabet row) (length row) (zeros degree)
+
+-- the outcome that an answer states
+abbrev pub outcomeOf : Worth → Outcome (List ℤ)
+outcomeOf (Whole e) = facts (parts e)
+outcomeOf (Over p) = refused rows 28 p
