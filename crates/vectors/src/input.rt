@@ -1,0 +1,42 @@
+// Reading what follows a call.
+ghost use Prim.Native.Nat.{_≤_};
+ghost use lib.ListN.{length};
+ghost use Rattle.vectors.specs.Read.{valueOf};
+
+// A number, or an input that ends before all of it.
+pub enum Read {
+    Got(usize),
+    Cut,
+}
+
+// Fills a buffer; false where the input ends before.
+pub fn filled(out: &mut [u8]) -> bool {
+    let room = out.len();
+    io::read_full(libc::STDIN_FILENO, out) == room
+}
+
+// A length: four bytes, little-endian.
+fn count() -> Read {
+    let mut bytes = [0u8; 4];
+    if !filled(&mut bytes) {
+        return Read::Cut;
+    }
+    Read::Got(layout::unsigned(&bytes, 0) + 65536 * layout::unsigned(&bytes, 2))
+}
+
+// A buffer: its length, then its bytes, which go to the start of `out`; the length. One that is longer than `out` counts as cut.
+pub fn buffer(out: &mut [u8]) -> Read
+    ensures { λ r. ⌜ valueOf r ≤ length (now (out .entry)) ⌝ }
+{
+    let size = count();
+    let Read::Got(n) = size else {
+        return Read::Cut;
+    };
+    if out.len() < n {
+        return Read::Cut;
+    }
+    if !filled(&mut out[..n]) {
+        return Read::Cut;
+    }
+    Read::Got(n)
+}
