@@ -1,14 +1,16 @@
 -- A check's refusal, or what follows.
-use mathlib.Core.Path.{_≡_, ap, ap₂, _∙_}
+use mathlib.Core.Path.{_≡_, sym, ap, ap₂, _∙_}
 use mathlib.Core.List.{List}
 use Prim.Native.Nat.{ℕ, _<_}
 use native.Mathlib.Omega.{arith}
+use native.Mathlib.Decide.{ℕ-discrete}
 use borrow.Author.Tests.{eq-eqb, ne-eqb}
 use Rattle.faults.specs.declared.Refusal.{Refusal}
-use Rattle.faults.specs.Check.{refusal}
+use Rattle.faults.specs.Check.{refusal, _then_}
 use Rattle.faults.specs.Outcome.{Group, Outcome, facts, refused}
 use Rattle.faults.specs.Rule.{Rule, Exact}
 use Rattle.faults.specs.Unless.{unless, Answers}
+use Rattle.faults.proofs.Check.{then-found, then-next}
 use Rattle.faults.proofs.Rule.{Decided, passes, refuses, exact}
 
 module _ {F : Type 0} (whose : Group) where
@@ -65,3 +67,19 @@ unless-answers {F} whose rules a answer d = go (exact rules a d) d
       where
         some-not : a .number ≡ 0 → ⊥
         some-not z = omega arith
+
+-- two checks of one group, one after the other
+pub unless-then : {F : Type 0} (whose : Group) (a b : Refusal) (rest : Outcome F) → unless whose a (unless whose b rest) ≡ unless whose (a then b) rest
+unless-then whose a b rest =
+    elim (ℕ-discrete (a .number) 0) [
+      | yes z ↦ unless-none whose a (unless whose b rest) z ∙ ap (λ (r : Refusal). unless whose r rest) (sym (then-next a b z))
+      | no some ↦ unless-found whose a (unless whose b rest) some ∙ sym (unless-found whose a rest some) ∙ ap (λ (r : Refusal). unless whose r rest) (sym (then-found a b some))
+    ]
+
+-- facts: the check found nothing
+pub accepted-nothing : {F : Type 0} (whose : Group) (a : Refusal) (answer : F) → unless whose a (facts answer) ≡ facts answer → a .number ≡ 0
+accepted-nothing whose a answer e =
+    elim (ℕ-discrete (a .number) 0) [
+      | yes z ↦ z
+      | no some ↦ absurd (apart (unless whose a (facts answer)) answer whose (a .number) (a .place) e (unless-found whose a (facts answer) some))
+    ]

@@ -44,7 +44,6 @@ ready file is =
     record {
       code = complete-prefix-code (leafPart file) (wordPart file) (inputCount file) some (is .leaves);
       ordered-code = ordered-code (leafPart file) (wordPart file) (inputCount file) some (is .leaves);
-      ordered = is .leaves .ordered;
       group = elements-group degree (baseMatrix (basePart file)) (rows-of-base (basePart file));
       in-group =
           record {

@@ -1,7 +1,7 @@
 -- The table of the bytes: what addition, edit, value and check go by on a file that is well formed.
 use mathlib.Core.Path.{_≡_}
 use mathlib.Core.List.{List}
-use Prim.Native.Nat.{ℕ, suc, _-_, _<_, _≤_}
+use Prim.Native.Nat.{ℕ, _-_, _<_, _≤_}
 use lib.ListN.{length, take, drop}
 use lib.IntN.{ℤ}
 use Rattle.layout.specs.Section.{degree}
@@ -10,7 +10,7 @@ use Rattle.digits.specs.Record.{recordAt, elementCount}
 use Rattle.digits.specs.Base.{BasePart, baseMatrix}
 use Rattle.numeration.specs.Group.{Operations, Group}
 use Rattle.numeration.specs.Elements.{elements, HasParts}
-use Rattle.numeration.specs.Code.{Code, Agree, Inputs, Precedes, OrderedCode, PrefixCode, leafOf}
+use Rattle.numeration.specs.Code.{Code, Agree, Inputs, OrderedCode, PrefixCode, leafOf}
 use Rattle.numeration.specs.Conversion.{InGroup}
 use Rattle.leaves.specs.Leaf.{leafCount, wordLength, weightOf, codeOf}
 use Rattle.leaves.specs.Window.{digits, LookedUp}
@@ -35,10 +35,10 @@ pub record Lies (file : List ℕ) (fact : Part) (bytes : List ℕ) (count : ℕ)
   pub counts : fact .count ≡ count
 
 pub record Ready (file : List ℕ) : Type 0 where
-  -- what the numeration laws ask: a complete prefix code in its order, over a group with an additive map
+  -- what the numeration laws ask: a complete prefix code, its words of 1 to 8 input digits each above the previous one, over a
+  -- group with an additive map
   pub code : PrefixCode (leavesIn file) (inputCount file)
   pub ordered-code : OrderedCode (leavesIn file) 8 (inputCount file)
-  pub ordered : (k : ℕ) → suc k < leafCount (leafPart file) → Precedes (leavesIn file) k (suc k)
   pub group : Group (operationsOf file) (HasParts degree)
   pub in-group : InGroup (operationsOf file) (HasParts degree) (recordAt (inputPart file)) (leavesIn file)
   -- "Record 0 of sections 1 and 2 is the digit zero", "Leaf 0 has the weight zero"

@@ -2,3 +2,4 @@ pub mod Pairs
 pub mod Answer
 pub mod Line
 pub mod Check
+pub mod Broken

@@ -1,0 +1,34 @@
+-- The check accepts both tables, by computation: every definition on the way is opened.
+use mathlib.Core.Path.{_≡_, refl}
+use Rattle.faults.specs.Outcome.{facts}
+use Rattle.lists.specs.Overwrite.{overwrite}
+use Rattle.lists.specs.Scan.{firstFailing, every}
+use Rattle.lists.specs.Span.{span}
+use Rattle.ring.specs.Base.{baseTrace, baseNorm, expanding, discriminant, squareBelow, perfectSquare}
+use Rattle.ring.specs.Element.{plus, negative, minus, scale, timesOmega, product, unit, same}
+use Rattle.ring.specs.Matrix.{dot, times, columns, matrixOf, trace, alternating, without, determinant}
+use Rattle.faults.specs.Check.{judge, _then_, inTurn}
+use Rattle.faults.specs.Unless.{unless}
+use Rattle.layout.specs.Directory.{sizeAllowed, expectedStart, pairAllowed, directoryCheck}
+use Rattle.layout.specs.Length.{lengthAllowed, lengthCheck}
+use Rattle.layout.specs.Limit.{numberPlace, numberCount, numberAllowed, limitCheckIn, limitCheckOf, limitCheck}
+use Rattle.layout.specs.Number.{unsignedAt, toSigned}
+use Rattle.digits.specs.Base.{omegaOf, betaOf, baseMatrix, discriminantAllowed, expandingBase, baseCheck}
+use Rattle.digits.specs.Digits.{recordAllowed, alphabetCheck, sumIndex, sumListed, sumsListed, allSumsListed, noSumWith, isSum, inputAllowed, inputsAllowed, inputCheck, digitCheck}
+use Rattle.digits.specs.Record.{elementAt, indexIn}
+use Rattle.numeration.specs.Code.{agree, lower, largest, begins, leafOf, depth, precedes}
+use Rattle.numeration.specs.Conversion.{window, outDigit, weightInto, weightAt, convert, convertRow}
+use Rattle.numeration.specs.Elements.{elements}
+use Rattle.numeration.specs.Pairs.{tail, fits, pairDigitAt, pairString, pairRow, pairDigit, pairPasses, upperPasses, lowestBadUpper}
+use Rattle.leaves.specs.Check.{expectedStart as leaves-expectedStart, leafAllowed, placeCheck, indexCheck, orderCheck, coverCheck, zeroCheck, leafCheck}
+use Rattle.leaves.specs.Coverage.{runEnd, everyRun, covered}
+use Rattle.leaves.specs.Leaf.{wordGiven, weightGiven}
+use Rattle.leaves.specs.Window.{above}
+use Rattle.reader.specs.Table.{layoutCheck, digitsOf, leavesOf, tableCheck, partFacts, tableFacts, readOutcome}
+use Rattle.table.specs.Check.{pairsOf, checkFacts, checkOutcome}
+use Rattle.table.specs.Pairs.{inAlphabet, badLower, badUpper, pairCheck, badPair}
+use Rattle.carried.specs.Tables.{unsigned16, signed16, joined, record4, leafRecords, directory, sections, fileOf, ternInputs, ternWeight, ternLeaves, ternFile, binInputs, binWeight2, binWeight1, binLeavesOf, binLeaves, binFile}
+
+pub accepted : (checkOutcome ternFile ≡ facts (record { depth = 1; leaves = 9; digits = 5 })) × (checkOutcome binFile ≡ facts (record { depth = 2; leaves = 13; digits = 3 }))
+unfolding overwrite firstFailing every span baseTrace baseNorm expanding discriminant squareBelow perfectSquare plus negative minus scale timesOmega product unit same dot times columns matrixOf trace alternating without determinant judge _then_ inTurn unless sizeAllowed expectedStart pairAllowed directoryCheck lengthAllowed lengthCheck numberPlace numberCount numberAllowed limitCheckIn limitCheckOf limitCheck unsignedAt toSigned omegaOf betaOf baseMatrix discriminantAllowed expandingBase baseCheck recordAllowed alphabetCheck sumIndex sumListed sumsListed allSumsListed noSumWith isSum inputAllowed inputsAllowed inputCheck digitCheck elementAt indexIn agree lower largest begins leafOf depth precedes window outDigit weightInto weightAt convert convertRow elements tail fits pairDigitAt pairString pairRow pairDigit pairPasses upperPasses lowestBadUpper leaves-expectedStart leafAllowed placeCheck indexCheck orderCheck coverCheck zeroCheck leafCheck runEnd everyRun covered wordGiven weightGiven above layoutCheck digitsOf leavesOf tableCheck partFacts tableFacts readOutcome pairsOf checkFacts checkOutcome inAlphabet badLower badUpper pairCheck badPair unsigned16 signed16 joined record4 leafRecords directory sections fileOf ternInputs ternWeight ternLeaves ternFile binInputs binWeight2 binWeight1 binLeavesOf binLeaves binFile
+accepted = (refl, refl)
