@@ -1,3 +1,6 @@
 pub mod Table
 pub mod Rows
 pub mod Sum
+pub mod Demand
+pub mod Accepted
+pub mod Summed

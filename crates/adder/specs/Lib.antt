@@ -1,2 +1,4 @@
 pub mod Sum
 pub mod Answer
+pub mod Broken
+pub mod Summed

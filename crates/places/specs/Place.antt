@@ -1,7 +1,7 @@
 -- Conversion place by place (document 01, "Conversion and addition"): a row of input indexes, and the digits that come out of it.
 use mathlib.Core.Bool.{Bool}
 use mathlib.Core.List.{List, replicate}
-use Prim.Native.Nat.{ℕ, _-_, _<_, _≤_}
+use Prim.Native.Nat.{ℕ, _-_}
 use lib.ListN.{getD}
 use lib.IntN.{ℤ}
 use Rattle.lists.specs.Span.{span}

@@ -1,0 +1,26 @@
+-- What addition leaves in the sum buffer where it isn't refused.
+use mathlib.Core.Path.{_≡_}
+use mathlib.Core.List.{List, map}
+use Prim.Native.Nat.{ℕ, _<_, _≤_}
+use lib.ListN.{length, getD, take}
+use lib.IntN.{ℤ}
+use Rattle.digits.specs.Record.{recordAt}
+use Rattle.numeration.specs.Value.{value}
+use Rattle.reader.specs.Table.{alphabetPart}
+use Rattle.reader.specs.Ready.{operationsOf}
+use Rattle.adder.specs.Sum.{inputRow, digitCount, placeCount, rowDigit, rowIndex, addSum}
+
+-- "The value of a row is the sum of its digits, each times β to the power of its place"
+abbrev pub valueOf : List ℕ → List ℕ → List ℤ
+valueOf file row = value (operationsOf file) (map (recordAt (alphabetPart file)) row)
+
+pub record Summed (file first second sum : List ℕ) : Type 0 where
+  -- byte j is the alphabet index of z(j), for every j below n + h
+  pub index : (j : ℕ) → j < placeCount file first → getD (addSum file first second sum) j 0 ≡ rowIndex file (inputRow file first second) j
+  pub in-alphabet : (j : ℕ) → j < placeCount file first → getD (addSum file first second sum) j 0 < digitCount file
+  pub digit : (j : ℕ) → j < placeCount file first → recordAt (alphabetPart file) (getD (addSum file first second sum) j 0) ≡ rowDigit file (inputRow file first second) j
+  -- "further bytes keep their contents"
+  pub further : (j : ℕ) → placeCount file first ≤ j → getD (addSum file first second sum) j 0 ≡ getD sum j 0
+  pub long : length (addSum file first second sum) ≡ length sum
+  -- the value of the sum is the sum of the values
+  pub value-is : valueOf file (take (placeCount file first) (addSum file first second sum)) ≡ operationsOf file .sum (valueOf file first) (valueOf file second)
