@@ -4,13 +4,15 @@ use mathlib.Core.Bool.{Bool, true, false}
 use mathlib.Core.List.{List, [], _∷_}
 use Prim.Native.Nat.{ℕ}
 use lib.IntN.{ℤ, pos, negsuc}
-use lib.ListN.{set}
+use lib.ListN.{set, length}
 use Rattle.ring.specs.Element.{product}
 use Rattle.ring.specs.Base.{expanding}
-use Rattle.faults.specs.Outcome.{Outcome, author, refused}
+use Rattle.faults.specs.Outcome.{Outcome, author, facts, refused}
 use Rattle.table.specs.declared.Facts.{Facts}
 use Rattle.table.specs.Check.{checkOutcome}
-use Rattle.carried.specs.Tables.{ternInputs, ternLeaves, sections, fileOf}
+use Rattle.adder.specs.declared.AddedFacts.{AddedFacts}
+use Rattle.adder.specs.Sum.{addOutcome, addSum}
+use Rattle.carried.specs.Tables.{ternInputs, ternLeaves, ternFile, binFile, sections, fileOf}
 
 pub data Exercise : Type 0 where
   -- s, t and two elements: their product
@@ -19,17 +21,21 @@ pub data Exercise : Type 0 where
   expands : ℤ → ℤ → ℤ → ℤ → Exercise
   -- a table file: the check's outcome
   checks : List ℕ → Exercise
+  -- a table file, two rows and the sum buffer: the outcome of addition and the buffer after it
+  adds : List ℕ → List ℕ → List ℕ → List ℕ → Exercise
 
 pub data Answer : Type 0 where
   element : List ℤ → Answer
   verdict : Bool → Answer
   outcome : Outcome Facts → Answer
+  summed : Outcome AddedFacts → List ℕ → Answer
 
 -- by the definitions that the contracts cite
 unfoldable pub answer : Exercise → Answer
 answer (productOf s t x y) = element (product (t ∷ s ∷ []) x y)
 answer (expands s t u v) = verdict (expanding s t u v)
 answer (checks file) = outcome (checkOutcome file)
+answer (adds file first second sum) = summed (addOutcome file first second (length sum)) (addSum file first second sum)
 
 pub record Case : Type 0 where
   pub exercise : Exercise
@@ -53,6 +59,12 @@ table =
     ∷ record { exercise = expands (pos 0) (pos 2) (pos 2) (pos 1); expected = verdict false }
     ∷ record { exercise = expands (pos 0) (pos 2) (pos 0) (pos 1); expected = verdict true }
     ∷ record { exercise = expands (pos 0) (pos 2) (pos 1) (pos 1); expected = verdict false }
+    -- M7, M9, M10 and M11: the index of a digit that isn't negative is its value. One byte more than n + h is lent; it stays.
+    ∷ record { exercise = adds ternFile (2 ∷ 2 ∷ []) (1 ∷ 2 ∷ []) (9 ∷ 9 ∷ 9 ∷ 9 ∷ []); expected = summed (facts (record { places = 3 })) (0 ∷ 2 ∷ 1 ∷ 9 ∷ []) }
+    ∷ record { exercise = adds binFile (1 ∷ 1 ∷ []) (1 ∷ 0 ∷ []) (9 ∷ 9 ∷ 9 ∷ 9 ∷ 9 ∷ []); expected = summed (facts (record { places = 4 })) (0 ∷ 0 ∷ 1 ∷ 0 ∷ 9 ∷ []) }
+    ∷ record { exercise = adds binFile (0 ∷ 1 ∷ []) (0 ∷ 0 ∷ []) (9 ∷ 9 ∷ 9 ∷ 9 ∷ 9 ∷ []); expected = summed (facts (record { places = 4 })) (0 ∷ 1 ∷ 0 ∷ 0 ∷ 9 ∷ []) }
+    ∷ record { exercise = adds ternFile [] [] (9 ∷ 9 ∷ []); expected = summed (facts (record { places = 1 })) (0 ∷ 9 ∷ []) }
+    ∷ record { exercise = adds binFile [] [] (9 ∷ 9 ∷ 9 ∷ []); expected = summed (facts (record { places = 2 })) (0 ∷ 0 ∷ 9 ∷ []) }
     -- M12
     ∷ record { exercise = checks ternWithout; expected = outcome (refused author 14 2) }
     ∷ []
