@@ -26,7 +26,7 @@ use Rattle.numeration.specs.Value.{value}
 use Rattle.numeration.proofs.Laws.{same-value}
 use Rattle.numeration.proofs.Sums.{value-sum}
 use Rattle.reader.specs.Table.{basePart, alphabetPart, inputPart, tableCheck, tableFacts}
-use Rattle.reader.specs.Ready.{operationsOf, inputCount, leavesIn}
+use Rattle.reader.specs.Ready.{operationsOf, inputCount, leavesIn, valueOf}
 use Rattle.reader.proofs.Formed.{well-formed}
 use Rattle.reader.proofs.Ready.{ready-passed}
 use Rattle.rows.specs.Check.{rowCheck}
@@ -37,7 +37,7 @@ use Rattle.places.specs.Place.{indexAt}
 use Rattle.places.proofs.Filled.{overwrite-in, overwrite-behind}
 use Rattle.adder.specs.declared.AddedFacts.{AddedFacts}
 use Rattle.adder.specs.Sum.{inputOf, inputRow, digitCount, placeCount, rowDigit, rowIndex, rowAllowed, rowPart, digitCheck, sumRow, digitsOutcome, addOutcome, addSum}
-use Rattle.adder.specs.Summed.{valueOf, Summed}
+use Rattle.adder.specs.Summed.{Summed}
 use Rattle.adder.proofs.Table.{digits-counted}
 use Rattle.adder.proofs.Sum.{exit-written, written-first}
 

@@ -1,18 +1,12 @@
 -- What addition leaves in the sum buffer where it isn't refused.
 use mathlib.Core.Path.{_≡_}
-use mathlib.Core.List.{List, map}
+use mathlib.Core.List.{List}
 use Prim.Native.Nat.{ℕ, _<_, _≤_}
 use lib.ListN.{length, getD, take}
-use lib.IntN.{ℤ}
 use Rattle.digits.specs.Record.{recordAt}
-use Rattle.numeration.specs.Value.{value}
 use Rattle.reader.specs.Table.{alphabetPart}
-use Rattle.reader.specs.Ready.{operationsOf}
+use Rattle.reader.specs.Ready.{operationsOf, valueOf}
 use Rattle.adder.specs.Sum.{inputRow, digitCount, placeCount, rowDigit, rowIndex, addSum}
-
--- "The value of a row is the sum of its digits, each times β to the power of its place"
-abbrev pub valueOf : List ℕ → List ℕ → List ℤ
-valueOf file row = value (operationsOf file) (map (recordAt (alphabetPart file)) row)
 
 pub record Summed (file first second sum : List ℕ) : Type 0 where
   -- byte j is the alphabet index of z(j), for every j below n + h

@@ -1,6 +1,6 @@
 -- The table of the bytes: what addition, edit, value and check go by on a file that is well formed.
 use mathlib.Core.Path.{_≡_}
-use mathlib.Core.List.{List}
+use mathlib.Core.List.{List, map}
 use Prim.Native.Nat.{ℕ, _-_, _<_, _≤_}
 use lib.ListN.{length, take, drop}
 use lib.IntN.{ℤ}
@@ -12,6 +12,7 @@ use Rattle.numeration.specs.Group.{Operations, Group}
 use Rattle.numeration.specs.Elements.{elements, HasParts}
 use Rattle.numeration.specs.Code.{Code, Agree, Inputs, OrderedCode, PrefixCode, leafOf}
 use Rattle.numeration.specs.Conversion.{InGroup}
+use Rattle.numeration.specs.Value.{value}
 use Rattle.leaves.specs.Leaf.{leafCount, wordLength, weightOf, codeOf}
 use Rattle.leaves.specs.Window.{digits, LookedUp}
 use Rattle.reader.specs.declared.Part.{Part}
@@ -26,6 +27,10 @@ inputCount file = elementCount (inputPart file)
 
 abbrev pub leavesIn : List ℕ → Code (List ℤ)
 leavesIn file = codeOf (leafPart file) (wordPart file)
+
+-- "The value of a row is the sum of its digits, each times β to the power of its place"
+abbrev pub valueOf : List ℕ → List ℕ → List ℤ
+valueOf file row = value (operationsOf file) (map (recordAt (alphabetPart file)) row)
 
 -- where a section lies in the file: its bytes, and its count of records
 pub record Lies (file : List ℕ) (fact : Part) (bytes : List ℕ) (count : ℕ) : Type 0 where

@@ -18,13 +18,14 @@ use Rattle.digits.specs.Base.{baseMatrix}
 use Rattle.digits.specs.Record.{elementCount}
 use Rattle.digits.proofs.Base.{matrix-of-two}
 use Rattle.reader.specs.Table.{basePart, alphabetPart}
+use Rattle.reader.specs.Ready.{valueOf}
 use Rattle.reader.proofs.Broken.{table-decided}
 use Rattle.rows.specs.Check.{oneRowCheck}
 use Rattle.rows.proofs.Broken.{one-row-decided}
 use Rattle.worth.specs.Broken.{worthCheck}
 use Rattle.worth.proofs.Broken.{worth-decided, worth-outcome}
 use Rattle.valued.specs.Value.{rowOutcome, valueOutcome}
-use Rattle.valued.specs.Broken.{lenderRules, valueOfRow, valueStages}
+use Rattle.valued.specs.Broken.{lenderRules, valueStages}
 
 rows-of-base : (base : List ℕ) → length (baseMatrix base) ≡ degree
 rows-of-base base = rw (matrix-of-two base) (length-matrix _ _)
@@ -35,11 +36,11 @@ module _ (table row : List ℕ) where
   lenderCheck =
       oneRowCheck row (elementCount (alphabetPart table)) then worthCheck (baseMatrix (basePart table)) (alphabetPart table) row
 
-  whole : rowOutcome table row ≡ unless rows lenderCheck (facts (valueOfRow table row))
+  whole : rowOutcome table row ≡ unless rows lenderCheck (facts (valueOf table row))
   unfolding rowOutcome lenderCheck
   whole =
       ap (unless rows (oneRowCheck row (elementCount (alphabetPart table)))) (worth-outcome (baseMatrix (basePart table)) (alphabetPart table) row (rows-of-base (basePart table)))
-      ∙ unless-then rows (oneRowCheck row (elementCount (alphabetPart table))) (worthCheck (baseMatrix (basePart table)) (alphabetPart table) row) (facts (valueOfRow table row))
+      ∙ unless-then rows (oneRowCheck row (elementCount (alphabetPart table))) (worthCheck (baseMatrix (basePart table)) (alphabetPart table) row) (facts (valueOf table row))
 
   lender-decided : Decided (lenderRules table row) lenderCheck
   unfolding lenderCheck
@@ -48,14 +49,14 @@ module _ (table row : List ℕ) where
 
   -- Demand 1. For every table and row, as lists of bytes, the call refuses with whose, N and P exactly when rule N is broken at P, at
   -- no earlier place, and no rule before N in the order 1 to 13, 20, 21, 28 is broken; else it gives the value of the row.
-  pub demand-1 : StagesAnswer (valueStages table row) (valueOfRow table row) (valueOutcome table row)
+  pub demand-1 : StagesAnswer (valueStages table row) (valueOf table row) (valueOutcome table row)
   unfolding valueOutcome
   demand-1 =
-      told-answers (valueStages table row) (valueOfRow table row) _
-      (told-unless author _ _ (valueOfRow table row) _ _ (table-decided table)
-      (λ _. subst (Told (stage rows (lenderRules table row) ∷ []) (valueOfRow table row)) (sym whole)
-      (told-unless rows _ _ (valueOfRow table row) _ _ lender-decided (λ _. told-end (valueOfRow table row)))))
+      told-answers (valueStages table row) (valueOf table row) _
+      (told-unless author _ _ (valueOf table row) _ _ (table-decided table)
+      (λ _. subst (Told (stage rows (lenderRules table row) ∷ []) (valueOf table row)) (sym whole)
+      (told-unless rows _ _ (valueOf table row) _ _ lender-decided (λ _. told-end (valueOf table row)))))
 
   -- Where the call gives an element, it is the sum of the row's digits, each times the base to the power of its place.
-  pub element-is-value : (x : List ℤ) → valueOutcome table row ≡ facts x → x ≡ valueOfRow table row
+  pub element-is-value : (x : List ℤ) → valueOutcome table row ≡ facts x → x ≡ valueOf table row
   element-is-value x e = demand-1 .only-facts x e

@@ -1,27 +1,20 @@
--- The rules of the value call in their order, and the value that it gives.
+-- The rules of the value call in their order.
 use mathlib.Core.List.{List, [], _∷_, _++_}
 use Prim.Native.Nat.{ℕ}
-use lib.IntN.{ℤ}
 use Rattle.faults.specs.Rule.{Rule}
 use Rattle.faults.specs.Outcome.{author, rows}
 use Rattle.calls.specs.Answers.{Stage, stage}
 use Rattle.digits.specs.Base.{baseMatrix}
 use Rattle.digits.specs.Record.{elementCount}
-use Rattle.numeration.specs.Value.{value}
 use Rattle.reader.specs.Table.{basePart, alphabetPart}
-use Rattle.reader.specs.Ready.{operationsOf}
 use Rattle.reader.specs.Broken.{tableRules}
 use Rattle.rows.specs.Broken.{oneRowRules}
-use Rattle.worth.specs.Broken.{digitsOf, valueRules}
+use Rattle.worth.specs.Broken.{valueRules}
 
 -- 20, 21 and 28 in their order
 abbrev pub lenderRules : List ℕ → List ℕ → List Rule
 lenderRules table row =
     oneRowRules row (elementCount (alphabetPart table)) ++ valueRules (baseMatrix (basePart table)) (alphabetPart table) row
-
--- "The value of a row is the sum of its digits, each times β to the power of its place"
-abbrev pub valueOfRow : List ℕ → List ℕ → List ℤ
-valueOfRow table row = value (operationsOf table) (digitsOf (alphabetPart table) row)
 
 -- 1 to 13, then the rows' rules
 abbrev pub valueStages : List ℕ → List ℕ → List Stage
