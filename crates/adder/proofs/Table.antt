@@ -45,6 +45,6 @@ module _ (file : List ℕ) (passes : tableCheck file .number ≡ 0) where
   pub windows-begun : (leaves words row : List ℕ) → leaves ≡ leafPart file → words ≡ wordPart file → Inputs (inputCount file) row → Begun leaves words row
   windows-begun leaves words row l w all =
       subst (λ a. Begun a words row) (sym l) (subst (λ a. Begun (leafPart file) a row) (sym w) (record {
-        sorted = record { short = is .ordered-code .short; ordered = is .ordered };
+        sorted = record { short = is .ordered-code .short; ordered = is .ordered-code .ordered };
         begun = λ j. is .code .complete (window row j) (window-below (inputCount file) row (is .code .some-input) all j);
       }))
