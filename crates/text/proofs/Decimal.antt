@@ -2,13 +2,17 @@
 use mathlib.Core.Path.{_≡_, refl, sym, ap, _∙_}
 use mathlib.Core.Logic.{_≢_}
 use mathlib.Core.List.{List, [], _∷_, _++_}
+use mathlib.Core.Bool.{true, false}
 use Prim.Native.Nat.{ℕ, zero, suc, _+_, _-_, _*_, _/_, _%_, _^_, _<_, _≤_}
 use native.Mathlib.Omega.{arith}
 use native.Mathlib.Decide.{decLt}
 use native.Mathlib.Nat.{not-suc-le-zero, le-refl, pow-suc}
 use lib.ListN.{length, getD, length-append, List·getD-append}
-use borrow.Author.Tests.{lt-ltb, le-ltb}
-use Rattle.text.specs.Decimal.{digitByte, decimalWithin, decimal, readOn}
+use lib.IntN.{ℤ, pos, negsuc, natAbs}
+use lib.Signed.{ltZ}
+use borrow.Author.Tests.{lt-ltb, le-ltb, ltb-true}
+use Rattle.lists.proofs.Test.{clash}
+use Rattle.text.specs.Decimal.{digitByte, decimalWithin, decimal, decimalZ, readOn}
 
 within-one : (fuel n : ℕ) → n < 10 → decimalWithin fuel n ≡ digitByte n ∷ []
 unfolding decimalWithin
@@ -107,3 +111,15 @@ short-within (suc fuel) (suc k) n f h =
 pub decimal-short : (k n : ℕ) → n < 10 ^ suc k → length (decimal n) ≤ suc k
 unfolding decimal
 decimal-short k n l = short-within n k n (le-refl n) l
+
+-- ---- whole numbers: the size, behind a minus where it is below zero
+
+pub signed-below : (z : ℤ) → ltZ z (pos 0) ≡ true → decimalZ z ≡ (45 ∷ []) ++ decimal (natAbs z)
+unfolding decimalZ
+signed-below (pos n) h = absurd (not-suc-le-zero (ltb-true n 0 h))
+signed-below (negsuc n) h = refl
+
+pub signed-above : (z : ℤ) → ltZ z (pos 0) ≡ false → decimalZ z ≡ decimal (natAbs z)
+unfolding decimalZ
+signed-above (pos n) h = refl
+signed-above (negsuc n) h = clash refl h

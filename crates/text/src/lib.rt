@@ -1,10 +1,11 @@
 // Text written into a lent buffer.
 ghost use mathlib.Core.Path.{_≡_};
 ghost use mathlib.Core.List.{_++_};
-ghost use Prim.Native.Nat.{_+_, _≤_, _<_};
+ghost use Prim.Native.Nat.{_+_, _^_, _≤_, _<_};
 ghost use lib.ListN.{length};
+ghost use lib.IntN.{natAbs};
 ghost use Rattle.lists.specs.Overwrite.{overwrite};
-ghost use Rattle.text.specs.Decimal.{decimal};
+ghost use Rattle.text.specs.Decimal.{decimal, decimalZ};
 ghost use Rattle.text.specs.Hex.{hexByte, hexDigits, hex};
 ghost use Rattle.text.specs.Fault.{placeWord, faultText};
 use faults::Fault;
@@ -43,6 +44,27 @@ pub fn put_item(out: &mut [u8], at: usize, word: &[u8], n: usize) -> usize
 {
     let number = put(out, at, word);
     put_decimal(out, number, n)
+}
+
+// The size of a whole number.
+fn size(z: i64) -> usize
+    requires { ⌜ natAbs z < 2 ^ 63 ⌝ }
+    ensures { λ r. ⌜ r ≡ natAbs z ⌝ }
+{
+    if z < 0 { (0 - z) as usize } else { z as usize }
+}
+
+// Writes a whole number in decimal from a place on, a minus before a negative one only; the next place. Its size is taken in 64 bits,
+// since the lowest number of 32 has no opposite there.
+pub fn put_signed(out: &mut [u8], at: usize, z: i32) -> usize
+    requires { ⌜ at + length (decimalZ z) ≤ length (now out) ⌝ }
+    ensures { λ r. ⌜ (r ≡ at + length (decimalZ z)) × (now (out .exit) ≡ overwrite (now (out .entry)) at (decimalZ z)) ⌝ }
+{
+    let digits = size(z as i64);
+    if z < 0 {
+        return put_item(out, at, b"-", digits);
+    }
+    put_decimal(out, at, digits)
 }
 
 // The byte of a hexadecimal digit.

@@ -12,3 +12,37 @@ pub fn check() -> bool {
     };
     output::checked(table::check(&file[..n]))
 }
+
+// The addition and its line. The caller's sum buffer is never longer than the line has room for; the test makes it plain.
+fn summed(table: &[u8], first: &[u8], second: &[u8], sum: &mut [u8]) -> bool {
+    if 1000 < sum.len() {
+        return false;
+    }
+    let answer = adder::add(table, first, second, sum);
+    output::added(answer, sum)
+}
+
+// 2: the table, the first row, the second row, the sum buffer. The whole buffer is written, so a fault shows that it was left alone.
+pub fn add() -> bool {
+    let mut table = [0u8; 70000];
+    let mut first = [0u8; 600];
+    let mut second = [0u8; 600];
+    let mut sum = [0u8; 1000];
+    let table_read = input::buffer(&mut table);
+    let Read::Got(t) = table_read else {
+        return false;
+    };
+    let first_read = input::buffer(&mut first);
+    let Read::Got(f) = first_read else {
+        return false;
+    };
+    let second_read = input::buffer(&mut second);
+    let Read::Got(s) = second_read else {
+        return false;
+    };
+    let sum_read = input::buffer(&mut sum);
+    let Read::Got(room) = sum_read else {
+        return false;
+    };
+    summed(&table[..t], &first[..f], &second[..s], &mut sum[..room])
+}

@@ -13,6 +13,7 @@ fn answered() -> bool {
     let call = name[0];
     match call {
         1 => calls::check(),
+        2 => calls::add(),
         6 => output::table_bytes(&carried::tern()),
         7 => output::table_bytes(&carried::bin()),
         _ => false,

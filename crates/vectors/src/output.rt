@@ -1,6 +1,8 @@
 // Writing the line of a call. False where it can't be written.
+ghost use mathlib.Core.Path.{_≡_};
 ghost use Prim.Native.Nat.{_+_, _≤_};
 ghost use lib.ListN.{length};
+use adder::Added;
 use table::Checked;
 
 // Ends the line of a buffer at a place, and writes it.
@@ -36,6 +38,42 @@ pub fn checked(answer: Checked) -> bool {
         Checked::Refused(fault) => {
             let end = text::put_fault(&mut out, 0, fault);
             line(&mut out, end)
+        }
+    }
+}
+
+// Ends a line with a whole buffer, behind what says how the call ended. That is never over 64 bytes; the test makes it plain.
+fn with_buffer(out: &mut [u8], end: usize, buffer: &[u8]) -> bool
+    requires { ⌜ (length (now out) ≡ 2200) × (length (now buffer) ≤ 1000) ⌝ }
+{
+    if 100 < end {
+        return false;
+    }
+    out[end] = b' ';
+    let last = text::put_hex(out, end + 1, buffer);
+    line(out, last)
+}
+
+// `sum K`, at the start of a line.
+fn count(out: &mut [u8], places: usize) -> usize
+    requires { ⌜ length (now out) ≡ 2200 ⌝ }
+{
+    text::put_item(out, 0, b"sum ", places)
+}
+
+// `sum K SUM`, or the fault and SUM.
+pub fn added(answer: Added, sum: &[u8]) -> bool
+    requires { ⌜ length (now sum) ≤ 1000 ⌝ }
+{
+    let mut out = [0u8; 2200];
+    match answer {
+        Added::Sum(facts) => {
+            let end = count(&mut out, facts.places);
+            with_buffer(&mut out, end, sum)
+        }
+        Added::Refused(fault) => {
+            let end = text::put_fault(&mut out, 0, fault);
+            with_buffer(&mut out, end, sum)
         }
     }
 }
