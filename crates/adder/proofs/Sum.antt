@@ -47,7 +47,7 @@ module _ (file first second : List ℕ) where
     given = facts (record { places = placeCount file first })
 
     at : found ≡ firstFailing (λ k. rowAllowed file (inputRow file first second) (0 + k)) 0 (placeCount file first)
-    at = first-outside ∙ (λ i. firstFailing (λ k. same-allowed file row (inputRow file first second) same (0 + k) i) 0 (all i))
+    at = first-outside ∙ (λ i. firstFailing (λ k. same-allowed file row (inputRow file first second) (0 + k) (λ m low high. same m) i) 0 (all i))
 
     -- 27 at the first place whose digit isn't in the alphabet
     pub digits-refused : found < places → refused author 27 found ≡ digitsOutcome file first second
@@ -67,7 +67,7 @@ module _ (file first second : List ℕ) where
     unfolding sumRow rowPart
     digits-found s h =
         let count : found ≡ places = le-antisymm (omega (arith, scan-high (λ k. rowAllowed file row (0 + k)) 0 places)) h in
-        written-first s _ places (length-span _ 0 found ∙ count) ∙ (λ i. span (λ k. same-index file row (inputRow file first second) same (0 + k) i) 0 ((count ∙ all) i))
+        written-first s _ places (length-span _ 0 found ∙ count) ∙ (λ i. span (λ k. same-index file row (inputRow file first second) (0 + k) (λ m low high. same m) i) 0 ((count ∙ all) i))
 
     pub digits-room : (s : List ℕ) → places ≤ length s → length (overwrite s 0 (rowPart file row 0 found)) ≡ length s
     unfolding rowPart

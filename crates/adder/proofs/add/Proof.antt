@@ -1,3 +1,4 @@
+-- Rules 1 to 13 by the reader, then 20 to 23, then the digits.
 use Rattle.reader.specs.declared.Table.{Table}
 use Rattle.rows.specs.Fit.{RowsFit}
 use Rattle.adder.proofs.Rows.{few-places}

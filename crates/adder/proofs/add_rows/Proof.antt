@@ -1,3 +1,4 @@
+-- The digits are found in a local array, and written where none fails.
 use Rattle.faults.specs.Outcome.{author}
 use Rattle.numeration.specs.Code.{Inputs}
 use Rattle.reader.specs.Ready.{inputCount}

@@ -1,3 +1,4 @@
+-- The sections handed on, with what a table that passes 1 to 13 gives to conversion.
 use mathlib.Core.Path.{sym, ap, subst, _∙_}
 use Prim.Native.Nat.{_+_}
 use native.Mathlib.Omega.{arith}

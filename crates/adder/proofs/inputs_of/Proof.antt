@@ -1,3 +1,4 @@
+-- The sections handed on, each as its part of the file.
 use mathlib.Core.Path.{_∙_}
 use native.Mathlib.Omega.{arith}
 use lib.Dec.{lit<}

@@ -1,3 +1,4 @@
+-- Each turn writes the index of one digit and hands its weight on to the next place.
 use borrow.Author.Needs.{needs}
 use mathlib.Core.Path.{_≡_, sym, subst}
 use Prim.Native.Nat.{ℕ, _≤_, _<_, _-_, _+_}

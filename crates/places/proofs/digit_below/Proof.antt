@@ -1,3 +1,4 @@
+-- A place at or below k has no digit there.
 use mathlib.Core.Path.{_∙_}
 use Rattle.places.proofs.Place.{window-outside, window-inside}
 use borrow.Author.Needs.{needs}

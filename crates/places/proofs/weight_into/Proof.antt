@@ -1,3 +1,4 @@
+-- The look-up's leaf begins the window, so its weight is the weight into the place.
 use mathlib.Core.Path.{subst, _∙_}
 use Rattle.leaves.specs.Window.{LookedUp}
 use Rattle.leaves.specs.Leaf.{codeOf}
