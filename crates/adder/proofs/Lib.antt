@@ -1,5 +1,6 @@
 pub mod Table
 pub mod Rows
+pub mod Part
 pub mod Sum
 pub mod Demand
 pub mod Accepted

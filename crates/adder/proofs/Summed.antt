@@ -39,7 +39,8 @@ use Rattle.adder.specs.declared.AddedFacts.{AddedFacts}
 use Rattle.adder.specs.Sum.{inputOf, inputRow, digitCount, placeCount, rowDigit, rowIndex, rowAllowed, rowPart, digitCheck, sumRow, digitsOutcome, addOutcome, addSum}
 use Rattle.adder.specs.Summed.{Summed}
 use Rattle.adder.proofs.Table.{digits-counted}
-use Rattle.adder.proofs.Sum.{exit-written, written-first}
+use Rattle.adder.proofs.Part.{written-first}
+use Rattle.adder.proofs.Sum.{exit-written}
 
 -- byte j of the sum row
 pub sum-row-at : (file first second : List ℕ) (j : ℕ) → j < placeCount file first → getD (sumRow file first second) j 0 ≡ rowIndex file (inputRow file first second) j

@@ -1,0 +1,5 @@
+pub mod Count
+pub mod Edit
+pub mod Answer
+pub mod Broken
+pub mod Run
