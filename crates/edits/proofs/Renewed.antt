@@ -30,7 +30,7 @@ use Rattle.adder.proofs.Rows.{part-inputs, part-same}
 use Rattle.adder.proofs.Part.{check-refused, check-kept, part-found, part-room}
 use Rattle.edits.specs.declared.EditedFacts.{EditedFacts}
 use Rattle.edits.specs.Count.{differing}
-use Rattle.edits.specs.Edit.{State, state, reach, leftBy, newInputs, newSum, written, count, renewOutcome, renewState}
+use Rattle.edits.specs.Edit.{State, reach, leftBy, newInputs, newSum, written, count, renewOutcome, renewState}
 use Rattle.edits.proofs.Count.{failing-ext}
 
 -- a call that refuses leaves the buffers as lent, one that gives facts has written them

@@ -3,3 +3,4 @@ pub mod Edit
 pub mod Answer
 pub mod Broken
 pub mod Run
+pub mod Follows

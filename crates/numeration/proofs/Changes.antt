@@ -1,5 +1,5 @@
 -- After any list of changes the sum is the digit row of the changed rows, and what stands behind it is as it was.
-use mathlib.Core.Path.{_≡_, refl, ap, _∙_}
+use mathlib.Core.Path.{_≡_, refl, sym, ap, subst, _∙_}
 use mathlib.Core.Bool.{Bool, true, false, _&&_}
 use mathlib.Core.List.{List, [], _∷_, _++_, append-assoc}
 use Prim.Native.Nat.{ℕ, suc, _+_, _-_, _<_, _≤_}
@@ -43,40 +43,49 @@ span-between {A} f g p n d rest same =
     past : (j : ℕ) → p + n + j < p + n → ⊥
     past j b = omega arith
 
+module _ {Rows Change Digit : Type 0} (k : Changes Rows Change Digit) (e : Change) (r : Rows) where
+  pub stored-taken : k .taken e ≡ true → storeTaken k e r ≡ k .store e r
+  unfolding storeTaken
+  stored-taken t = rw (t, storeTaken)
+
+  pub stored-other : k .taken e ≡ false → storeTaken k e r ≡ r
+  unfolding storeTaken
+  stored-other t = rw (t, storeTaken)
+
 module _ {Rows Change Digit : Type 0} (k : Changes Rows Change Digit) (Valid : Rows → Type 0) (local : Local k Valid) where
+  -- the digit row of the changed rows, from that of the rows before
+  pub renewed-right : (e : Change) (r : Rows) (rest : List Digit) → k .taken e ≡ true → Valid r → renewed k (k .store e r) (k .place e) (digitRow k r ++ rest) ≡ digitRow k (k .store e r) ++ rest
+  unfolding renewed digitRow
+  renewed-right e r rest t v =
+      rw (size (local .room e t))
+      (span-between (k .digit r) (k .digit (k .store e r)) (k .place e) (suc (k .reach)) _ rest (λ j out. local .locality e r t v j (λ low high. out low (omega arith))))
+    where
+      size : k .place e + k .reach < k .places → k .places ≡ k .place e + suc (k .reach) + (k .places - (k .place e + suc (k .reach)))
+      size h = omega arith
+
+  -- one change of rows with their digit row
   change-right : (e : Change) (r : Rows) (rest : List Digit) → Valid r → change k e (r, digitRow k r ++ rest) ≡ (storeTaken k e r, digitRow k (storeTaken k e r) ++ rest)
   unfolding change storeTaken
   change-right e r rest v = go (k .taken e) refl
     where
-      p : ℕ
-      p = k .place e
-
-      n : ℕ
-      n = suc (k .reach)
-
-      passes : k .taken e ≡ true → renewable k (k .store e r) p ≡ true
-      passes t = unfold renewable in every-complete _ p n (λ j low high. local .digits (k .store e r) (local .valid e r t v) j)
-
-      size : p + k .reach < k .places → k .places ≡ p + n + (k .places - (p + n))
-      size h = omega arith
-
-      row : k .taken e ≡ true → renewed k (k .store e r) p (digitRow k r ++ rest) ≡ digitRow k (k .store e r) ++ rest
-      row t =
-          unfold renewed digitRow in
-          rw (size (local .room e t))
-          (span-between (k .digit r) (k .digit (k .store e r)) p n _ rest (λ j out. local .locality e r t v j (λ low high. out low (omega arith))))
+      passes : k .taken e ≡ true → renewable k (k .store e r) (k .place e) ≡ true
+      passes t = unfold renewable in every-complete _ (k .place e) (suc (k .reach)) (λ j low high. local .digits (k .store e r) (local .valid e r t v) j)
 
       go : (b : Bool) → k .taken e ≡ b → change k e (r, digitRow k r ++ rest) ≡ (storeTaken k e r, digitRow k (storeTaken k e r) ++ rest)
-      go true t = rw (t, change, storeTaken, passes t) (ap (λ (s : List Digit). (k .store e r, s)) (row t))
+      go true t = rw (t, change, storeTaken, passes t) (ap (λ (s : List Digit). (k .store e r, s)) (renewed-right e r rest t v))
       go false t = rw (t, change, storeTaken)
 
-  valid-storeTaken : (e : Change) (r : Rows) → Valid r → Valid (storeTaken k e r)
-  unfolding storeTaken
+  pub valid-storeTaken : (e : Change) (r : Rows) → Valid r → Valid (storeTaken k e r)
   valid-storeTaken e r v = go (k .taken e) refl
     where
       go : (b : Bool) → k .taken e ≡ b → Valid (storeTaken k e r)
-      go true t = rw (t, storeTaken) (local .valid e r t v)
-      go false t = rw (t, storeTaken) v
+      go true t = subst Valid (sym (stored-taken k e r t)) (local .valid e r t v)
+      go false t = subst Valid (sym (stored-other k e r t)) v
+
+  pub valid-storeAll : (es : List Change) (r : Rows) → Valid r → Valid (storeAll k es r)
+  unfolding storeAll
+  valid-storeAll [] r v = v
+  valid-storeAll (e ∷ es) r v = valid-storeAll es (storeTaken k e r) (valid-storeTaken e r v)
 
   pub changeAll-right : (es : List Change) (r : Rows) (rest : List Digit) → Valid r → SumFollows k es r rest
   unfolding changeAll storeAll

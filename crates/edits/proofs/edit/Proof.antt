@@ -1,13 +1,12 @@
 -- Rules 1 to 13 by the reader, then 20 to 23, then 24 to 26, then the digits.
 use mathlib.Core.Path.{_≡_, sym, ap, _∙_}
-use Prim.Native.Nat.{ℕ}
 use native.Mathlib.Omega.{arith}
 use lib.ListN.{length}
 use Rattle.faults.specs.Outcome.{rows, editor, whose, numberOf, placeOf}
 use Rattle.faults.specs.declared.Refusal.{Refusal}
 use Rattle.rows.specs.declared.Change.{Change}
 use Rattle.rows.specs.Check.{rowCheck, editCheck}
-use Rattle.rows.specs.Fit.{RowsFit, EditFits}
+use Rattle.rows.specs.Fit.{EditFits}
 use Rattle.rows.proofs.Fit.{rows-fit, edit-fits}
 use Rattle.reader.specs.Table.{readAs, tableCheck, tableFacts}
 use Rattle.reader.proofs.Answer.{read-facts}

@@ -1,14 +1,13 @@
 -- The digits are found from the part of the rows that they depend on; then the digit is stored and the part of the sum rewritten.
 use mathlib.Core.Path.{_≡_, sym, ap, _∙_}
-use mathlib.Core.List.{List, replicate}
-use Prim.Native.Nat.{ℕ, _+_, _<_, _≤_}
+use mathlib.Core.List.{replicate}
+use Prim.Native.Nat.{ℕ, _+_, _<_}
 use native.Mathlib.Omega.{arith}
 use lib.ListN.{length, take, length-replicate}
 use lib.Seq.{length-take-le}
-use Rattle.faults.specs.Check.{none}
-use Rattle.faults.specs.Outcome.{refused, author}
-use Rattle.adder.specs.Sum.{rowPart, digitCheck}
-use Rattle.edits.specs.Edit.{State, state, reach, newInputs, newSum, renewOutcome}
+use Rattle.faults.specs.Outcome.{author}
+use Rattle.adder.specs.Sum.{rowPart}
+use Rattle.edits.specs.Edit.{State, state, reach, newInputs}
 use Rattle.edits.proofs.Renewed.{renew-given, renew-lent, renew-written, lent-long, sum-renewed, count-is, shallow, part-fits, bytes-asked, row-inputs, outside-found, none-outside, digits-found, digits-room}
 use borrow.Author.Needs.{needs}
 use Rattle.edits.proofs.edit_rows.Statement.{statement}

@@ -2,7 +2,7 @@ use Rattle.edits.proofs.Written.{next-written, all-written, count-more,
 use Rattle.edits.specs.Count.{differing}
 use Rattle.lists.proofs.Overwrite.{overwrite-none}
 use Rattle.lists.specs.Overwrite.{overwrite}
-use lib.ListN.{length, take, getD, set, length-set}
+use lib.ListN.{length, take, getD, length-set}
 use native.Mathlib.Omega.{arith}
 use Prim.Native.Nat.{ℕ, _+_, _-_, _<_, _≤_}
 use mathlib.Core.Logic.{⊎-elim}
