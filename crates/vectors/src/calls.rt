@@ -46,3 +46,29 @@ pub fn add() -> bool {
     };
     summed(&table[..t], &first[..f], &second[..s], &mut sum[..room])
 }
+
+// 4: the table, the row.
+pub fn value() -> bool {
+    let mut table = [0u8; 70000];
+    let mut row = [0u8; 600];
+    let table_read = input::buffer(&mut table);
+    let Read::Got(t) = table_read else {
+        return false;
+    };
+    let row_read = input::buffer(&mut row);
+    let Read::Got(r) = row_read else {
+        return false;
+    };
+    output::valued(valued::value(&table[..t], &row[..r]))
+}
+
+// 5: the parts of the first element, then those of the second.
+pub fn midpoint() -> bool {
+    let mut bytes = [0u8; 16];
+    if !input::filled(&mut bytes) {
+        return false;
+    }
+    let x = input::element(&bytes, 0);
+    let y = input::element(&bytes, 8);
+    output::parts(b"midpoint ", midpoint::midpoint(x, y))
+}

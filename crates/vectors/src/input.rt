@@ -1,7 +1,8 @@
 // Reading what follows a call.
-ghost use Prim.Native.Nat.{_≤_};
+ghost use Prim.Native.Nat.{_+_, _<_, _≤_};
 ghost use lib.ListN.{length};
 ghost use Rattle.vectors.specs.Read.{valueOf};
+use midpoint::Element;
 
 // A number, or an input that ends before all of it.
 pub enum Read {
@@ -39,4 +40,25 @@ pub fn buffer(out: &mut [u8]) -> Read
         return Read::Cut;
     }
     Read::Got(n)
+}
+
+// The signed 32-bit number at a place: its bits as they are, or less 2^32.
+fn number(bytes: &[u8], at: usize) -> i32
+    requires { ⌜ at + 3 < length (now bytes) ⌝ }
+{
+    let bits = layout::unsigned(bytes, at) + 65536 * layout::unsigned(bytes, at + 2);
+    if bits < 2147483648 {
+        return bits as i32;
+    }
+    (bits as i64 - 4294967296) as i32
+}
+
+// The element at a place: its two parts.
+pub fn element(bytes: &[u8], at: usize) -> Element
+    requires { ⌜ at + 7 < length (now bytes) ⌝ }
+{
+    Element {
+        a: number(bytes, at),
+        b: number(bytes, at + 4),
+    }
 }

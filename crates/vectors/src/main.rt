@@ -14,6 +14,8 @@ fn answered() -> bool {
     match call {
         1 => calls::check(),
         2 => calls::add(),
+        4 => calls::value(),
+        5 => calls::midpoint(),
         6 => output::table_bytes(&carried::tern()),
         7 => output::table_bytes(&carried::bin()),
         _ => false,

@@ -3,7 +3,9 @@ ghost use mathlib.Core.Path.{_≡_};
 ghost use Prim.Native.Nat.{_+_, _≤_};
 ghost use lib.ListN.{length};
 use adder::Added;
+use midpoint::Element;
 use table::Checked;
+use valued::Valued;
 
 // Ends the line of a buffer at a place, and writes it.
 fn line(out: &mut [u8], end: usize) -> bool {
@@ -74,6 +76,30 @@ pub fn added(answer: Added, sum: &[u8]) -> bool
         Added::Refused(fault) => {
             let end = text::put_fault(&mut out, 0, fault);
             with_buffer(&mut out, end, sum)
+        }
+    }
+}
+
+// A word and then the two parts of an element.
+pub fn parts(word: &[u8], x: Element) -> bool
+    requires { ⌜ length (now word) ≤ 20 ⌝ }
+{
+    let mut out = [0u8; 128];
+    let first = text::put(&mut out, 0, word);
+    let space = text::put_signed(&mut out, first, x.a);
+    out[space] = b' ';
+    let end = text::put_signed(&mut out, space + 1, x.b);
+    line(&mut out, end)
+}
+
+// `value a b`, or the fault.
+pub fn valued(answer: Valued) -> bool {
+    match answer {
+        Valued::Value(x) => parts(b"value ", x),
+        Valued::Refused(fault) => {
+            let mut out = [0u8; 128];
+            let end = text::put_fault(&mut out, 0, fault);
+            line(&mut out, end)
         }
     }
 }

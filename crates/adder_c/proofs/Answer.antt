@@ -1,0 +1,43 @@
+-- What a call for C returns and leaves in the answer: where the array is short, for facts, for a fault.
+use mathlib.Core.Path.{_≡_, ap, _∙_}
+use mathlib.Core.List.{List, _∷_}
+use Prim.Native.Nat.{ℕ, _<_, _≤_}
+use borrow.Author.Tests.{lt-ltb, le-ltb}
+use lib.IntN.{ℤ, pos}
+use lib.ListN.{length}
+use Rattle.lists.specs.Overwrite.{overwrite}
+use Rattle.faults.specs.declared.Fault.{Fault}
+use Rattle.faults.specs.Outcome.{Outcome, facts, refusedBy}
+use Rattle.adder_c.specs.Answer.{faultWords, outcomeWords, outcomeStatus, ifRoom, returned, answered}
+
+module _ {A : Type 0} where
+  pub no-room : (wanted room : ℕ) (done short : A) → room < wanted → short ≡ ifRoom wanted room done short
+  unfolding ifRoom
+  no-room wanted room done short h = rw (lt-ltb room wanted h, ifRoom)
+
+  pub some-room : (wanted room : ℕ) (done short : A) → wanted ≤ room → done ≡ ifRoom wanted room done short
+  unfolding ifRoom
+  some-room wanted room done short h = rw (le-ltb room wanted h, ifRoom)
+
+module _ {F : Type 0} (words : F → List ℤ) (o : Outcome F) (answer : List ℤ) where
+  pub short : length answer < 8 → (2 ≡ returned o answer) × (answer ≡ answered words o answer)
+  short h = (no-room 8 (length answer) (outcomeStatus o) 2 h, no-room 8 (length answer) (overwrite answer 0 (outcomeWords words o)) answer h)
+
+  pub with-facts : (f : F) (r : ℕ) (last : List ℤ) → 8 ≤ length answer → o ≡ facts f → r ≡ 0 → last ≡ overwrite answer 0 (pos 0 ∷ words f) → (r ≡ returned o answer) × (last ≡ answered words o answer)
+  unfolding outcomeStatus outcomeWords
+  with-facts f r last h e z l =
+      rw e (z ∙ some-room 8 (length answer) 0 2 h, l ∙ some-room 8 (length answer) (overwrite answer 0 (pos 0 ∷ words f)) answer h)
+
+  pub with-fault : (fault : Fault) (r : ℕ) (last : List ℤ) → 8 ≤ length answer → o ≡ refusedBy fault → r ≡ 1 → last ≡ overwrite answer 0 (faultWords fault) → (r ≡ returned o answer) × (last ≡ answered words o answer)
+  unfolding outcomeStatus outcomeWords
+  with-fault fault r last h e z l =
+      rw e (z ∙ some-room 8 (length answer) 1 2 h, l ∙ some-room 8 (length answer) (overwrite answer 0 (faultWords fault)) answer h)
+
+-- a carried table: where the buffer is short, and where it is written
+module _ (wanted : ℕ) (out file : List ℕ) where
+  pub no-copy : length out < wanted → (_≡_ {A = ℕ} 2 (ifRoom wanted (length out) 0 2)) × (out ≡ ifRoom wanted (length out) (overwrite out 0 file) out)
+  no-copy h = (no-room wanted (length out) 0 2 h, no-room wanted (length out) (overwrite out 0 file) out h)
+
+  pub copy : (given last : List ℕ) → wanted ≤ length out → given ≡ file → last ≡ overwrite out 0 given → (_≡_ {A = ℕ} 0 (ifRoom wanted (length out) 0 2)) × (last ≡ ifRoom wanted (length out) (overwrite out 0 file) out)
+  copy given last h e l =
+      (some-room wanted (length out) 0 2 h, l ∙ ap (overwrite out 0) e ∙ some-room wanted (length out) (overwrite out 0 file) out h)

@@ -1,0 +1,87 @@
+-- Addition's outcome in words, and its sum buffer.
+use lib.ListN.{length}
+use mathlib.Core.Path.{sym, ap, refl, _∙_}
+use Rattle.lists.proofs.Cons.{cons≡}
+use Rattle.lists.specs.Overwrite.{overwrite}
+use Rattle.adder.specs.Answer.{outcomeOf}
+use Rattle.adder.specs.Sum.{addOutcome, addSum}
+use Rattle.adder_c.specs.Answer.{addWords}
+use Rattle.adder_c.proofs.Bits.{kept}
+use Rattle.adder_c.proofs.Answer.{no-room, some-room, short, with-facts, with-fault}
+use borrow.Author.Needs.{needs}
+use Rattle.adder_c.proofs.yoyomyrtle_add.Statement.{statement}
+use Rattle.adder_c.proofs.yoyomyrtle_add.Tie as tie
+
+returns : tie.Need-returns
+returns c =
+    let a = c .before .before .before .before .before .args in
+    let o = addOutcome (a .table .now) (a .first .now) (a .second .now) (length (a .sum .now)) in
+    let sum = addSum (a .table .now) (a .first .now) (a .second .now) (a .sum .now) in
+    (short addWords o (a .answer .now) (c .if1 .taken), no-room 8 (length (a .answer .now)) sum (a .sum .now) (c .if1 .taken))
+
+add-requires : tie.Need-add-requires
+add-requires c κs = search needs
+
+enum-known-outcome : tie.Need-enum-known-outcome
+enum-known-outcome c = search needs
+
+word-requires : tie.Need-word-requires
+word-requires c κs = search needs
+
+slice-aggregate-put : tie.Need-slice-aggregate-put
+slice-aggregate-put c = search needs
+
+put-requires : tie.Need-put-requires
+put-requires c κs = search needs
+
+enum-known-outcome-2 : tie.Need-enum-known-outcome-2
+enum-known-outcome-2 c = search needs
+
+refuse-requires : tie.Need-refuse-requires
+refuse-requires c κs = search needs
+
+same-length : tie.Need-same-length
+same-length c = search needs
+
+same-length-2 : tie.Need-same-length-2
+same-length-2 c = search needs
+
+returns-2 : tie.Need-returns-2
+returns-2 c =
+    let a = c .before .before .before .before .before .before .before .before .before .before .before .before .before .before .before .before .before .args in
+    let o = addOutcome (a .table .now) (a .first .now) (a .second .now) (length (a .sum .now)) in
+    let sum = addSum (a .table .now) (a .first .now) (a .second .now) (a .sum .now) in
+    let f = c .before .before .before .before .before .before .outcome .given .0 .0 in
+    (with-facts addWords o (a .answer .now) f 0 (c .before .put .last .0) (c .before .before .before .before .before .before .before .before .before .before .before .before .if1 .left) (sym (c .before .before .before .before .before .before .before .before .before .before .add .ensures .0) ∙ ap outcomeOf (c .before .before .before .before .before .before .outcome .given .1)) refl (c .before .put .ensures ∙ ap (overwrite (a .answer .now) 0) (cons≡ refl (cons≡ (kept (c .before .before .before .word .result) (f .places) (c .before .before .before .word .ok) (c .before .before .before .word .ensures)) refl))), c .before .before .before .before .before .before .before .before .before .before .add .ensures .1 ∙ some-room 8 (length (a .answer .now)) sum (a .sum .now) (c .before .before .before .before .before .before .before .before .before .before .before .before .if1 .left))
+
+same-length-3 : tie.Need-same-length-3
+same-length-3 c = search needs
+
+same-length-4 : tie.Need-same-length-4
+same-length-4 c = search needs
+
+returns-3 : tie.Need-returns-3
+returns-3 c =
+    let a = c .before .before .before .before .before .before .before .before .before .before .before .before .before .before .before .args in
+    let o = addOutcome (a .table .now) (a .first .now) (a .second .now) (length (a .sum .now)) in
+    let sum = addSum (a .table .now) (a .first .now) (a .second .now) (a .sum .now) in
+    (with-fault addWords o (a .answer .now) (c .before .before .before .before .outcome2 .given .0 .0) _ (c .before .refuse .last .0) (c .before .before .before .before .before .before .before .before .before .before .if1 .left) (sym (c .before .before .before .before .before .before .before .before .add .ensures .0) ∙ ap outcomeOf (c .before .before .before .before .outcome2 .given .1)) (c .before .refuse .ensures .0) (c .before .refuse .ensures .1), c .before .before .before .before .before .before .before .before .add .ensures .1 ∙ some-room 8 (length (a .answer .now)) sum (a .sum .now) (c .before .before .before .before .before .before .before .before .before .before .if1 .left))
+
+pub yoyomyrtle-add-spec : {M : Type 1} → statement M
+yoyomyrtle-add-spec =
+    tie.close
+    (tie.spec
+    returns
+    add-requires
+    enum-known-outcome
+    word-requires
+    slice-aggregate-put
+    put-requires
+    enum-known-outcome-2
+    refuse-requires
+    same-length
+    same-length-2
+    returns-2
+    same-length-3
+    same-length-4
+    returns-3)

@@ -1,0 +1,39 @@
+-- The midpoint of the two elements in words; it has no fault.
+use Rattle.lists.proofs.Cons.{cons≡}
+use mir.ValLaws.{toZ-ofZ}
+use mir.Syntax.{w32}
+use mathlib.Core.Path.{sym, ap, ap₂, refl, _∙_}
+use mathlib.Core.List.{[], _∷_}
+use Rattle.midpoint.specs.Midpoint.{parts, midpointOf}
+use Rattle.faults.specs.Outcome.{facts}
+use Rattle.adder_c.specs.Answer.{elementWords}
+use Rattle.adder_c.proofs.Answer.{short, with-facts}
+use borrow.Author.Needs.{needs}
+use Rattle.adder_c.proofs.yoyomyrtle_midpoint.Statement.{statement}
+use Rattle.adder_c.proofs.yoyomyrtle_midpoint.Tie as tie
+
+returns : tie.Need-returns
+returns c =
+    let a = c .before .args in
+    short elementWords (facts (midpointOf (a .a1 ∷ a .b1 ∷ []) (a .a2 ∷ a .b2 ∷ []))) (a .answer .now) (c .if1 .taken)
+
+midpoint-requires : tie.Need-midpoint-requires
+midpoint-requires c κs = search needs
+
+put-element-requires : tie.Need-put-element-requires
+put-element-requires c κs = search needs
+
+same-length : tie.Need-same-length
+same-length c = search needs
+
+returns-2 : tie.Need-returns-2
+returns-2 c =
+    let a = c .before .before .before .before .before .args in
+    let fits = c .before .before .before .before .before .fits in
+    let x = cons≡ (toZ-ofZ w32 (a .a1) (fits .a1)) (cons≡ (toZ-ofZ w32 (a .b1) (fits .b1)) refl) in
+    let y = cons≡ (toZ-ofZ w32 (a .a2) (fits .a2)) (cons≡ (toZ-ofZ w32 (a .b2) (fits .b2)) refl) in
+    with-facts elementWords (facts (midpointOf (a .a1 ∷ a .b1 ∷ []) (a .a2 ∷ a .b2 ∷ []))) (a .answer .now) (parts (c .before .before .midpoint .result)) _ (c .before .put-element .last .0) (c .before .before .before .before .if1 .left) (ap facts (sym (c .before .before .midpoint .ensures ∙ ap₂ midpointOf x y))) (c .before .put-element .ensures .0) (c .before .put-element .ensures .1)
+
+pub yoyomyrtle-midpoint-spec : {M : Type 1} → statement M
+yoyomyrtle-midpoint-spec =
+    tie.close (tie.spec returns midpoint-requires put-element-requires same-length returns-2)

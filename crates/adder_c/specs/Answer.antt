@@ -1,0 +1,60 @@
+-- What a call for C leaves in the lent answer array, and what it returns: the same outcomes as the calls' own contracts have.
+use mathlib.Core.Bool.{true, false}
+use mathlib.Core.List.{List, [], _∷_}
+use Prim.Native.Nat.{ℕ}
+use lib.Dec.{ltb}
+use lib.IntN.{ℤ, pos}
+use lib.ListN.{length}
+use Rattle.lists.specs.Overwrite.{overwrite}
+use Rattle.faults.specs.declared.Fault.{Fault}
+use Rattle.faults.specs.Outcome.{Group, author, rows, editor, Outcome, facts, refused, whose, numberOf, placeOf}
+use Rattle.table.specs.declared.Facts.{Facts}
+use Rattle.adder.specs.declared.AddedFacts.{AddedFacts}
+use Rattle.adder_c.specs.Word.{wordOf}
+
+-- word 0 of a fault: whose it is
+abbrev pub groupWord : Group → ℤ
+groupWord author = pos 1
+groupWord rows = pos 2
+groupWord editor = pos 3
+
+-- the words of a fault: whose it is, its number and its place
+abbrev pub refusalWords : Group → ℕ → ℕ → List ℤ
+refusalWords group number place = groupWord group ∷ wordOf number ∷ wordOf place ∷ []
+
+abbrev pub faultWords : Fault → List ℤ
+faultWords f = refusalWords (whose f) (numberOf f) (placeOf f)
+
+-- the words of an outcome, whose facts are given as words: 0 and the facts, or the fault
+unfoldable pub outcomeWords : {F : Type 0} → (F → List ℤ) → Outcome F → List ℤ
+outcomeWords words (facts f) = pos 0 ∷ words f
+outcomeWords words (refused group number place) = refusalWords group number place
+
+-- "it returns 0 for facts and 1 for a fault"
+unfoldable pub outcomeStatus : {F : Type 0} → Outcome F → ℕ
+outcomeStatus (facts f) = 0
+outcomeStatus (refused group number place) = 1
+
+-- what happens where a lent array has at least as many entries as are wanted, and where it is shorter
+unfoldable pub ifRoom : {A : Type 0} → ℕ → ℕ → A → A → A
+ifRoom wanted room done short = elim (ltb room wanted) [ true ↦ short | false ↦ done ]
+
+-- what a call returns: 2 where the answer array has fewer than 8 words
+abbrev pub returned : {F : Type 0} → Outcome F → List ℤ → ℕ
+returned outcome answer = ifRoom 8 (length answer) (outcomeStatus outcome) 2
+
+-- the answer array at exit: the outcome's words at its start, where it has 8 words; else it is left alone
+abbrev pub answered : {F : Type 0} → (F → List ℤ) → Outcome F → List ℤ → List ℤ
+answered words outcome answer = ifRoom 8 (length answer) (overwrite answer 0 (outcomeWords words outcome)) answer
+
+-- the facts of the check: h, leaf count and alphabet size
+abbrev pub checkWords : Facts → List ℤ
+checkWords f = wordOf (f .depth) ∷ wordOf (f .leaves) ∷ wordOf (f .digits) ∷ []
+
+-- the fact of addition: n + h
+abbrev pub addWords : AddedFacts → List ℤ
+addWords f = wordOf (f .places) ∷ []
+
+-- an element: its parts
+abbrev pub elementWords : List ℤ → List ℤ
+elementWords parts = parts

@@ -1,0 +1,164 @@
+// The calls for C and Rust: each slice is a pointer and then a length. Facts and faults go into a lent array of signed 64-bit words,
+// at least 8 long: 0 and the facts, or whose fault it is (1 author, 2 rows, 3 editor), its number and its place; further words keep
+// their contents. A call returns 0 for facts, 1 for a fault, and 2 where a lent array is too short, which it then leaves alone.
+ghost use mathlib.Core.Path.{_≡_};
+ghost use mathlib.Core.List.{[], _∷_};
+ghost use Prim.Native.Nat.{_≤_};
+ghost use lib.ListN.{length};
+ghost use lib.IntN.{pos};
+ghost use Rattle.lists.specs.Overwrite.{overwrite};
+ghost use Rattle.faults.specs.Outcome.{facts};
+ghost use Rattle.midpoint.specs.Midpoint.{parts, midpointOf};
+ghost use Rattle.table.specs.Check.{checkOutcome};
+ghost use Rattle.adder.specs.Sum.{addOutcome, addSum};
+ghost use Rattle.valued.specs.Value.{valueOutcome};
+ghost use Rattle.carried.specs.Tables.{ternFile, binFile};
+ghost use Rattle.adder_c.specs.Word.{wordOf};
+ghost use Rattle.adder_c.specs.Answer.{faultWords, ifRoom, returned, answered, checkWords, addWords, elementWords};
+use adder::Added;
+use faults::Fault;
+use midpoint::Element;
+use table::Checked;
+use valued::Valued;
+
+// The signed word with a number's 64 bits.
+fn word(n: usize) -> i64
+    ensures { λ r. ⌜ r ≡ wordOf n ⌝ }
+{
+    if n < 9223372036854775808 {
+        return n as i64;
+    }
+    -1 - (18446744073709551615 - n) as i64
+}
+
+// Writes words at the start of an answer.
+fn put(answer: &mut [i64], words: &[i64])
+    requires { ⌜ length (now words) ≤ length (now answer) ⌝ }
+    ensures { λ _. ⌜ now (answer .exit) ≡ overwrite (now (answer .entry)) 0 (now (words .entry)) ⌝ }
+{
+    let mut i = 0;
+    while i < words.len() {
+        answer[i] = words[i];
+        i += 1;
+    }
+}
+
+// Writes whose fault it is, its number and its place; what the call returns.
+fn put_fault(answer: &mut [i64], whose: i64, number: usize, place: usize) -> u64
+    requires { ⌜ 8 ≤ length (now answer) ⌝ }
+    ensures { λ r. ⌜ (r ≡ 1) × (now (answer .exit) ≡ overwrite (now (answer .entry)) 0 (whose ∷ wordOf number ∷ wordOf place ∷ [])) ⌝ }
+{
+    put(answer, &[whose, word(number), word(place)]);
+    1
+}
+
+fn refuse(answer: &mut [i64], fault: Fault) -> u64
+    requires { ⌜ 8 ≤ length (now answer) ⌝ }
+    ensures { λ r. ⌜ (r ≡ 1) × (now (answer .exit) ≡ overwrite (now (answer .entry)) 0 (faultWords fault)) ⌝ }
+{
+    match fault {
+        Fault::Author { number, place } => put_fault(answer, 1, number, place),
+        Fault::Rows { number, place } => put_fault(answer, 2, number, place),
+        Fault::Editor { number, place } => put_fault(answer, 3, number, place),
+    }
+}
+
+// Writes the parts of an element as facts; what the call returns.
+fn put_element(answer: &mut [i64], x: Element) -> u64
+    requires { ⌜ 8 ≤ length (now answer) ⌝ }
+    ensures { λ r. ⌜ (r ≡ 0) × (now (answer .exit) ≡ overwrite (now (answer .entry)) 0 (pos 0 ∷ parts x)) ⌝ }
+{
+    put(answer, &[0, x.a as i64, x.b as i64]);
+    0
+}
+
+#[no_mangle]
+pub extern "C" fn yoyomyrtle_check(file: &[u8], answer: &mut [i64]) -> u64
+    ensures { λ r. ⌜ (r ≡ returned (checkOutcome (now (file .entry))) (now (answer .entry))) × (now (answer .exit) ≡ answered checkWords (checkOutcome (now (file .entry))) (now (answer .entry))) ⌝ }
+{
+    if answer.len() < 8 {
+        return 2;
+    }
+    let outcome = table::check(file);
+    match outcome {
+        Checked::Accepted(f) => {
+            put(answer, &[0, word(f.depth), word(f.leaves), word(f.digits)]);
+            0
+        }
+        Checked::Refused(fault) => refuse(answer, fault),
+    }
+}
+
+#[no_mangle]
+pub extern "C" fn yoyomyrtle_add(
+    table: &[u8],
+    first: &[u8],
+    second: &[u8],
+    sum: &mut [u8],
+    answer: &mut [i64],
+) -> u64
+    ensures { λ r. ⌜ (r ≡ returned (addOutcome (now (table .entry)) (now (first .entry)) (now (second .entry)) (length (now (sum .entry)))) (now (answer .entry))) × (now (answer .exit) ≡ answered addWords (addOutcome (now (table .entry)) (now (first .entry)) (now (second .entry)) (length (now (sum .entry)))) (now (answer .entry))) ⌝ }
+    ensures { λ r. ⌜ now (sum .exit) ≡ ifRoom 8 (length (now (answer .entry))) (addSum (now (table .entry)) (now (first .entry)) (now (second .entry)) (now (sum .entry))) (now (sum .entry)) ⌝ }
+{
+    if answer.len() < 8 {
+        return 2;
+    }
+    let outcome = adder::add(table, first, second, sum);
+    match outcome {
+        Added::Sum(f) => {
+            put(answer, &[0, word(f.places)]);
+            0
+        }
+        Added::Refused(fault) => refuse(answer, fault),
+    }
+}
+
+#[no_mangle]
+pub extern "C" fn yoyomyrtle_value(table: &[u8], row: &[u8], answer: &mut [i64]) -> u64
+    ensures { λ r. ⌜ (r ≡ returned (valueOutcome (now (table .entry)) (now (row .entry))) (now (answer .entry))) × (now (answer .exit) ≡ answered elementWords (valueOutcome (now (table .entry)) (now (row .entry))) (now (answer .entry))) ⌝ }
+{
+    if answer.len() < 8 {
+        return 2;
+    }
+    let outcome = valued::value(table, row);
+    match outcome {
+        Valued::Value(x) => put_element(answer, x),
+        Valued::Refused(fault) => refuse(answer, fault),
+    }
+}
+
+#[no_mangle]
+pub extern "C" fn yoyomyrtle_midpoint(a1: i32, b1: i32, a2: i32, b2: i32, answer: &mut [i64]) -> u64
+    ensures { λ r. ⌜ (r ≡ returned (facts (midpointOf (a1 ∷ b1 ∷ []) (a2 ∷ b2 ∷ []))) (now (answer .entry))) × (now (answer .exit) ≡ answered elementWords (facts (midpointOf (a1 ∷ b1 ∷ []) (a2 ∷ b2 ∷ []))) (now (answer .entry))) ⌝ }
+{
+    if answer.len() < 8 {
+        return 2;
+    }
+    let x = Element { a: a1, b: b1 };
+    let y = Element { a: a2, b: b2 };
+    put_element(answer, midpoint::midpoint(x, y))
+}
+
+// TERN's bytes, in the first 165 of `out`.
+#[no_mangle]
+pub extern "C" fn yoyomyrtle_tern(out: &mut [u8]) -> u64
+    ensures { λ r. ⌜ (r ≡ ifRoom 165 (length (now (out .entry))) 0 2) × (now (out .exit) ≡ ifRoom 165 (length (now (out .entry))) (overwrite (now (out .entry)) 0 ternFile) (now (out .entry))) ⌝ }
+{
+    if out.len() < 165 {
+        return 2;
+    }
+    text::put(out, 0, &carried::tern());
+    0
+}
+
+// BIN's bytes, in the first 187 of `out`.
+#[no_mangle]
+pub extern "C" fn yoyomyrtle_bin(out: &mut [u8]) -> u64
+    ensures { λ r. ⌜ (r ≡ ifRoom 187 (length (now (out .entry))) 0 2) × (now (out .exit) ≡ ifRoom 187 (length (now (out .entry))) (overwrite (now (out .entry)) 0 binFile) (now (out .entry))) ⌝ }
+{
+    if out.len() < 187 {
+        return 2;
+    }
+    text::put(out, 0, &carried::bin());
+    0
+}
