@@ -12,6 +12,10 @@ use Rattle.table.specs.declared.Facts.{Facts}
 use Rattle.table.specs.Check.{checkOutcome}
 use Rattle.adder.specs.declared.AddedFacts.{AddedFacts}
 use Rattle.adder.specs.Sum.{addOutcome, addSum}
+use Rattle.rows.specs.declared.Change.{Change}
+use Rattle.edits.specs.declared.EditedFacts.{EditedFacts}
+use Rattle.edits.specs.Edit.{State, state}
+use Rattle.edits.specs.Run.{run}
 use Rattle.carried.specs.Tables.{ternInputs, ternLeaves, ternFile, binFile, sections, fileOf}
 
 pub data Exercise : Type 0 where
@@ -23,12 +27,15 @@ pub data Exercise : Type 0 where
   checks : List ℕ → Exercise
   -- a table file, two rows and the sum buffer: the outcome of addition and the buffer after it
   adds : List ℕ → List ℕ → List ℕ → List ℕ → Exercise
+  -- a table file, two rows and the sum buffer, and edits after the addition: the buffers after the list, and the answers
+  runs : List ℕ → List ℕ → List ℕ → List ℕ → List Change → Exercise
 
 pub data Answer : Type 0 where
   element : List ℤ → Answer
   verdict : Bool → Answer
   outcome : Outcome Facts → Answer
   summed : Outcome AddedFacts → List ℕ → Answer
+  ran : State → List (Outcome EditedFacts) → Answer
 
 -- by the definitions that the contracts cite
 unfoldable pub answer : Exercise → Answer
@@ -36,6 +43,8 @@ answer (productOf s t x y) = element (product (t ∷ s ∷ []) x y)
 answer (expands s t u v) = verdict (expanding s t u v)
 answer (checks file) = outcome (checkOutcome file)
 answer (adds file first second sum) = summed (addOutcome file first second (length sum)) (addSum file first second sum)
+answer (runs file first second sum edits) =
+    ran (run file (state first second sum) edits .buffers) (run file (state first second sum) edits .answers)
 
 pub record Case : Type 0 where
   pub exercise : Exercise
@@ -59,8 +68,10 @@ table =
     ∷ record { exercise = expands (pos 0) (pos 2) (pos 2) (pos 1); expected = verdict false }
     ∷ record { exercise = expands (pos 0) (pos 2) (pos 0) (pos 1); expected = verdict true }
     ∷ record { exercise = expands (pos 0) (pos 2) (pos 1) (pos 1); expected = verdict false }
-    -- M7, M9, M10 and M11: the index of a digit that isn't negative is its value. One byte more than n + h is lent; it stays.
+    -- M7 to M11, M8 after its addition: the index of a digit that isn't negative is its value. One byte more than n + h is lent; it stays.
     ∷ record { exercise = adds ternFile (2 ∷ 2 ∷ []) (1 ∷ 2 ∷ []) (9 ∷ 9 ∷ 9 ∷ 9 ∷ []); expected = summed (facts (record { places = 3 })) (0 ∷ 2 ∷ 1 ∷ 9 ∷ []) }
+    -- M8: −2 has index 4, −1 has index 3
+    ∷ record { exercise = runs ternFile (2 ∷ 2 ∷ []) (1 ∷ 2 ∷ []) (9 ∷ 9 ∷ 9 ∷ 9 ∷ []) (record { row = 0; place = 0; digit = 4 } ∷ []); expected = ran (state (4 ∷ 2 ∷ []) (1 ∷ 2 ∷ []) (3 ∷ 1 ∷ 1 ∷ 9 ∷ [])) (facts (record { count = 2 }) ∷ []) }
     ∷ record { exercise = adds binFile (1 ∷ 1 ∷ []) (1 ∷ 0 ∷ []) (9 ∷ 9 ∷ 9 ∷ 9 ∷ 9 ∷ []); expected = summed (facts (record { places = 4 })) (0 ∷ 0 ∷ 1 ∷ 0 ∷ 9 ∷ []) }
     ∷ record { exercise = adds binFile (0 ∷ 1 ∷ []) (0 ∷ 0 ∷ []) (9 ∷ 9 ∷ 9 ∷ 9 ∷ 9 ∷ []); expected = summed (facts (record { places = 4 })) (0 ∷ 1 ∷ 0 ∷ 0 ∷ 9 ∷ []) }
     ∷ record { exercise = adds ternFile [] [] (9 ∷ 9 ∷ []); expected = summed (facts (record { places = 1 })) (0 ∷ 9 ∷ []) }
