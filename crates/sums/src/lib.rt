@@ -1,0 +1,1 @@
+// No function: the value call and addition together, in proofs/.
