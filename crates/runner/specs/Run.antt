@@ -1,0 +1,47 @@
+-- The check, the addition and a list of edits (document 01, "Digit edit": a list "starts from an addition that wasn't refused") as a
+-- function of the table file, the buffers and the numbers that list the edits.
+use mathlib.Core.List.{List, []}
+use Prim.Native.Nat.{ℕ, min}
+use lib.ListN.{length, getD}
+use Rattle.lists.specs.Span.{span}
+use Rattle.faults.specs.Outcome.{Outcome, facts, refused}
+use Rattle.rows.specs.declared.Change.{Change}
+use Rattle.table.specs.Check.{checkOutcome}
+use Rattle.adder.specs.Sum.{addOutcome}
+use Rattle.edits.specs.Edit.{State}
+use Rattle.edits.specs.Run.{Ran, run}
+use Rattle.runner.specs.declared.RanFacts.{RanFacts}
+
+-- the edits that three slices list: "a row number (0 first, 1 second), a place p and a new alphabet index"
+module _ (rows places digits : List ℕ) where
+  abbrev pub listed : ℕ → Change
+  listed k = record { row = getD rows k 0; place = getD places k 0; digit = getD digits k 0 }
+
+  -- the first m of them
+  unfoldable pub editList : ℕ → List Change
+  editList m = span listed 0 m
+
+  -- as many as the shortest of six slices: these are listed whole, and there is room for their answers
+  module _ (whose numbers values : List ℕ) where
+    abbrev pub editCount : ℕ
+    editCount = min (min (length rows) (min (length places) (length digits))) (min (length whose) (min (length numbers) (length values)))
+
+    abbrev pub askedEdits : List Change
+    askedEdits = editList editCount
+
+-- the fault where there is one, else what follows
+unfoldable pub after : {F G : Type 0} → Outcome F → Outcome G → Outcome G
+after (facts f) rest = rest
+after (refused whose number place) rest = refused whose number place
+
+-- 1 to 14 by the check, then 20 to 23 and 27 by the addition, then the number of edits
+unfoldable pub runOutcome : List ℕ → State → ℕ → Outcome RanFacts
+runOutcome file s m = after (checkOutcome file) (after (addOutcome file (s .first) (s .second) (length (s .sum))) (facts (record { edits = m })))
+
+-- where the list doesn't start, nothing is written and nothing answered
+unfoldable pub ranBy : Outcome RanFacts → State → Ran → Ran
+ranBy (facts f) s ran = ran
+ranBy (refused whose number place) s ran = record { buffers = s; answers = [] }
+
+unfoldable pub runAll : List ℕ → State → List Change → Ran
+runAll file s es = ranBy (runOutcome file s (length es)) s (run file s es)

@@ -1,0 +1,173 @@
+// The runner: the check, the addition and a list of edits, as calls one after the other.
+ghost use mathlib.Core.Path.{_≡_};
+ghost use Prim.Native.Nat.{_≤_, min};
+ghost use lib.ListN.{length};
+ghost use Rattle.lists.specs.Overwrite.{overwrite};
+ghost use Rattle.edits.specs.Edit.{state};
+ghost use Rattle.edits.specs.Run.{editAll, editAnswers};
+ghost use Rattle.edits.specs.Answer.{outcomeOf as editedAs};
+ghost use Rattle.adder.specs.Sum.{atExit, addSum};
+ghost use Rattle.runner.specs.Told.{toldOf, groupsOf, numbersOf, valuesOf};
+ghost use Rattle.runner.specs.Run.{editList, askedEdits, runOutcome, runAll};
+ghost use Rattle.runner.specs.Answer.{outcomeOf};
+use adder::Added;
+use edits::Edited;
+use faults::Fault;
+use table::Checked;
+
+// The facts of a run: how many edits were called.
+pub struct RanFacts {
+    pub edits: usize,
+}
+
+pub enum Ran {
+    Edits(RanFacts),
+    Refused(Fault),
+}
+
+// The answer of an edit in three numbers: whose (0 facts, 1 author, 2 rows, 3 editor), the fault's number (0 of facts), its place or
+// the count.
+struct Told {
+    whose: usize,
+    number: usize,
+    value: usize,
+}
+
+fn told_of(answer: Edited) -> Told
+    ensures { λ r. ⌜ r ≡ toldOf (editedAs answer) ⌝ }
+{
+    match answer {
+        Edited::Count(facts) => Told {
+            whose: 0,
+            number: 0,
+            value: facts.count,
+        },
+        Edited::Refused(fault) => match fault {
+            Fault::Author { number, place } => Told {
+                whose: 1,
+                number,
+                value: place,
+            },
+            Fault::Rows { number, place } => Told {
+                whose: 2,
+                number,
+                value: place,
+            },
+            Fault::Editor { number, place } => Told {
+                whose: 3,
+                number,
+                value: place,
+            },
+        },
+    }
+}
+
+fn lower_of(a: usize, b: usize) -> usize
+    ensures { λ r. ⌜ r ≡ min a b ⌝ }
+{
+    if a < b {
+        return a;
+    }
+    b
+}
+
+fn shortest_of(a: usize, b: usize, c: usize) -> usize
+    ensures { λ r. ⌜ r ≡ min a (min b c) ⌝ }
+{
+    lower_of(a, lower_of(b, c))
+}
+
+// The check, then the addition: a fault and nothing written, or the sum written and the number of edits that are to be called.
+fn start(table: &[u8], first: &[u8], second: &[u8], sum: &mut [u8], edits: usize) -> Ran
+    ensures { λ r. ⌜ (outcomeOf r ≡ runOutcome (now (table .entry)) (state (now (first .entry)) (now (second .entry)) (now (sum .entry))) edits) × (now (sum .exit) ≡ atExit (outcomeOf r) (now (sum .entry)) (addSum (now (table .entry)) (now (first .entry)) (now (second .entry)) (now (sum .entry)))) ⌝ }
+{
+    let checked = table::check(table);
+    let Checked::Accepted(_) = checked else {
+        let Checked::Refused(fault) = checked else {
+            return Ran::Refused(Fault::Author {
+                number: 0,
+                place: 0,
+            });
+        };
+        return Ran::Refused(fault);
+    };
+    let added = adder::add(table, first, second, sum);
+    let Added::Sum(_) = added else {
+        let Added::Refused(fault) = added else {
+            return Ran::Refused(Fault::Author {
+                number: 0,
+                place: 0,
+            });
+        };
+        return Ran::Refused(fault);
+    };
+    Ran::Edits(RanFacts { edits })
+}
+
+// The first `count` edits of the list, one call after the other, each answer written.
+fn edit_each(
+    table: &[u8],
+    first: &mut [u8],
+    second: &mut [u8],
+    sum: &mut [u8],
+    rows: &[usize],
+    places: &[usize],
+    digits: &[usize],
+    whose: &mut [usize],
+    numbers: &mut [usize],
+    values: &mut [usize],
+    count: usize,
+)
+    requires { ⌜ (count ≤ length (now rows)) × (count ≤ length (now places)) × (count ≤ length (now digits)) × (count ≤ length (now whose)) × (count ≤ length (now numbers)) × (count ≤ length (now values)) ⌝ }
+    ensures { λ _. ⌜ (state (now (first .exit)) (now (second .exit)) (now (sum .exit)) ≡ editAll (now (table .entry)) (editList (now (rows .entry)) (now (places .entry)) (now (digits .entry)) count) (state (now (first .entry)) (now (second .entry)) (now (sum .entry)))) × (now (whose .exit) ≡ overwrite (now (whose .entry)) 0 (groupsOf (editAnswers (now (table .entry)) (editList (now (rows .entry)) (now (places .entry)) (now (digits .entry)) count) (state (now (first .entry)) (now (second .entry)) (now (sum .entry)))))) × (now (numbers .exit) ≡ overwrite (now (numbers .entry)) 0 (numbersOf (editAnswers (now (table .entry)) (editList (now (rows .entry)) (now (places .entry)) (now (digits .entry)) count) (state (now (first .entry)) (now (second .entry)) (now (sum .entry)))))) × (now (values .exit) ≡ overwrite (now (values .entry)) 0 (valuesOf (editAnswers (now (table .entry)) (editList (now (rows .entry)) (now (places .entry)) (now (digits .entry)) count) (state (now (first .entry)) (now (second .entry)) (now (sum .entry)))))) ⌝ }
+{
+    let mut i = 0;
+    while i < count {
+        let row = rows[i];
+        let place = places[i];
+        let digit = digits[i];
+        let answer = told_of(edits::edit(table, first, second, sum, row, place, digit));
+        whose[i] = answer.whose;
+        numbers[i] = answer.number;
+        values[i] = answer.value;
+        i += 1;
+    }
+}
+
+// The check, the addition, and the edits that the three slices of numbers list, as many as the shortest of the six slices: each
+// answer is told. A fault of the check or of the addition is the answer, and then nothing is written.
+pub fn run(
+    table: &[u8],
+    first: &mut [u8],
+    second: &mut [u8],
+    sum: &mut [u8],
+    rows: &[usize],
+    places: &[usize],
+    digits: &[usize],
+    whose: &mut [usize],
+    numbers: &mut [usize],
+    values: &mut [usize],
+) -> Ran
+    ensures { λ r. ⌜ (outcomeOf r ≡ runOutcome (now (table .entry)) (state (now (first .entry)) (now (second .entry)) (now (sum .entry))) (length (askedEdits (now (rows .entry)) (now (places .entry)) (now (digits .entry)) (now (whose .entry)) (now (numbers .entry)) (now (values .entry))))) × (state (now (first .exit)) (now (second .exit)) (now (sum .exit)) ≡ (runAll (now (table .entry)) (state (now (first .entry)) (now (second .entry)) (now (sum .entry))) (askedEdits (now (rows .entry)) (now (places .entry)) (now (digits .entry)) (now (whose .entry)) (now (numbers .entry)) (now (values .entry))) .buffers)) × (now (whose .exit) ≡ overwrite (now (whose .entry)) 0 (groupsOf ((runAll (now (table .entry)) (state (now (first .entry)) (now (second .entry)) (now (sum .entry))) (askedEdits (now (rows .entry)) (now (places .entry)) (now (digits .entry)) (now (whose .entry)) (now (numbers .entry)) (now (values .entry)))) .answers))) × (now (numbers .exit) ≡ overwrite (now (numbers .entry)) 0 (numbersOf ((runAll (now (table .entry)) (state (now (first .entry)) (now (second .entry)) (now (sum .entry))) (askedEdits (now (rows .entry)) (now (places .entry)) (now (digits .entry)) (now (whose .entry)) (now (numbers .entry)) (now (values .entry)))) .answers))) × (now (values .exit) ≡ overwrite (now (values .entry)) 0 (valuesOf ((runAll (now (table .entry)) (state (now (first .entry)) (now (second .entry)) (now (sum .entry))) (askedEdits (now (rows .entry)) (now (places .entry)) (now (digits .entry)) (now (whose .entry)) (now (numbers .entry)) (now (values .entry)))) .answers))) ⌝ }
+{
+    let listed = shortest_of(rows.len(), places.len(), digits.len());
+    let answered = shortest_of(whose.len(), numbers.len(), values.len());
+    let count = lower_of(listed, answered);
+    let answer = start(table, first, second, sum, count);
+    if let Ran::Edits(_) = answer {
+        edit_each(
+            table,
+            first,
+            second,
+            sum,
+            rows,
+            places,
+            digits,
+            whose,
+            numbers,
+            values,
+            count,
+        );
+    }
+    answer
+}
