@@ -6,7 +6,7 @@ const TERN_INPUTS: [i16; 9] = [0, 1, 2, 3, 4, -1, -2, -3, -4];
 const BIN_INPUTS: [i16; 5] = [0, 1, 2, -1, -2];
 
 /// TERN: base 3, one-digit words, weight 1 from 2 up and −1 from −2 down.
-pub fn tern() -> Vec<u8> {
+pub fn tern_parts() -> Parts {
     let leaf = |index: usize| {
         let input = TERN_INPUTS[index];
         let weight = if input.abs() >= 2 { input.signum() } else { 0 };
@@ -18,11 +18,10 @@ pub fn tern() -> Vec<u8> {
         inputs: rational(&TERN_INPUTS),
         leaves: (0..TERN_INPUTS.len()).map(leaf).collect(),
     }
-    .write()
 }
 
 /// BIN: base 2; after 1 and −1 the digit below decides, so their words are two long.
-pub fn bin() -> Vec<u8> {
+pub fn bin_parts() -> Parts {
     let mut leaves = Vec::new();
     for (index, input) in BIN_INPUTS.into_iter().enumerate() {
         if input.abs() != 1 {
@@ -40,7 +39,16 @@ pub fn bin() -> Vec<u8> {
         inputs: rational(&BIN_INPUTS),
         leaves,
     }
-    .write()
+}
+
+/// TERN's file.
+pub fn tern() -> Vec<u8> {
+    tern_parts().write()
+}
+
+/// BIN's file.
+pub fn bin() -> Vec<u8> {
+    bin_parts().write()
 }
 
 /// Whole numbers as elements.
