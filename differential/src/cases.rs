@@ -1,6 +1,6 @@
 //! The cases: which tables, rows, buffers and numbers are tried.
 
-use reference::{Answer, Parts};
+use reference::{Answer, Element, Parts};
 
 use crate::codes::{self, MOST_LEAVES};
 use crate::damage::{self, Draft};
@@ -35,6 +35,17 @@ impl Pool {
         bases.len()
     }
 
+    /// How many tables there are of each depth from 1 to 8.
+    pub fn depths(&self) -> [usize; 8] {
+        let of_depth = |wanted| {
+            self.tables
+                .iter()
+                .filter(|parts| depth(parts) == wanted)
+                .count()
+        };
+        [1, 2, 3, 4, 5, 6, 7, 8].map(of_depth)
+    }
+
     /// A table of the pool, often with a finer code, seldom with a very fine one.
     fn accepted(&self, random: &mut Random) -> Parts {
         let mut parts = self.tables[random.below(self.tables.len())].clone();
@@ -46,6 +57,16 @@ impl Pool {
         codes::refine(&mut parts, most_leaves, random);
         parts
     }
+}
+
+/// The longest word's length.
+fn depth(parts: &Parts) -> usize {
+    parts
+        .leaves
+        .iter()
+        .map(|(word, _)| word.len())
+        .max()
+        .unwrap_or(0)
 }
 
 /// Runs one case.
@@ -93,7 +114,7 @@ fn random_edit(parts: &Parts, length: usize, random: &mut Random) -> Call {
     for (number, bound) in numbers.iter_mut().zip([2, length, parts.alphabet.len()]) {
         let good = random.below(bound.max(1)) as u64;
         let bound = bound as u64;
-        *number = match random.below(30) {
+        *number = match random.below(60) {
             0 => bound,
             1 => bound + random.below(300) as u64,
             2 => random.pick(&[1 << 8, 1 << 16, 1 << 31, 1 << 32, 1 << 63]) + good,
@@ -268,14 +289,14 @@ fn spoil_rows(parts: &Parts, lent: &mut Lent, random: &mut Random) {
         true => (&mut lent.first, &mut lent.second),
         false => (&mut lent.second, &mut lent.first),
     };
-    match random.below(4) {
+    match random.below(6) {
         0 => row.resize(random.pick(&[0, 1, 255, 256, 257, 300]), 0),
         1 => {
             let length = random.pick(&[257, 258, 512]);
             row.resize(length, 0);
             other.resize(length, 0);
         }
-        2 if !row.is_empty() => {
+        2..=4 if !row.is_empty() => {
             let at = random.below(row.len());
             row[at] = random.pick(&[digits, digits + 1, 128, 255]);
         }
@@ -305,13 +326,22 @@ fn values(pool: &Pool, comparison: &mut Comparison, random: &mut Random) {
     }
 }
 
-/// A row whose value just passes, made longer or ended with another digit: near ±2,147,483,647.
+/// A row whose value just passes, ended with each digit; or the row of an element at the very limit.
 fn near_the_limit(
     parts: &Parts,
     comparison: &mut Comparison,
     lent: &mut Lent,
     random: &mut Random,
 ) {
+    if random.one_in(2) {
+        for _ in 0..4 {
+            if let Some(row) = search::represent(parts, limit_element(random)) {
+                lent.first = row;
+                comparison.call(Call::Value, lent);
+            }
+        }
+        return;
+    }
     let passes = |row: &[u8]| matches!(reference::value(&lent.table, row), Answer::Facts(_));
     let mut row = Vec::new();
     while row.len() < 256 {
@@ -324,6 +354,26 @@ fn near_the_limit(
     for digit in 0..parts.alphabet.len() {
         lent.first[0] = digit as u8;
         comparison.call(Call::Value, lent);
+    }
+}
+
+/// An element with a part at ±2,147,483,647 or one beside it.
+fn limit_element(random: &mut Random) -> Element {
+    let limit = i64::from(i32::MAX);
+    let mut edge = || {
+        let size = random.pick(&[limit - 1, limit, limit, limit + 1, limit + 1]);
+        size * random.pick(&[-1, 1])
+    };
+    let (at, also) = (edge(), edge());
+    let other = match random.below(3) {
+        0 => 0,
+        1 => random.between(-limit, limit),
+        _ => also,
+    };
+    match random.below(3) {
+        0 => Element::new(other, at),
+        1 => Element::new(at, other),
+        _ => Element::new(at, 0),
     }
 }
 

@@ -51,11 +51,10 @@ fn main() -> ExitCode {
         return ExitCode::from(2);
     };
     let pool = Pool::new(request.seed);
+    let (tables, bases, depths) = (pool.tables.len(), pool.bases(), pool.depths());
     println!(
-        "seed {}; {} tables found for {} bases",
-        request.seed,
-        pool.tables.len(),
-        pool.bases()
+        "seed {}; {tables} tables for {bases} bases, by depth 1 to 8: {depths:?}",
+        request.seed
     );
     let good = match request.mode {
         Mode::Library => library_run(&pool, &request),

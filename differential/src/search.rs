@@ -164,6 +164,25 @@ fn divide(base: &Base, element: Element) -> Option<Element> {
     whole.then(|| Element::new(product.a / norm, product.b / norm))
 }
 
+/// A row of the table's digits with this value, found from place 0 up by taking the digit that leaves the least; none where that
+/// doesn't end within a row's length.
+pub fn represent(parts: &Parts, element: Element) -> Option<Vec<u8>> {
+    let [s, t, u, v] = parts.base.map(i64::from);
+    let base = Base { s, t, u, v };
+    let mut left = element;
+    let mut row = Vec::new();
+    while left != Element::ZERO && row.len() < 256 {
+        let after =
+            |(a, b): &(i16, i16)| divide(&base, left - Element::new((*a).into(), (*b).into()));
+        let choices = parts.alphabet.iter().enumerate();
+        let divided = choices.filter_map(|(index, digit)| Some((after(digit)?, index)));
+        let (quotient, index) = divided.min_by_key(|(q, _)| q.a.abs() + q.b.abs())?;
+        row.push(index as u8);
+        left = quotient;
+    }
+    (left == Element::ZERO).then_some(row)
+}
+
 /// What is known of each window so far; the empty window has the whole set.
 type Sets = HashMap<Vec<u8>, Vec<Element>>;
 

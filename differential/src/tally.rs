@@ -18,6 +18,10 @@ pub struct Comparison<'a> {
     subject: &'a dyn Calls,
     pub counts: BTreeMap<(&'static str, Outcome), u64>,
     pub differences: Vec<String>,
+    /// The row lengths of additions and edits.
+    lengths: BTreeMap<usize, u64>,
+    /// Leaves and depth of the largest codes that the check accepted.
+    largest: (i64, i64),
     /// The case that runs, named in a difference so that it can be repeated.
     pub case: u64,
 }
@@ -28,6 +32,8 @@ impl<'a> Comparison<'a> {
             subject,
             counts: BTreeMap::new(),
             differences: Vec::new(),
+            lengths: BTreeMap::new(),
+            largest: (0, 0),
             case: 0,
         }
     }
@@ -49,8 +55,22 @@ impl<'a> Comparison<'a> {
             FAULT => Outcome::Fault(lent.answer[1]),
             _ => Outcome::TooShort,
         };
-        *self.counts.entry((call.name(), outcome)).or_default() += 1;
+        self.count(&call, outcome, lent);
         outcome
+    }
+
+    fn count(&mut self, call: &Call, outcome: Outcome, lent: &Lent) {
+        *self.counts.entry((call.name(), outcome)).or_default() += 1;
+        match call {
+            Call::Add | Call::Edit { .. } => {
+                *self.lengths.entry(lent.first.len()).or_default() += 1
+            }
+            Call::Check if outcome == Outcome::Facts => {
+                let (leaves, depth) = self.largest;
+                self.largest = (leaves.max(lent.answer[2]), depth.max(lent.answer[1]));
+            }
+            _ => (),
+        }
     }
 
     /// The number of calls compared.
@@ -67,6 +87,11 @@ impl<'a> Comparison<'a> {
                 .collect();
             println!("{name}: {}", parts.join(", "));
         }
+        let of_length = |length| self.lengths.get(&length).copied().unwrap_or(0);
+        let [none, one, under, most, over] = [0, 1, 255, 256, 257].map(of_length);
+        println!("row lengths: 0: {none}, 1: {one}, 255: {under}, 256: {most}, 257: {over}");
+        let (leaves, depth) = self.largest;
+        println!("accepted codes: up to {leaves} leaves, up to depth {depth}");
         let by_number: Vec<String> = crate::wrong::NUMBERS
             .iter()
             .map(|number| format!("{number}: {}", self.of_number(*number)))

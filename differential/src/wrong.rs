@@ -2,7 +2,9 @@
 
 use std::cell::Cell;
 
-use crate::interface::{Call, Calls, Lent, FACTS, FAULT};
+use reference::Element;
+
+use crate::interface::{Call, Calls, Lent, FACTS, FAULT, TOO_SHORT};
 use crate::model::Model;
 
 /// What is wrong with an implementation that is otherwise the reference.
@@ -28,8 +30,12 @@ pub enum Mistake {
     SumCleared,
     /// The edit's row number, place and digit are cut to 32 bits.
     NumbersCut,
-    /// The edit judges the second row before the first.
-    RowsSwapped,
+    /// The second row is judged before the first.
+    SecondRowFirst,
+    /// The edit renews only the sum's place p.
+    EditOnePlace,
+    /// The value lets −2,147,483,648 pass at the last digit.
+    LimitLoose,
     /// The midpoint is rounded toward zero.
     MidpointTruncated,
     /// The answer's last word is written too.
@@ -63,7 +69,9 @@ pub fn mistakes() -> Vec<Mistake> {
         SumZero,
         SumCleared,
         NumbersCut,
-        RowsSwapped,
+        SecondRowFirst,
+        EditOnePlace,
+        LimitLoose,
         MidpointTruncated,
         AnswerOverrun,
         ShortAnswerWritten,
@@ -93,14 +101,20 @@ impl Calls for Wrong {
     fn call(&self, call: &Call, lent: &mut Lent) -> u64 {
         let before = lent.clone();
         let returned = Model.call(&self.asked(call), lent);
-        match call {
-            Call::Check => self.spoil_check(returned, lent),
-            Call::Add => self.spoil_add(returned, lent),
-            Call::Edit { .. } => self.spoil_edit(call, returned, &before, lent),
-            _ => returned,
-        };
-        self.spoil_any(call, returned, lent)
+        match (call, returned) {
+            (Call::Add, FACTS) => self.spoil_add(lent),
+            (Call::Edit { .. }, FACTS) => self.spoil_edit(call, &before, lent),
+            (_, FAULT) => self.spoil_fault(call, &before, lent),
+            _ => (),
+        }
+        self.spoil_any(call, returned, lent);
+        returned
     }
+}
+
+/// The depth of a table that passes 1 to 13.
+fn depth(table: &[u8]) -> i64 {
+    reference::table::read(table).map_or(0, |table| table.depth as i64)
 }
 
 impl Wrong {
@@ -116,23 +130,7 @@ impl Wrong {
         }
     }
 
-    fn spoil_check(&self, returned: u64, lent: &mut Lent) -> u64 {
-        match self.mistake {
-            Mistake::CheckRefuses if returned == FACTS => {
-                lent.answer[..3].copy_from_slice(&[1, 14, 0])
-            }
-            Mistake::CheckSkipsPairs if returned == FAULT && lent.answer[1] == 14 => {
-                lent.answer[0] = 0
-            }
-            _ => (),
-        }
-        returned
-    }
-
-    fn spoil_add(&self, returned: u64, lent: &mut Lent) -> u64 {
-        if returned != FACTS {
-            return returned;
-        }
+    fn spoil_add(&self, lent: &mut Lent) {
         let written = lent.answer[1] as usize;
         match self.mistake {
             Mistake::AddRefuses => lent.answer[..3].copy_from_slice(&[1, 27, 0]),
@@ -140,24 +138,19 @@ impl Wrong {
             Mistake::SumCleared => lent.sum[written..].fill(0),
             _ => (),
         }
-        returned
     }
 
-    fn spoil_edit(&self, call: &Call, returned: u64, before: &Lent, lent: &mut Lent) -> u64 {
-        if self.mistake == Mistake::RowsSwapped && returned == FAULT && lent.answer[1] == 21 {
-            let mut swapped = before.clone();
-            std::mem::swap(&mut swapped.first, &mut swapped.second);
-            Model.call(call, &mut swapped);
-            lent.answer[2] = swapped.answer[2];
-        }
-        if returned != FACTS {
-            return returned;
-        }
+    fn spoil_edit(&self, call: &Call, before: &Lent, lent: &mut Lent) {
+        let Call::Edit { place, .. } = *call else {
+            return;
+        };
         match self.mistake {
-            Mistake::CountAlwaysAll => {
-                lent.answer[1] = (before.sum.len() - before.first.len() + 1) as i64
-            }
+            Mistake::CountAlwaysAll => lent.answer[1] = depth(&lent.table) + 1,
             Mistake::EditLeavesSum => lent.sum.clone_from(&before.sum),
+            Mistake::EditOnePlace => {
+                let above = place as usize + 1;
+                lent.sum[above..].copy_from_slice(&before.sum[above..]);
+            }
             Mistake::EditOnce if self.edited.get() => *lent = before.clone(),
             Mistake::EditIdle => {
                 *lent = before.clone();
@@ -166,26 +159,71 @@ impl Wrong {
             _ => (),
         }
         self.edited.set(true);
-        returned
     }
 
-    /// Mistakes that don't belong to one call.
-    fn spoil_any(&self, call: &Call, returned: u64, lent: &mut Lent) -> u64 {
-        let refused = |number: i64| returned == FAULT && lent.answer[1] == number;
+    /// Where both rows offend, the second is told of.
+    fn spoil_rows(&self, call: &Call, before: &Lent, lent: &mut Lent) {
+        let mut swapped = before.clone();
+        std::mem::swap(&mut swapped.first, &mut swapped.second);
+        Model.call(call, &mut swapped);
+        if swapped.answer[1] == 21 {
+            lent.answer[1..3].copy_from_slice(&[22, swapped.answer[2]]);
+        }
+    }
+
+    /// A value that 28 refuses at place 0 is told if its parts fit into 32 bits.
+    fn spoil_value(&self, lent: &mut Lent) {
+        let (Ok(table), true) = (reference::table::read(&lent.table), lent.answer[2] == 0) else {
+            return;
+        };
+        let digits = lent
+            .first
+            .iter()
+            .rev()
+            .map(|index| table.alphabet[usize::from(*index)]);
+        let value = digits.fold(Element::ZERO, |total, digit| {
+            table.base.times(total) + digit
+        });
+        let fits = |part: i64| i32::try_from(part).is_ok();
+        if fits(value.a) && fits(value.b) {
+            lent.answer[..3].copy_from_slice(&[0, value.a, value.b]);
+        }
+    }
+
+    fn spoil_fault(&self, call: &Call, before: &Lent, lent: &mut Lent) {
+        let number = lent.answer[1];
         match (self.mistake, call) {
-            (Mistake::PlaceOff(number), _) if refused(number) => lent.answer[2] += 1,
-            (Mistake::NumberOff(number), _) if refused(number) => lent.answer[1] += 1,
-            (Mistake::AnswerOverrun, _) if returned != 2 => {
-                lent.answer.iter_mut().skip(7).for_each(|word| *word = 0)
+            (Mistake::PlaceOff(wanted), _) if number == wanted => lent.answer[2] += 1,
+            (Mistake::NumberOff(wanted), _) if number == wanted => lent.answer[1] += 1,
+            (Mistake::CheckSkipsPairs, Call::Check) if number == 14 => lent.answer[0] = 0,
+            (Mistake::SecondRowFirst, Call::Add | Call::Edit { .. }) if number == 21 => {
+                self.spoil_rows(call, before, lent);
             }
-            (Mistake::ShortAnswerWritten, Call::Check) if returned == 2 => lent.answer.fill(0),
-            (Mistake::ShortOutWritten, Call::Tern | Call::Bin) if returned == 2 => lent.sum.fill(0),
+            (Mistake::LimitLoose, Call::Value) if number == 28 => self.spoil_value(lent),
+            _ => (),
+        }
+    }
+
+    /// Mistakes that can't be told by facts and faults.
+    fn spoil_any(&self, call: &Call, returned: u64, lent: &mut Lent) {
+        match (self.mistake, call) {
+            (Mistake::CheckRefuses, Call::Check) if returned == FACTS => {
+                lent.answer[..3].copy_from_slice(&[1, 14, 0]);
+            }
+            (Mistake::AnswerOverrun, _) if returned != TOO_SHORT => {
+                lent.answer.iter_mut().skip(7).for_each(|word| *word = 0);
+            }
+            (Mistake::ShortAnswerWritten, Call::Check) if returned == TOO_SHORT => {
+                lent.answer.fill(0)
+            }
+            (Mistake::ShortOutWritten, Call::Tern | Call::Bin) if returned == TOO_SHORT => {
+                lent.sum.fill(0)
+            }
             (Mistake::MidpointTruncated, Call::Midpoint { x, y }) if returned == FACTS => {
                 lent.answer[1] = (i64::from(x.0) + i64::from(y.0)) / 2;
                 lent.answer[2] = (i64::from(x.1) + i64::from(y.1)) / 2;
             }
             _ => (),
         }
-        returned
     }
 }
