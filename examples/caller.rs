@@ -20,7 +20,7 @@ extern "C" {
 
 type Answer = [i64; 8];
 
-// SAFETY, here and below: pointer and length belong to one slice, and Rust's borrows keep the slices apart.
+// SAFETY, here and below: pointer and length belong to one buffer, and Rust's borrows keep the buffers apart.
 fn check(table: &[u8]) -> Result<Answer, Answer> {
     let mut words = [0; 8];
     let returned = unsafe { yoyomyrtle_check(table.as_ptr(), table.len(), words.as_mut_ptr(), 8) };

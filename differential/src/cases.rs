@@ -100,8 +100,12 @@ fn edits(parts: &Parts, comparison: &mut Comparison, lent: &mut Lent, random: &m
     if comparison.call(Call::Add, lent) != Outcome::Facts {
         return;
     }
-    let most = if random.one_in(10) { 120 } else { 12 };
-    let most = if lent.table.len() > 5_000 { 8 } else { most };
+    let most = match random.below(100) {
+        _ if lent.table.len() > 5_000 => 8,
+        0 => 600,
+        1..=9 => 120,
+        _ => 12,
+    };
     for _ in 0..random.below(most + 1) {
         let call = random_edit(parts, lent.first.len(), random);
         comparison.call(call, lent);

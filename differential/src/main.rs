@@ -115,6 +115,9 @@ fn run(pool: &Pool, request: &Request, subject: &dyn Calls) -> bool {
     while done < request.cases && comparison.differences.len() < ENOUGH_DIFFERENCES {
         run_case(pool, request, done, &mut comparison);
         done += 1;
+        if done % 100_000 == 0 {
+            eprintln!("{done} cases so far, {} s", start.elapsed().as_secs());
+        }
     }
     comparison.print();
     for difference in &comparison.differences {

@@ -10,8 +10,8 @@ pub struct Model;
 impl Calls for Model {
     fn call(&self, call: &Call, lent: &mut Lent) -> u64 {
         match call {
-            Call::Tern => hand_out(&reference::tern(), &mut lent.sum),
-            Call::Bin => hand_out(&reference::bin(), &mut lent.sum),
+            Call::Tern => write_carried(&reference::tern(), &mut lent.sum),
+            Call::Bin => write_carried(&reference::bin(), &mut lent.sum),
             _ if lent.answer.len() < ANSWER_WORDS => TOO_SHORT,
             _ => store(answer(call, lent), &mut lent.answer),
         }
@@ -19,7 +19,7 @@ impl Calls for Model {
 }
 
 /// A carried table goes whole into the buffer's start, or nothing is written.
-fn hand_out(table: &[u8], out: &mut [u8]) -> u64 {
+fn write_carried(table: &[u8], out: &mut [u8]) -> u64 {
     match out.get_mut(..table.len()) {
         Some(start) => {
             start.copy_from_slice(table);

@@ -218,41 +218,36 @@ fn narrow(
     open.is_empty().then_some(leaves)
 }
 
-/// The weights that a window keeps: enough of its parent's to serve whatever the window below may send up, chosen greedily.
+/// The weights that a window keeps: enough of its parent's to serve whatever the window below may send up.
 fn needed(system: &System, sets: &Sets, word: &[u8], random: &mut Random) -> Vec<Element> {
     let (first, below) = (system.inputs[usize::from(word[0])], &word[1..]);
     let known = (0..=below.len())
         .rev()
         .find_map(|length| sets.get(&below[..length]));
-    let mut unserved: Vec<Element> = known
-        .into_iter()
-        .flatten()
-        .map(|weight| first + *weight)
-        .collect();
+    let unserved = known.into_iter().flatten();
+    let unserved = unserved.map(|weight| first + *weight).collect();
     let mut candidates = sets[&word[..word.len() - 1]].clone();
     random.shuffle(&mut candidates);
     // Windows of zeros try the weight zero first, for rule 13.
     let zeros = word.iter().all(|index| *index == 0);
     candidates.sort_by_key(|weight| zeros && *weight != Element::ZERO);
+    cover(system, unserved, candidates)
+}
+
+/// Weights that bring each of the unserved elements into the alphabet, chosen greedily, the earlier candidate first.
+fn cover(
+    system: &System,
+    mut unserved: Vec<Element>,
+    mut candidates: Vec<Element>,
+) -> Vec<Element> {
     let serves = |weight: &Element, target: &Element| {
-        system
-            .alphabet
-            .contains(&(*target - system.base.times(*weight)))
+        let digit = *target - system.base.times(*weight);
+        system.alphabet.contains(&digit)
     };
     let mut kept = Vec::new();
     while !unserved.is_empty() {
-        let count = |weight: &Element| {
-            unserved
-                .iter()
-                .filter(|target| serves(weight, target))
-                .count()
-        };
-        let Some(best) = candidates
-            .iter()
-            .rev()
-            .max_by_key(|weight| count(weight))
-            .copied()
-        else {
+        let count = |weight: &&Element| unserved.iter().filter(|x| serves(weight, x)).count();
+        let Some(best) = candidates.iter().rev().max_by_key(count).copied() else {
             break;
         };
         unserved.retain(|target| !serves(&best, target));

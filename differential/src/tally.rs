@@ -83,7 +83,7 @@ impl<'a> Comparison<'a> {
         for name in ["check", "add", "edit", "value", "midpoint", "tern", "bin"] {
             let of_call = self.counts.iter().filter(|((call, _), _)| *call == name);
             let parts: Vec<String> = of_call
-                .map(|((_, outcome), count)| cell(*outcome, *count))
+                .map(|((_, outcome), count)| counted(*outcome, *count))
                 .collect();
             println!("{name}: {}", parts.join(", "));
         }
@@ -120,7 +120,7 @@ impl<'a> Comparison<'a> {
     }
 }
 
-fn cell(outcome: Outcome, count: u64) -> String {
+fn counted(outcome: Outcome, count: u64) -> String {
     match outcome {
         Outcome::Facts => format!("facts {count}"),
         Outcome::Fault(number) => format!("refused {number} {count}"),
