@@ -5,13 +5,19 @@ use reference::{Answer, Element, Parts};
 use crate::codes::{self, MOST_LEAVES};
 use crate::damage::{self, Draft};
 use crate::interface::{Call, Lent};
+use crate::pairs;
 use crate::random::Random;
 use crate::search;
 use crate::tally::{Comparison, Outcome};
 
-/// The tables of a run: found by the search, and the two carried ones.
+/// The tables of a run.
 pub struct Pool {
+    /// Accepted ones: found by the search, and the two carried ones.
     pub tables: Vec<Parts>,
+    /// Ones with a single pair of leaves that rule 14 refuses.
+    pub single_pairs: Vec<Parts>,
+    /// Ones where that pair is a leaf with itself.
+    pub self_pairs: Vec<Parts>,
 }
 
 /// How many tables the search looks for.
@@ -19,12 +25,23 @@ const TABLES: usize = 60;
 
 impl Pool {
     pub fn new(seed: u64) -> Self {
-        let mut tables = search::tables(TABLES, &mut Random::new(seed));
+        let mut random = Random::new(seed);
+        let mut tables = search::tables(TABLES, &mut random);
         tables.extend([
             reference::carried::tern_parts(),
             reference::carried::bin_parts(),
         ]);
-        Pool { tables }
+        let mut refused = |itself| -> Vec<Parts> {
+            let small = tables.iter().filter(|parts| parts.leaves.len() <= 300);
+            small
+                .filter_map(|parts| pairs::single(parts, itself, &mut random))
+                .collect()
+        };
+        Pool {
+            single_pairs: refused(false),
+            self_pairs: refused(true),
+            tables,
+        }
     }
 
     /// The number of different bases.
@@ -77,7 +94,8 @@ pub fn run(pool: &Pool, comparison: &mut Comparison, random: &mut Random) {
         45..=54 => damaged(pool, comparison, 2, random),
         55..=62 => flipped(pool, comparison, random),
         63..=66 => cut(pool, comparison, random),
-        67..=73 => prefix_code(comparison, random),
+        67..=71 => prefix_code(comparison, random),
+        72..=73 => refused_pair(pool, comparison, random),
         74..=83 => rows_and_editor(pool, comparison, random),
         84..=91 => values(pool, comparison, random),
         92..=96 => midpoints(comparison, random),
@@ -270,6 +288,20 @@ fn prefix_code(comparison: &mut Comparison, random: &mut Random) {
     }
     edits(&parts, comparison, &mut lent, random);
     comparison.call(Call::Value, &mut lent);
+}
+
+/// A table with a single pair that rule 14 refuses; addition and edits take it, and say 27 only where that pair comes up.
+fn refused_pair(pool: &Pool, comparison: &mut Comparison, random: &mut Random) {
+    let from = match random.one_in(2) {
+        true => &pool.single_pairs,
+        false => &pool.self_pairs,
+    };
+    if !from.is_empty() {
+        let parts = &from[random.below(from.len())];
+        let mut lent = lend(parts, parts.write(), random);
+        comparison.call(Call::Check, &mut lent);
+        edits(parts, comparison, &mut lent, random);
+    }
 }
 
 /// Rows and editor numbers with one or two faults in them, outside a list: the sum may hold anything.

@@ -31,7 +31,7 @@ pub fn refine(parts: &mut Parts, most_leaves: usize, random: &mut Random) {
 }
 
 /// One leaf replaced by its extensions, which stay in order.
-fn split(parts: &mut Parts, at: usize) {
+pub fn split(parts: &mut Parts, at: usize) {
     let (word, weight) = parts.leaves[at].clone();
     let extend = |input: usize| ([word.clone(), vec![input as u8]].concat(), weight);
     let children: Vec<_> = (0..parts.inputs.len()).map(extend).collect();

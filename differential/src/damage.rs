@@ -233,7 +233,7 @@ fn places_of_words(draft: &mut Draft, random: &mut Random) {
     let leaf = 8 * random.below(draft.records(3, 8));
     let last = 8 * (draft.records(3, 8) - 1);
     let (offset, length) = (draft.get(3, leaf), draft.get(3, leaf + 2));
-    match random.below(6) {
+    match random.below(7) {
         0 => draft.set(3, leaf + 2, random.pick(&[0, 9, 10, -1, i16::MIN])),
         1 => draft.set(
             3,
@@ -247,8 +247,18 @@ fn places_of_words(draft: &mut Draft, random: &mut Random) {
         ),
         3 => draft.set(3, last + 2, draft.get(3, last + 2).wrapping_add(1) as i16),
         4 => draft.sections[4].push(0),
+        5 => gap_in_front(draft),
         _ => draft.sections[4].truncate(draft.sections[4].len().saturating_sub(1).max(1)),
     }
+}
+
+/// Words that follow one another but start at 1.
+fn gap_in_front(draft: &mut Draft) {
+    for leaf in 0..draft.records(3, 8) {
+        let offset = draft.get(3, 8 * leaf);
+        draft.set(3, 8 * leaf, offset.wrapping_add(1) as i16);
+    }
+    draft.sections[4].insert(0, 0);
 }
 
 /// A word byte that is no input index.

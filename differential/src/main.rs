@@ -13,6 +13,7 @@ mod codes;
 mod damage;
 mod interface;
 mod model;
+mod pairs;
 mod random;
 mod search;
 mod tally;
@@ -56,6 +57,8 @@ fn main() -> ExitCode {
         "seed {}; {tables} tables for {bases} bases, by depth 1 to 8: {depths:?}",
         request.seed
     );
+    let (single, itself) = (pool.single_pairs.len(), pool.self_pairs.len());
+    println!("tables with one refused pair: {single}, with a leaf and itself: {itself}");
     let good = match request.mode {
         Mode::Library => library_run(&pool, &request),
         Mode::Itself => run(&pool, &request, &model::Model),
