@@ -31,6 +31,11 @@ impl Pool {
             reference::carried::tern_parts(),
             reference::carried::bin_parts(),
         ]);
+        let few_inputs = tables.iter().filter(|parts| parts.inputs.len() <= 20);
+        let spread: Vec<Parts> = few_inputs
+            .map(|parts| pairs::above_zeros(parts, &mut random))
+            .collect();
+        tables.extend(spread);
         let mut refused = |itself| -> Vec<Parts> {
             let small = tables.iter().filter(|parts| parts.leaves.len() <= 300);
             small

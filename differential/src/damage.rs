@@ -321,11 +321,21 @@ fn missing_leaf(draft: &mut Draft, random: &mut Random) {
     draft.set_leaves(&leaves);
 }
 
-/// Another weight, within the limits, at a leaf other than leaf 0: a table that only rule 14 may refuse.
+/// Another weight, within the limits, at a leaf other than leaf 0: a table that only rule 14 may refuse. Often it is a leaf that
+/// begins with zero, so that a sum may go wrong above the rows only.
 fn weight(draft: &mut Draft, random: &mut Random) {
-    let leaves = draft.records(3, 8);
-    if leaves > 1 {
-        let leaf = 8 * (1 + random.below(leaves - 1));
+    let leaves = draft.leaves();
+    let zero_first = leaves
+        .iter()
+        .take_while(|(word, _)| word.first() == Some(&0))
+        .count();
+    let below = if random.one_in(2) {
+        zero_first
+    } else {
+        leaves.len()
+    };
+    if below > 1 {
+        let leaf = 8 * (1 + random.below(below - 1));
         let value = random.pick(&[-1_024, -3, -2, -1, 0, 1, 2, 3, 1_024]);
         draft.set(3, leaf + 4 + 2 * random.below(2), value);
     }

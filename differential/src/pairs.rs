@@ -1,4 +1,5 @@
-//! Tables that rule 14 refuses because of a single pair of leaves, and among them ones where that is a leaf with itself.
+//! Tables made by changing weights with rule 14 in view: ones that it refuses because of a single pair of leaves, among them a leaf
+//! with itself; and accepted ones in which digits far below decide, so that the top places of a sum aren't all zero.
 
 use reference::{Base, Element, Parts};
 
@@ -26,6 +27,36 @@ pub fn single(parts: &Parts, itself: bool, random: &mut Random) -> Option<Parts>
         }
     }
     None
+}
+
+/// A finer code below the digit zero, and other weights for its windows of zeros with something below, wherever no pair fails. A
+/// weight then may travel up through zeros, into the sum places above the rows. Still an accepted table.
+pub fn above_zeros(parts: &Parts, random: &mut Random) -> Parts {
+    let mut spread = parts.clone();
+    let longest = 3 + random.below(codes::LONGEST_WORD - 2);
+    while spread.leaves[0].0.len() < longest && spread.leaves.len() + spread.inputs.len() <= 200 {
+        codes::split(&mut spread, 0);
+    }
+    let zeros = |leaf: &usize| leading_zeros(&spread.leaves[*leaf].0);
+    let mut order: Vec<usize> = (1..spread.leaves.len())
+        .filter(|leaf| zeros(leaf) > 0)
+        .collect();
+    order.sort_by_key(zeros);
+    for leaf in order {
+        let old = spread.leaves[leaf].1;
+        let new = (random.between(-1, 1) as i16, random.pick(&[0, 0, -1, 1]));
+        for weight in [new, (1, 0), (-1, 0), (0, 1), (0, -1), old] {
+            spread.leaves[leaf].1 = weight;
+            if weight == old || (weight != (0, 0) && failing(&spread, leaf).is_empty()) {
+                break;
+            }
+        }
+    }
+    spread
+}
+
+fn leading_zeros(word: &[u8]) -> usize {
+    word.iter().take_while(|index| **index == 0).count()
 }
 
 /// Splits the leaf that begins c, c, c, ... until its word is two to four long, and gives its number.
