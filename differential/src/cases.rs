@@ -305,6 +305,11 @@ fn refused_pair(pool: &Pool, comparison: &mut Comparison, random: &mut Random) {
         let parts = &from[random.below(from.len())];
         let mut lent = lend(parts, parts.write(), random);
         comparison.call(Call::Check, &mut lent);
+        // An edit outside a list too: bad places that it doesn't renew aren't its business.
+        for _ in 0..random.below(4) {
+            let call = random_edit(parts, lent.first.len(), random);
+            comparison.call(call, &mut lent);
+        }
         edits(parts, comparison, &mut lent, random);
     }
 }

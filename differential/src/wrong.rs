@@ -34,6 +34,8 @@ pub enum Mistake {
     SecondRowFirst,
     /// The edit renews only the sum's place p.
     EditOnePlace,
+    /// The edit says 27 for any place of the sum, also below p and above p + h.
+    EditJudgesAll,
     /// The value lets −2,147,483,648 pass at the last digit.
     LimitLoose,
     /// The midpoint is rounded toward zero.
@@ -71,6 +73,7 @@ pub fn mistakes() -> Vec<Mistake> {
         NumbersCut,
         SecondRowFirst,
         EditOnePlace,
+        EditJudgesAll,
         LimitLoose,
         MidpointTruncated,
         AnswerOverrun,
@@ -150,6 +153,13 @@ impl Wrong {
             Mistake::EditOnePlace => {
                 let above = place as usize + 1;
                 lent.sum[above..].copy_from_slice(&before.sum[above..]);
+            }
+            Mistake::EditJudgesAll => {
+                let mut whole = lent.clone();
+                if Model.call(&Call::Add, &mut whole) == FAULT {
+                    *lent = before.clone();
+                    lent.answer[..3].copy_from_slice(&whole.answer[..3]);
+                }
             }
             Mistake::EditOnce if self.edited.get() => *lent = before.clone(),
             Mistake::EditIdle => {
