@@ -1,0 +1,465 @@
+//! The cases: which tables, rows, buffers and numbers are tried.
+
+use reference::{Answer, Element, Parts};
+
+use crate::codes::{self, MOST_LEAVES};
+use crate::damage::{self, Draft};
+use crate::interface::{Call, Lent};
+use crate::pairs;
+use crate::random::Random;
+use crate::search;
+use crate::tally::{Comparison, Outcome};
+
+/// The tables of a run.
+pub struct Pool {
+    /// Accepted ones: found by the search, and the two carried ones.
+    pub tables: Vec<Parts>,
+    /// Ones with a single pair of leaves that rule 14 refuses.
+    pub single_pairs: Vec<Parts>,
+    /// Ones where that pair is a leaf with itself.
+    pub self_pairs: Vec<Parts>,
+}
+
+/// How many tables the search looks for.
+const TABLES: usize = 60;
+
+impl Pool {
+    pub fn new(seed: u64) -> Self {
+        let mut random = Random::new(seed);
+        let mut tables = search::tables(TABLES, &mut random);
+        tables.extend([
+            reference::carried::tern_parts(),
+            reference::carried::bin_parts(),
+        ]);
+        let few_inputs = tables.iter().filter(|parts| parts.inputs.len() <= 20);
+        let spread: Vec<Parts> = few_inputs
+            .map(|parts| pairs::above_zeros(parts, &mut random))
+            .collect();
+        tables.extend(spread);
+        let mut refused = |itself| -> Vec<Parts> {
+            let small = tables.iter().filter(|parts| parts.leaves.len() <= 300);
+            small
+                .filter_map(|parts| pairs::single(parts, itself, &mut random))
+                .collect()
+        };
+        Pool {
+            single_pairs: refused(false),
+            self_pairs: refused(true),
+            tables,
+        }
+    }
+
+    /// The number of different bases.
+    pub fn bases(&self) -> usize {
+        let mut bases: Vec<[i16; 4]> = self.tables.iter().map(|parts| parts.base).collect();
+        bases.sort();
+        bases.dedup();
+        bases.len()
+    }
+
+    /// How many tables there are of each depth from 1 to 8.
+    pub fn depths(&self) -> [usize; 8] {
+        let of_depth = |wanted| {
+            self.tables
+                .iter()
+                .filter(|parts| depth(parts) == wanted)
+                .count()
+        };
+        [1, 2, 3, 4, 5, 6, 7, 8].map(of_depth)
+    }
+
+    /// A table of the pool, often with a finer code, seldom with a very fine one.
+    fn accepted(&self, random: &mut Random) -> Parts {
+        let mut parts = self.tables[random.below(self.tables.len())].clone();
+        let most_leaves = match random.below(200) {
+            0 => random.between(1_000, MOST_LEAVES as i64) as usize,
+            1..=40 => parts.leaves.len() + random.below(150),
+            _ => return parts,
+        };
+        codes::refine(&mut parts, most_leaves, random);
+        parts
+    }
+}
+
+/// The longest word's length.
+fn depth(parts: &Parts) -> usize {
+    parts
+        .leaves
+        .iter()
+        .map(|(word, _)| word.len())
+        .max()
+        .unwrap_or(0)
+}
+
+/// Runs one case.
+pub fn run(pool: &Pool, comparison: &mut Comparison, random: &mut Random) {
+    match random.below(100) {
+        0..=24 => list_of_edits(pool, comparison, random),
+        25..=44 => damaged(pool, comparison, 1, random),
+        45..=54 => damaged(pool, comparison, 2, random),
+        55..=62 => flipped(pool, comparison, random),
+        63..=66 => cut(pool, comparison, random),
+        67..=71 => prefix_code(comparison, random),
+        72..=73 => refused_pair(pool, comparison, random),
+        74..=83 => rows_and_editor(pool, comparison, random),
+        84..=91 => values(pool, comparison, random),
+        92..=96 => midpoints(comparison, random),
+        _ => short_buffers(pool, comparison, random),
+    }
+}
+
+/// An accepted table, an addition, and a list of edits that starts from it.
+fn list_of_edits(pool: &Pool, comparison: &mut Comparison, random: &mut Random) {
+    let parts = pool.accepted(random);
+    let mut lent = lend(&parts, parts.write(), random);
+    if random.one_in(4) {
+        comparison.call(Call::Check, &mut lent);
+    }
+    edits(&parts, comparison, &mut lent, random);
+}
+
+/// An addition, and edits of what it leaves.
+fn edits(parts: &Parts, comparison: &mut Comparison, lent: &mut Lent, random: &mut Random) {
+    if comparison.call(Call::Add, lent) != Outcome::Facts {
+        return;
+    }
+    let most = match random.below(100) {
+        _ if lent.table.len() > 5_000 => 8,
+        0 => 600,
+        1..=9 => 120,
+        _ => 12,
+    };
+    for _ in 0..random.below(most + 1) {
+        let call = random_edit(parts, lent.first.len(), random);
+        comparison.call(call, lent);
+    }
+}
+
+/// An edit, mostly one that is taken; otherwise with numbers just too large, far too large, or right only in their low bits.
+fn random_edit(parts: &Parts, length: usize, random: &mut Random) -> Call {
+    let mut numbers = [0; 3];
+    for (number, bound) in numbers.iter_mut().zip([2, length, parts.alphabet.len()]) {
+        let good = random.below(bound.max(1)) as u64;
+        let bound = bound as u64;
+        *number = match random.below(60) {
+            0 => bound,
+            1 => bound + random.below(300) as u64,
+            2 => random.pick(&[1 << 8, 1 << 16, 1 << 31, 1 << 32, 1 << 63]) + good,
+            3 => random.pick(&[u64::MAX, u64::MAX - 1, i64::MAX as u64]),
+            4 => random.next(),
+            _ => good,
+        };
+    }
+    let [row, place, digit] = numbers;
+    Call::Edit { row, place, digit }
+}
+
+/// Rows of a random length with a sum buffer that is mostly long enough, and a whole answer array.
+fn lend(parts: &Parts, table: Vec<u8>, random: &mut Random) -> Lent {
+    let length = row_length(random);
+    let depth = parts
+        .leaves
+        .iter()
+        .map(|(word, _)| word.len())
+        .max()
+        .unwrap_or(0);
+    let whole = length + depth;
+    let sum = match random.below(12) {
+        0 => whole.saturating_sub(1),
+        1 => random.below(whole + 1),
+        2..=5 => whole + 1 + random.below(20),
+        _ => whole,
+    };
+    let first = row(parts, length, random);
+    let second = row(parts, length, random);
+    Lent {
+        table,
+        first,
+        second,
+        sum: random.bytes(sum),
+        answer: answer_array(random),
+    }
+}
+
+fn row_length(random: &mut Random) -> usize {
+    match random.below(40) {
+        0 => 0,
+        1 => 1,
+        2 => 255,
+        3 => 256,
+        4 => 257,
+        5 | 6 => random.below(257),
+        _ => random.below(24),
+    }
+}
+
+/// A row of alphabet indexes; some are all zero or nearly so, for tables that convert little else.
+fn row(parts: &Parts, length: usize, random: &mut Random) -> Vec<u8> {
+    let rarely = random.pick(&[1, 1, 1, 1, 3, 20, 1_000]);
+    let digits = parts.alphabet.len();
+    let digit = |random: &mut Random| match random.one_in(rarely) {
+        true => random.below(digits) as u8,
+        false => 0,
+    };
+    (0..length).map(|_| digit(random)).collect()
+}
+
+/// At least eight words, filled with anything, so that words that must be kept are seen to be.
+fn answer_array(random: &mut Random) -> Vec<i64> {
+    let words = if random.one_in(4) {
+        8 + random.below(5)
+    } else {
+        8
+    };
+    (0..words).map(|_| random.next() as i64).collect()
+}
+
+/// Directed damage to an accepted table.
+fn damaged(pool: &Pool, comparison: &mut Comparison, times: usize, random: &mut Random) {
+    let parts = pool.accepted(random);
+    let mut draft = Draft::new(&parts);
+    for _ in 0..times {
+        let number = random.pick(&damage::NUMBERS);
+        damage::damage(&mut draft, number, random);
+    }
+    try_table(&parts, draft.write(), comparison, random);
+}
+
+/// The check of a file, and another call with it.
+fn try_table(parts: &Parts, file: Vec<u8>, comparison: &mut Comparison, random: &mut Random) {
+    let mut lent = lend(parts, file, random);
+    comparison.call(Call::Check, &mut lent);
+    match random.below(5) {
+        0 => edits(parts, comparison, &mut lent, random),
+        1 => {
+            let call = random_edit(parts, lent.first.len(), random);
+            comparison.call(call, &mut lent);
+        }
+        2 => {
+            comparison.call(Call::Value, &mut lent);
+        }
+        3 => {
+            spoil_rows(parts, &mut lent, random);
+            comparison.call(Call::Add, &mut lent);
+        }
+        _ => (),
+    }
+}
+
+/// Some bytes of an accepted table changed.
+fn flipped(pool: &Pool, comparison: &mut Comparison, random: &mut Random) {
+    let parts = pool.accepted(random);
+    let mut file = parts.write();
+    for _ in 0..1 + random.below(3) {
+        let at = random.below(file.len());
+        file[at] = match random.below(3) {
+            0 => file[at] ^ (1 << random.below(8)),
+            1 => file[at].wrapping_add(random.pick(&[1, 255])),
+            _ => random.next() as u8,
+        };
+    }
+    try_table(&parts, file, comparison, random);
+}
+
+/// A file cut anywhere, or with bytes behind it, or no table at all.
+fn cut(pool: &Pool, comparison: &mut Comparison, random: &mut Random) {
+    let parts = pool.accepted(random);
+    let mut file = parts.write();
+    match random.below(4) {
+        0 => {
+            let more = random.pick(&[1, 2, 8, 65_535 - file.len().min(65_535), 65_536]);
+            file.extend(random.bytes(more));
+        }
+        1 => {
+            let length = random.pick(&[0, 1, 19, 20, 21, 100, 500]);
+            file = random.bytes(length);
+        }
+        _ => file.truncate(random.below(file.len())),
+    }
+    try_table(&parts, file, comparison, random);
+}
+
+/// A random complete prefix code, mostly small, with rows that it converts or not.
+fn prefix_code(comparison: &mut Comparison, random: &mut Random) {
+    let most_leaves = match random.below(50) {
+        0 => MOST_LEAVES,
+        1 => random.below(MOST_LEAVES),
+        _ => random.below(200),
+    };
+    let parts = codes::random_code(most_leaves, random);
+    let mut lent = lend(&parts, parts.write(), random);
+    if random.one_in(2) {
+        comparison.call(Call::Check, &mut lent);
+    }
+    edits(&parts, comparison, &mut lent, random);
+    comparison.call(Call::Value, &mut lent);
+}
+
+/// A table with a single pair that rule 14 refuses; addition and edits take it, and say 27 only where that pair comes up.
+fn refused_pair(pool: &Pool, comparison: &mut Comparison, random: &mut Random) {
+    let from = match random.one_in(2) {
+        true => &pool.single_pairs,
+        false => &pool.self_pairs,
+    };
+    if !from.is_empty() {
+        let parts = &from[random.below(from.len())];
+        let mut lent = lend(parts, parts.write(), random);
+        comparison.call(Call::Check, &mut lent);
+        // An edit outside a list too: bad places that it doesn't renew aren't its business.
+        for _ in 0..random.below(4) {
+            let call = random_edit(parts, lent.first.len(), random);
+            comparison.call(call, &mut lent);
+        }
+        edits(parts, comparison, &mut lent, random);
+    }
+}
+
+/// Rows and editor numbers with one or two faults in them, outside a list: the sum may hold anything.
+fn rows_and_editor(pool: &Pool, comparison: &mut Comparison, random: &mut Random) {
+    let parts = pool.accepted(random);
+    let mut lent = lend(&parts, parts.write(), random);
+    for _ in 0..random.below(3) {
+        spoil_rows(&parts, &mut lent, random);
+    }
+    match random.below(3) {
+        0 => comparison.call(Call::Add, &mut lent),
+        1 => comparison.call(Call::Value, &mut lent),
+        _ => comparison.call(random_edit(&parts, lent.first.len(), random), &mut lent),
+    };
+}
+
+/// A fault of whoever lends the rows: 20 to 23.
+fn spoil_rows(parts: &Parts, lent: &mut Lent, random: &mut Random) {
+    let digits = parts.alphabet.len() as u8;
+    let (row, other) = match random.one_in(2) {
+        true => (&mut lent.first, &mut lent.second),
+        false => (&mut lent.second, &mut lent.first),
+    };
+    match random.below(6) {
+        0 => row.resize(random.pick(&[0, 1, 255, 256, 257, 300]), 0),
+        1 => {
+            let length = random.pick(&[257, 258, 512]);
+            row.resize(length, 0);
+            other.resize(length, 0);
+        }
+        2..=4 if !row.is_empty() => {
+            let at = random.below(row.len());
+            row[at] = random.pick(&[digits, digits + 1, 128, 255]);
+        }
+        _ => {
+            let shorter = lent.sum.len().saturating_sub(1 + random.below(4));
+            lent.sum.truncate(shorter);
+        }
+    }
+}
+
+/// Values of rows of all lengths, with digits that grow as fast as they can or cancel out.
+fn values(pool: &Pool, comparison: &mut Comparison, random: &mut Random) {
+    let parts = pool.accepted(random);
+    let mut lent = lend(&parts, parts.write(), random);
+    let length = match random.below(3) {
+        0 => row_length(random),
+        _ => 8 + random.below(40),
+    };
+    lent.first = row(&parts, length, random);
+    if random.one_in(3) {
+        let same = random.below(parts.alphabet.len()) as u8;
+        lent.first.fill(same);
+    }
+    comparison.call(Call::Value, &mut lent);
+    if random.one_in(2) {
+        near_the_limit(&parts, comparison, &mut lent, random);
+    }
+}
+
+/// A row whose value just passes, ended with each digit; or the row of an element at the very limit.
+fn near_the_limit(
+    parts: &Parts,
+    comparison: &mut Comparison,
+    lent: &mut Lent,
+    random: &mut Random,
+) {
+    if random.one_in(2) {
+        for _ in 0..4 {
+            if let Some(row) = search::represent(parts, limit_element(random)) {
+                lent.first = row;
+                comparison.call(Call::Value, lent);
+            }
+        }
+        return;
+    }
+    let passes = |row: &[u8]| matches!(reference::value(&lent.table, row), Answer::Facts(_));
+    let mut row = Vec::new();
+    while row.len() < 256 {
+        row.insert(0, random.below(parts.alphabet.len()) as u8);
+        if !passes(&row) {
+            break;
+        }
+    }
+    lent.first = row;
+    for digit in 0..parts.alphabet.len() {
+        lent.first[0] = digit as u8;
+        comparison.call(Call::Value, lent);
+    }
+}
+
+/// An element with a part at ±2,147,483,647 or one beside it.
+fn limit_element(random: &mut Random) -> Element {
+    let limit = i64::from(i32::MAX);
+    let mut edge = || {
+        let size = random.pick(&[limit - 1, limit, limit, limit + 1, limit + 1]);
+        size * random.pick(&[-1, 1])
+    };
+    let (at, also) = (edge(), edge());
+    let other = match random.below(3) {
+        0 => 0,
+        1 => random.between(-limit, limit),
+        _ => also,
+    };
+    match random.below(3) {
+        0 => Element::new(other, at),
+        1 => Element::new(at, other),
+        _ => Element::new(at, 0),
+    }
+}
+
+/// Midpoints of small elements and of ones at the ends of 32 bits.
+fn midpoints(comparison: &mut Comparison, random: &mut Random) {
+    let mut part = || match random.below(4) {
+        0 => random.pick(&[i32::MIN, i32::MIN + 1, -1, 0, 1, i32::MAX - 1, i32::MAX]),
+        1 => random.between(-5, 5) as i32,
+        _ => random.next() as i32,
+    };
+    let (x, y) = ((part(), part()), (part(), part()));
+    let mut lent = Lent {
+        answer: answer_array(random),
+        ..Lent::default()
+    };
+    comparison.call(Call::Midpoint { x, y }, &mut lent);
+}
+
+/// Answer arrays under eight words, and out buffers of every length about that of a carried table.
+fn short_buffers(pool: &Pool, comparison: &mut Comparison, random: &mut Random) {
+    let parts = pool.accepted(random);
+    let mut lent = lend(&parts, parts.write(), random);
+    if random.one_in(2) {
+        lent.answer.truncate(random.below(8));
+    }
+    let out = random.pick(&[0, 1, 164, 165, 166, 186, 187, 188, 300]);
+    let call = match random.below(7) {
+        0 => Call::Check,
+        1 => Call::Add,
+        2 => random_edit(&parts, lent.first.len(), random),
+        3 => Call::Value,
+        4 => Call::Midpoint {
+            x: (1, 2),
+            y: (3, 4),
+        },
+        5 => Call::Tern,
+        _ => Call::Bin,
+    };
+    if matches!(call, Call::Tern | Call::Bin) {
+        lent.sum = random.bytes(out);
+    }
+    comparison.call(call, &mut lent);
+}

@@ -1,0 +1,98 @@
+//! Prefix codes: random complete ones, and finer codes of tables that are already there.
+
+use reference::{Element, Parts};
+
+use crate::random::Random;
+use crate::search::{self, System};
+
+pub const MOST_LEAVES: usize = 4_000;
+pub const LONGEST_WORD: usize = 8;
+
+/// Replaces leaves by all their one-digit extensions until no more fit below the limit. Each extension keeps the weight, so the
+/// conversion is the same, and an accepted table stays accepted.
+pub fn refine(parts: &mut Parts, most_leaves: usize, random: &mut Random) {
+    let inputs = parts.inputs.len();
+    let most_leaves = most_leaves.min(MOST_LEAVES);
+    let downward = random.one_in(2);
+    let mut at = random.below(parts.leaves.len());
+    let mut failures = 0;
+    while parts.leaves.len() + inputs - 1 <= most_leaves && failures < 200 {
+        if !downward || random.one_in(6) {
+            at = random.below(parts.leaves.len());
+        }
+        if parts.leaves[at].0.len() == LONGEST_WORD {
+            failures += 1;
+            at = random.below(parts.leaves.len());
+            continue;
+        }
+        split(parts, at);
+        at += random.below(inputs);
+    }
+}
+
+/// One leaf replaced by its extensions, which stay in order.
+pub fn split(parts: &mut Parts, at: usize) {
+    let (word, weight) = parts.leaves[at].clone();
+    let extend = |input: usize| ([word.clone(), vec![input as u8]].concat(), weight);
+    let children: Vec<_> = (0..parts.inputs.len()).map(extend).collect();
+    parts.leaves.splice(at..=at, children);
+}
+
+/// How the weights of a random code are drawn.
+#[derive(Clone, Copy)]
+enum Weights {
+    Zero,
+    Small,
+    Limits,
+}
+
+/// A random complete prefix code over the inputs of a random system. It passes 1 to 13, and mostly not 14.
+pub fn random_code(most_leaves: usize, random: &mut Random) -> Parts {
+    let mut system = search::random_system(random);
+    if random.one_in(3) {
+        wide_alphabet(&mut system, random);
+    }
+    let leaves = (0..system.inputs.len())
+        .map(|input| (vec![input as u8], Element::ZERO))
+        .collect();
+    let mut parts = search::parts(&system, leaves);
+    refine(&mut parts, most_leaves, random);
+    let kind = random.pick(&[
+        Weights::Zero,
+        Weights::Small,
+        Weights::Small,
+        Weights::Limits,
+    ]);
+    for (_, weight) in parts.leaves.iter_mut().skip(1) {
+        *weight = random_weight(kind, random);
+    }
+    parts
+}
+
+/// Digits anywhere within their size limits, so that also the largest sums come up.
+fn wide_alphabet(system: &mut System, random: &mut Random) {
+    let mut alphabet = vec![Element::ZERO];
+    let count = random.between(2, 16) as usize;
+    while alphabet.len() < count {
+        let far = [-64, -63, -1, 0, 1, 63, 64];
+        let part = |random: &mut Random| match random.one_in(2) {
+            true => random.pick(&far),
+            false => random.between(-64, 64),
+        };
+        let digit = Element::new(part(random), part(random));
+        if !alphabet.contains(&digit) {
+            alphabet.push(digit);
+        }
+    }
+    system.inputs = search::sums(&alphabet, random);
+    system.alphabet = alphabet;
+}
+
+fn random_weight(kind: Weights, random: &mut Random) -> (i16, i16) {
+    let mut part = || match kind {
+        Weights::Zero => 0,
+        Weights::Small => random.between(-2, 2) as i16,
+        Weights::Limits => random.pick(&[-1_024, -1_023, 0, 1, 1_023, 1_024]),
+    };
+    (part(), part())
+}

@@ -1,0 +1,54 @@
+//! The C interface as data: a call, and the buffers lent to it.
+
+/// The words that the answer array has at least; a call with fewer does nothing and returns `TOO_SHORT`.
+pub const ANSWER_WORDS: usize = 8;
+
+/// What a call returns for facts.
+pub const FACTS: u64 = 0;
+/// What a call returns for a fault.
+pub const FAULT: u64 = 1;
+/// What a call returns for an answer array or an out buffer that is too short.
+pub const TOO_SHORT: u64 = 2;
+
+/// A call with the numbers that are passed by value.
+#[derive(Clone, Copy, Debug, PartialEq, Eq)]
+pub enum Call {
+    Check,
+    Add,
+    Edit { row: u64, place: u64, digit: u64 },
+    Value,
+    Midpoint { x: (i32, i32), y: (i32, i32) },
+    Tern,
+    Bin,
+}
+
+impl Call {
+    pub fn name(&self) -> &'static str {
+        match self {
+            Call::Check => "check",
+            Call::Add => "add",
+            Call::Edit { .. } => "edit",
+            Call::Value => "value",
+            Call::Midpoint { .. } => "midpoint",
+            Call::Tern => "tern",
+            Call::Bin => "bin",
+        }
+    }
+}
+
+/// Everything lent to a call. A call uses the buffers that it has parameters for: the value call takes `first` as its row, and a
+/// carried table is written to `sum`. All are compared after every call, the ones that may only be read included.
+#[derive(Clone, Debug, Default, PartialEq, Eq)]
+pub struct Lent {
+    pub table: Vec<u8>,
+    pub first: Vec<u8>,
+    pub second: Vec<u8>,
+    pub sum: Vec<u8>,
+    pub answer: Vec<i64>,
+}
+
+/// An implementation of the C interface.
+pub trait Calls {
+    /// Makes the call with the lent buffers and gives back what it returns.
+    fn call(&self, call: &Call, lent: &mut Lent) -> u64;
+}

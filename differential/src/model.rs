@@ -1,0 +1,89 @@
+//! The reference behind the C interface: what every call has to return and to leave in the lent buffers.
+
+use reference::{Answer, Group};
+
+use crate::interface::{Call, Calls, Lent, ANSWER_WORDS, FACTS, FAULT, TOO_SHORT};
+
+/// The reference as an implementation of the interface.
+pub struct Model;
+
+impl Calls for Model {
+    fn call(&self, call: &Call, lent: &mut Lent) -> u64 {
+        match call {
+            Call::Tern => write_carried(&reference::tern(), &mut lent.sum),
+            Call::Bin => write_carried(&reference::bin(), &mut lent.sum),
+            _ if lent.answer.len() < ANSWER_WORDS => TOO_SHORT,
+            _ => store(answer(call, lent), &mut lent.answer),
+        }
+    }
+}
+
+/// A carried table goes whole into the buffer's start, or nothing is written.
+fn write_carried(table: &[u8], out: &mut [u8]) -> u64 {
+    match out.get_mut(..table.len()) {
+        Some(start) => {
+            start.copy_from_slice(table);
+            FACTS
+        }
+        None => TOO_SHORT,
+    }
+}
+
+/// The reference's answer, its facts in document 01's order.
+fn answer(call: &Call, lent: &mut Lent) -> Answer<Vec<i64>> {
+    let Lent {
+        table,
+        first,
+        second,
+        sum,
+        ..
+    } = lent;
+    match *call {
+        Call::Check => facts(reference::check(table), |f| {
+            vec![f.depth as i64, f.leaves as i64, f.digits as i64]
+        }),
+        Call::Add => facts(reference::add(table, first, second, sum), |length| {
+            vec![length as i64]
+        }),
+        Call::Edit { row, place, digit } => {
+            let edited = reference::edit(table, first, second, sum, row, place, digit);
+            facts(edited, |changed| vec![changed as i64])
+        }
+        Call::Value => facts(reference::value(table, first), |element| {
+            vec![element.a, element.b]
+        }),
+        Call::Midpoint { x, y } => {
+            let (a, b) = reference::midpoint(x, y);
+            Answer::Facts(vec![a.into(), b.into()])
+        }
+        Call::Tern | Call::Bin => Answer::Facts(Vec::new()),
+    }
+}
+
+fn facts<F>(answer: Answer<F>, words: impl FnOnce(F) -> Vec<i64>) -> Answer<Vec<i64>> {
+    match answer {
+        Answer::Facts(known) => Answer::Facts(words(known)),
+        Answer::Fault(fault) => Answer::Fault(fault),
+    }
+}
+
+/// Word 0 says facts or whose fault; the words that a call has nothing for keep their contents.
+fn store(answer: Answer<Vec<i64>>, words: &mut [i64]) -> u64 {
+    match answer {
+        Answer::Facts(known) => {
+            words[0] = 0;
+            words[1..=known.len()].copy_from_slice(&known);
+            FACTS
+        }
+        Answer::Fault(fault) => {
+            words[0] = match fault.group {
+                Group::Author => 1,
+                Group::Rows => 2,
+                Group::Editor => 3,
+            };
+            words[1] = fault.number.into();
+            words[2] = fault.place as i64;
+            FAULT
+        }
+    }
+}

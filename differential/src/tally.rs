@@ -1,0 +1,163 @@
+//! What was tried, counted by call and refusal number, and the differences found.
+
+use std::collections::BTreeMap;
+
+use crate::interface::{Call, Calls, Lent, FACTS, FAULT};
+use crate::model::Model;
+
+/// How a call ended, as counted.
+#[derive(Clone, Copy, Debug, PartialEq, Eq, PartialOrd, Ord)]
+pub enum Outcome {
+    Facts,
+    Fault(i64),
+    TooShort,
+}
+
+/// A comparison of an implementation with the reference.
+pub struct Comparison<'a> {
+    subject: &'a dyn Calls,
+    pub counts: BTreeMap<(&'static str, Outcome), u64>,
+    pub differences: Vec<String>,
+    /// The row lengths of additions and edits.
+    lengths: BTreeMap<usize, u64>,
+    /// Leaves and depth of the largest codes that the check accepted.
+    largest: (i64, i64),
+    /// The case that runs, named in a difference so that it can be repeated.
+    pub case: u64,
+}
+
+impl<'a> Comparison<'a> {
+    pub fn new(subject: &'a dyn Calls) -> Self {
+        Comparison {
+            subject,
+            counts: BTreeMap::new(),
+            differences: Vec::new(),
+            lengths: BTreeMap::new(),
+            largest: (0, 0),
+            case: 0,
+        }
+    }
+
+    /// Makes a call of both implementations with the same buffers and compares all that comes back. The buffers are left as the
+    /// reference leaves them.
+    pub fn call(&mut self, call: Call, lent: &mut Lent) -> Outcome {
+        let before = lent.clone();
+        let mut tried = lent.clone();
+        let expected = Model.call(&call, lent);
+        let returned = self.subject.call(&call, &mut tried);
+        if returned != expected || tried != *lent {
+            let report = report(&call, &before, (expected, lent), (returned, &tried));
+            self.differences
+                .push(format!("case {}: {report}", self.case));
+        }
+        let outcome = match expected {
+            FACTS => Outcome::Facts,
+            FAULT => Outcome::Fault(lent.answer[1]),
+            _ => Outcome::TooShort,
+        };
+        self.count(&call, outcome, lent);
+        outcome
+    }
+
+    fn count(&mut self, call: &Call, outcome: Outcome, lent: &Lent) {
+        *self.counts.entry((call.name(), outcome)).or_default() += 1;
+        match call {
+            Call::Add | Call::Edit { .. } => {
+                *self.lengths.entry(lent.first.len()).or_default() += 1
+            }
+            Call::Check if outcome == Outcome::Facts => {
+                let (leaves, depth) = self.largest;
+                self.largest = (leaves.max(lent.answer[2]), depth.max(lent.answer[1]));
+            }
+            _ => (),
+        }
+    }
+
+    /// The number of calls compared.
+    pub fn calls(&self) -> u64 {
+        self.counts.values().sum()
+    }
+
+    /// The counts, one line for each call, and then those of each refusal number over all calls.
+    pub fn print(&self) {
+        for name in ["check", "add", "edit", "value", "midpoint", "tern", "bin"] {
+            let of_call = self.counts.iter().filter(|((call, _), _)| *call == name);
+            let parts: Vec<String> = of_call
+                .map(|((_, outcome), count)| counted(*outcome, *count))
+                .collect();
+            println!("{name}: {}", parts.join(", "));
+        }
+        let of_length = |length| self.lengths.get(&length).copied().unwrap_or(0);
+        let [none, one, under, most, over] = [0, 1, 255, 256, 257].map(of_length);
+        println!("row lengths: 0: {none}, 1: {one}, 255: {under}, 256: {most}, 257: {over}");
+        let (leaves, depth) = self.largest;
+        println!("accepted codes: up to {leaves} leaves, up to depth {depth}");
+        let by_number: Vec<String> = crate::wrong::NUMBERS
+            .iter()
+            .map(|number| format!("{number}: {}", self.of_number(*number)))
+            .collect();
+        println!("by refusal number: {}", by_number.join(", "));
+        let missing: Vec<String> = self.not_reached().iter().map(i64::to_string).collect();
+        if !missing.is_empty() {
+            println!("not reached: {}", missing.join(", "));
+        }
+    }
+
+    fn of_number(&self, number: i64) -> u64 {
+        let of_number = self
+            .counts
+            .iter()
+            .filter(|((_, outcome), _)| *outcome == Outcome::Fault(number));
+        of_number.map(|(_, count)| count).sum()
+    }
+
+    /// The refusal numbers that no call has met.
+    pub fn not_reached(&self) -> Vec<i64> {
+        let numbers = crate::wrong::NUMBERS.into_iter();
+        numbers
+            .filter(|number| self.of_number(*number) == 0)
+            .collect()
+    }
+}
+
+fn counted(outcome: Outcome, count: u64) -> String {
+    match outcome {
+        Outcome::Facts => format!("facts {count}"),
+        Outcome::Fault(number) => format!("refused {number} {count}"),
+        Outcome::TooShort => format!("too short {count}"),
+    }
+}
+
+/// A difference, with the call and its buffers.
+fn report(call: &Call, before: &Lent, expected: (u64, &Lent), got: (u64, &Lent)) -> String {
+    let mut lines = vec![format!("{call:?} differs")];
+    lines.push(format!("  expected {} {:?}", expected.0, expected.1.answer));
+    lines.push(format!("  got      {} {:?}", got.0, got.1.answer));
+    let buffers = |lent: &Lent| [&lent.table, &lent.first, &lent.second, &lent.sum].map(Vec::clone);
+    let [lent, left, found] = [before, expected.1, got.1].map(buffers);
+    for (index, name) in ["table", "first", "second", "sum"].into_iter().enumerate() {
+        lines.push(format!(
+            "  {name}, {} bytes: {}",
+            lent[index].len(),
+            hexadecimal(&lent[index])
+        ));
+        if let Some(place) =
+            (0..left[index].len()).find(|at| found[index].get(*at) != left[index].get(*at))
+        {
+            let (right, wrong) = (left[index][place], found[index][place]);
+            lines.push(format!(
+                "  {name} byte {place}: expected {right}, got {wrong}"
+            ));
+        }
+    }
+    lines.join("\n")
+}
+
+fn hexadecimal(bytes: &[u8]) -> String {
+    let shown: String = bytes
+        .iter()
+        .take(1_000)
+        .map(|byte| format!("{byte:02x}"))
+        .collect();
+    shown + if bytes.len() > 1_000 { "..." } else { "" }
+}

@@ -1,0 +1,239 @@
+//! Implementations with one mistake each, to see that the comparison finds it.
+
+use std::cell::Cell;
+
+use reference::Element;
+
+use crate::interface::{Call, Calls, Lent, FACTS, FAULT, TOO_SHORT};
+use crate::model::Model;
+
+/// What is wrong with an implementation that is otherwise the reference.
+#[derive(Clone, Copy, Debug, PartialEq, Eq)]
+pub enum Mistake {
+    /// The edit's count is always h + 1.
+    CountAlwaysAll,
+    /// The edit stores the digit but not the sum.
+    EditLeavesSum,
+    /// The edit works in the first call only.
+    EditOnce,
+    /// The edit writes nothing and reports 0.
+    EditIdle,
+    /// Addition says 27 before computing.
+    AddRefuses,
+    /// The check refuses every file.
+    CheckRefuses,
+    /// The check accepts every file that passes 1 to 13.
+    CheckSkipsPairs,
+    /// The sum is always zero.
+    SumZero,
+    /// Addition clears the sum buffer beyond n + h.
+    SumCleared,
+    /// The edit's row number, place and digit are cut to 32 bits.
+    NumbersCut,
+    /// The second row is judged before the first.
+    SecondRowFirst,
+    /// The edit renews only the sum's place p.
+    EditOnePlace,
+    /// The edit says 27 for any place of the sum, also below p and above p + h.
+    EditJudgesAll,
+    /// The value lets −2,147,483,648 pass at the last digit.
+    LimitLoose,
+    /// The midpoint is rounded toward zero.
+    MidpointTruncated,
+    /// The answer's last word is written too.
+    AnswerOverrun,
+    /// A short answer array is filled as far as it reaches.
+    ShortAnswerWritten,
+    /// A short out buffer is filled as far as it reaches.
+    ShortOutWritten,
+    /// The place of one refusal number is one too high.
+    PlaceOff(i64),
+    /// One refusal number is told as the next.
+    NumberOff(i64),
+}
+
+/// The refusal numbers of document 01.
+pub const NUMBERS: [i64; 23] = [
+    1, 2, 3, 4, 5, 6, 7, 8, 9, 10, 11, 12, 13, 14, 20, 21, 22, 23, 24, 25, 26, 27, 28,
+];
+
+/// Every mistake that is tried.
+pub fn mistakes() -> Vec<Mistake> {
+    use Mistake::*;
+    let mut all = vec![
+        CountAlwaysAll,
+        EditLeavesSum,
+        EditOnce,
+        EditIdle,
+        AddRefuses,
+        CheckRefuses,
+        CheckSkipsPairs,
+        SumZero,
+        SumCleared,
+        NumbersCut,
+        SecondRowFirst,
+        EditOnePlace,
+        EditJudgesAll,
+        LimitLoose,
+        MidpointTruncated,
+        AnswerOverrun,
+        ShortAnswerWritten,
+        ShortOutWritten,
+    ];
+    all.extend(NUMBERS.map(PlaceOff));
+    all.extend(NUMBERS.map(NumberOff));
+    all
+}
+
+/// The reference with a mistake in it.
+pub struct Wrong {
+    pub mistake: Mistake,
+    edited: Cell<bool>,
+}
+
+impl Wrong {
+    pub fn new(mistake: Mistake) -> Self {
+        Wrong {
+            mistake,
+            edited: Cell::new(false),
+        }
+    }
+}
+
+impl Calls for Wrong {
+    fn call(&self, call: &Call, lent: &mut Lent) -> u64 {
+        let before = lent.clone();
+        let returned = Model.call(&self.asked(call), lent);
+        match (call, returned) {
+            (Call::Add, FACTS) => self.spoil_add(lent),
+            (Call::Edit { .. }, FACTS) => self.spoil_edit(call, &before, lent),
+            (_, FAULT) => self.spoil_fault(call, &before, lent),
+            _ => (),
+        }
+        self.spoil_any(call, returned, lent);
+        returned
+    }
+}
+
+/// The depth of a table that passes 1 to 13.
+fn depth(table: &[u8]) -> i64 {
+    reference::table::read(table).map_or(0, |table| table.depth as i64)
+}
+
+impl Wrong {
+    /// The call as a mistaken implementation would take it.
+    fn asked(&self, call: &Call) -> Call {
+        match *call {
+            Call::Edit { row, place, digit } if self.mistake == Mistake::NumbersCut => Call::Edit {
+                row: row & 0xffff_ffff,
+                place: place & 0xffff_ffff,
+                digit: digit & 0xffff_ffff,
+            },
+            other => other,
+        }
+    }
+
+    fn spoil_add(&self, lent: &mut Lent) {
+        let written = lent.answer[1] as usize;
+        match self.mistake {
+            Mistake::AddRefuses => lent.answer[..3].copy_from_slice(&[1, 27, 0]),
+            Mistake::SumZero => lent.sum[..written].fill(0),
+            Mistake::SumCleared => lent.sum[written..].fill(0),
+            _ => (),
+        }
+    }
+
+    fn spoil_edit(&self, call: &Call, before: &Lent, lent: &mut Lent) {
+        let Call::Edit { place, .. } = *call else {
+            return;
+        };
+        match self.mistake {
+            Mistake::CountAlwaysAll => lent.answer[1] = depth(&lent.table) + 1,
+            Mistake::EditLeavesSum => lent.sum.clone_from(&before.sum),
+            Mistake::EditOnePlace => {
+                let above = place as usize + 1;
+                lent.sum[above..].copy_from_slice(&before.sum[above..]);
+            }
+            Mistake::EditJudgesAll => {
+                let mut whole = lent.clone();
+                if Model.call(&Call::Add, &mut whole) == FAULT {
+                    *lent = before.clone();
+                    lent.answer[..3].copy_from_slice(&whole.answer[..3]);
+                }
+            }
+            Mistake::EditOnce if self.edited.get() => *lent = before.clone(),
+            Mistake::EditIdle => {
+                *lent = before.clone();
+                lent.answer[..2].copy_from_slice(&[0, 0]);
+            }
+            _ => (),
+        }
+        self.edited.set(true);
+    }
+
+    /// Where both rows offend, the second is told of.
+    fn spoil_rows(&self, call: &Call, before: &Lent, lent: &mut Lent) {
+        let mut swapped = before.clone();
+        std::mem::swap(&mut swapped.first, &mut swapped.second);
+        Model.call(call, &mut swapped);
+        if swapped.answer[1] == 21 {
+            lent.answer[1..3].copy_from_slice(&[22, swapped.answer[2]]);
+        }
+    }
+
+    /// A value that 28 refuses at place 0 is told if its parts fit into 32 bits.
+    fn spoil_value(&self, lent: &mut Lent) {
+        let (Ok(table), true) = (reference::table::read(&lent.table), lent.answer[2] == 0) else {
+            return;
+        };
+        let digits = lent
+            .first
+            .iter()
+            .rev()
+            .map(|index| table.alphabet[usize::from(*index)]);
+        let value = digits.fold(Element::ZERO, |total, digit| {
+            table.base.times(total) + digit
+        });
+        let fits = |part: i64| i32::try_from(part).is_ok();
+        if fits(value.a) && fits(value.b) {
+            lent.answer[..3].copy_from_slice(&[0, value.a, value.b]);
+        }
+    }
+
+    fn spoil_fault(&self, call: &Call, before: &Lent, lent: &mut Lent) {
+        let number = lent.answer[1];
+        match (self.mistake, call) {
+            (Mistake::PlaceOff(wanted), _) if number == wanted => lent.answer[2] += 1,
+            (Mistake::NumberOff(wanted), _) if number == wanted => lent.answer[1] += 1,
+            (Mistake::CheckSkipsPairs, Call::Check) if number == 14 => lent.answer[0] = 0,
+            (Mistake::SecondRowFirst, Call::Add | Call::Edit { .. }) if number == 21 => {
+                self.spoil_rows(call, before, lent);
+            }
+            (Mistake::LimitLoose, Call::Value) if number == 28 => self.spoil_value(lent),
+            _ => (),
+        }
+    }
+
+    /// Mistakes that can't be told by facts and faults.
+    fn spoil_any(&self, call: &Call, returned: u64, lent: &mut Lent) {
+        match (self.mistake, call) {
+            (Mistake::CheckRefuses, Call::Check) if returned == FACTS => {
+                lent.answer[..3].copy_from_slice(&[1, 14, 0]);
+            }
+            (Mistake::AnswerOverrun, _) if returned != TOO_SHORT => {
+                lent.answer.iter_mut().skip(7).for_each(|word| *word = 0);
+            }
+            (Mistake::ShortAnswerWritten, Call::Check) if returned == TOO_SHORT => {
+                lent.answer.fill(0)
+            }
+            (Mistake::ShortOutWritten, Call::Tern | Call::Bin) if returned == TOO_SHORT => {
+                lent.sum.fill(0)
+            }
+            (Mistake::MidpointTruncated, Call::Midpoint { x, y }) if returned == FACTS => {
+                lent.answer[1] = (i64::from(x.0) + i64::from(y.0)) / 2;
+                lent.answer[2] = (i64::from(x.1) + i64::from(y.1)) / 2;
+            }
+            _ => (),
+        }
+    }
+}

@@ -1,0 +1,74 @@
+/* Loads a table (the file named, else the carried TERN), adds two rows, edits a digit and prints the rows.
+ *
+ *     cc -std=c99 -I include examples/caller.c target/staticlib/libadder_c.a -o caller && ./caller tables/bin.table */
+#include <stdio.h>
+
+#include "yoyomyrtle.h"
+
+enum { DIGITS = 6, DEEPEST = 8, LONGEST_FILE = 65535 };
+
+/* One byte more than the longest file, so that a file that is too long is seen to be. */
+static uint8_t table[LONGEST_FILE + 1];
+static int64_t answer[YOYOMYRTLE_ANSWER_WORDS];
+
+static size_t load(const char *name) {
+    if (name == NULL) {
+        yoyomyrtle_tern(table, sizeof table);
+        return YOYOMYRTLE_TERN_BYTES;
+    }
+    FILE *file = fopen(name, "rb");
+    if (file == NULL) {
+        return 0;
+    }
+    size_t length = fread(table, 1, sizeof table, file);
+    fclose(file);
+    return length;
+}
+
+static int refused(void) {
+    static const char *const whose[] = {"nobody", "author", "rows", "editor"};
+    printf("refused %s %d place %d\n", whose[answer[0]], (int)answer[1], (int)answer[2]);
+    return 1;
+}
+
+static void print_row(const char *name, const uint8_t *row, size_t length) {
+    printf("%s:", name);
+    for (size_t place = 0; place < length; place++) {
+        printf(" %d", row[place]);
+    }
+    printf("\n");
+}
+
+int main(int argc, char **argv) {
+    size_t length = load(argc > 1 ? argv[1] : NULL);
+    if (yoyomyrtle_check(table, length, answer, YOYOMYRTLE_ANSWER_WORDS) != YOYOMYRTLE_FACTS) {
+        return refused();
+    }
+    size_t depth = (size_t)answer[1];
+    uint64_t alphabet = (uint64_t)answer[3];
+    printf("depth %d, leaves %d, digits %d\n", (int)answer[1], (int)answer[2], (int)answer[3]);
+
+    uint8_t first[DIGITS], second[DIGITS], sum[DIGITS + DEEPEST];
+    for (size_t place = 0; place < DIGITS; place++) {
+        first[place] = (uint8_t)((place + 1) % alphabet);
+        second[place] = (uint8_t)((2 * place + 1) % alphabet);
+    }
+    if (yoyomyrtle_add(table, length, first, DIGITS, second, DIGITS, sum, DIGITS + depth, answer,
+                       YOYOMYRTLE_ANSWER_WORDS) != YOYOMYRTLE_FACTS) {
+        return refused();
+    }
+    print_row("first", first, DIGITS);
+    print_row("second", second, DIGITS);
+    print_row("sum", sum, DIGITS + depth);
+
+    /* Place 2 of the second row (row number 1) gets the next digit of the alphabet. */
+    uint64_t digit = (second[2] + 1u) % alphabet;
+    if (yoyomyrtle_edit(table, length, first, DIGITS, second, DIGITS, sum, DIGITS + depth, 1, 2, digit, answer,
+                        YOYOMYRTLE_ANSWER_WORDS) != YOYOMYRTLE_FACTS) {
+        return refused();
+    }
+    printf("edited: %d sum digits changed\n", (int)answer[1]);
+    print_row("second", second, DIGITS);
+    print_row("sum", sum, DIGITS + depth);
+    return 0;
+}

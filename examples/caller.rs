@@ -1,0 +1,102 @@
+//! Loads a table (the file named, else the carried TERN), adds two rows, edits a digit and prints the rows.
+//!
+//!     rustc --edition 2021 -L target/staticlib -l static=adder_c examples/caller.rs -o caller && ./caller tables/bin.table
+
+use std::{env, fs, process::ExitCode};
+
+#[rustfmt::skip]
+extern "C" {
+    fn yoyomyrtle_check(file: *const u8, file_len: usize, answer: *mut i64, answer_len: usize) -> u64;
+    fn yoyomyrtle_add(
+        table: *const u8, table_len: usize, first: *const u8, first_len: usize, second: *const u8, second_len: usize,
+        sum: *mut u8, sum_len: usize, answer: *mut i64, answer_len: usize,
+    ) -> u64;
+    fn yoyomyrtle_edit(
+        table: *const u8, table_len: usize, first: *mut u8, first_len: usize, second: *mut u8, second_len: usize,
+        sum: *mut u8, sum_len: usize, row: u64, place: u64, digit: u64, answer: *mut i64, answer_len: usize,
+    ) -> u64;
+    fn yoyomyrtle_tern(out: *mut u8, out_len: usize) -> u64;
+}
+
+type Answer = [i64; 8];
+
+// SAFETY, here and below: pointer and length belong to one buffer, and Rust's borrows keep the buffers apart.
+fn check(table: &[u8]) -> Result<Answer, Answer> {
+    let mut words = [0; 8];
+    let returned = unsafe { yoyomyrtle_check(table.as_ptr(), table.len(), words.as_mut_ptr(), 8) };
+    facts(returned, words)
+}
+
+#[rustfmt::skip]
+fn add(table: &[u8], first: &[u8], second: &[u8], sum: &mut [u8]) -> Result<Answer, Answer> {
+    let mut words = [0; 8];
+    let returned = unsafe {
+        yoyomyrtle_add(table.as_ptr(), table.len(), first.as_ptr(), first.len(), second.as_ptr(), second.len(),
+            sum.as_mut_ptr(), sum.len(), words.as_mut_ptr(), 8)
+    };
+    facts(returned, words)
+}
+
+#[rustfmt::skip]
+fn edit(table: &[u8], rows: [&mut [u8]; 2], sum: &mut [u8], row: u64, place: u64, digit: u64) -> Result<Answer, Answer> {
+    let mut words = [0; 8];
+    let [first, second] = rows;
+    let returned = unsafe {
+        yoyomyrtle_edit(table.as_ptr(), table.len(), first.as_mut_ptr(), first.len(), second.as_mut_ptr(), second.len(),
+            sum.as_mut_ptr(), sum.len(), row, place, digit, words.as_mut_ptr(), 8)
+    };
+    facts(returned, words)
+}
+
+fn tern() -> Vec<u8> {
+    let mut table = vec![0; 165];
+    unsafe { yoyomyrtle_tern(table.as_mut_ptr(), table.len()) };
+    table
+}
+
+/// The answer's words, as an error where they name a fault.
+fn facts(returned: u64, words: Answer) -> Result<Answer, Answer> {
+    if returned == 0 {
+        Ok(words)
+    } else {
+        Err(words)
+    }
+}
+
+fn print_row(name: &str, row: &[u8]) {
+    let digits: String = row.iter().map(|digit| format!(" {digit}")).collect();
+    println!("{name}:{digits}");
+}
+
+fn run(table: &[u8]) -> Result<(), Answer> {
+    let [_, depth, leaves, digits, ..] = check(table)?;
+    println!("depth {depth}, leaves {leaves}, digits {digits}");
+    let first_digit = |place: u8| (place + 1) % digits as u8;
+    let second_digit = |place: u8| (2 * place + 1) % digits as u8;
+    let mut first: Vec<u8> = (0..6).map(first_digit).collect();
+    let mut second: Vec<u8> = (0..6).map(second_digit).collect();
+    let mut sum = vec![0; 6 + depth as usize];
+    add(table, &first, &second, &mut sum)?;
+    print_row("first", &first);
+    print_row("second", &second);
+    print_row("sum", &sum);
+    // Place 2 of the second row (row number 1) gets the next digit of the alphabet.
+    let digit = (u64::from(second[2]) + 1) % digits as u64;
+    let changed = edit(table, [&mut first, &mut second], &mut sum, 1, 2, digit)?[1];
+    println!("edited: {changed} sum digits changed");
+    print_row("second", &second);
+    print_row("sum", &sum);
+    Ok(())
+}
+
+fn main() -> ExitCode {
+    let table = env::args()
+        .nth(1)
+        .map_or_else(tern, |name| fs::read(name).unwrap_or_default());
+    let Err([group, number, place, ..]) = run(&table) else {
+        return ExitCode::SUCCESS;
+    };
+    let whose = ["nobody", "author", "rows", "editor"][group as usize];
+    println!("refused {whose} {number} place {place}");
+    ExitCode::FAILURE
+}

@@ -1,0 +1,67 @@
+/* Weight tables and the digit adder, for C callers. Link libadder_c.a, which `rt staticlib adder_c` writes to target/staticlib.
+ *
+ * Each buffer is a pointer and its length. Buffers lent to one call must not overlap, the answer array included, and each must
+ * hold as many bytes or words as its length says. No call keeps a pointer after it returns or asks for memory.
+ *
+ * The answer array is the last parameter. Word 0 is 0 for facts, 1 for a fault of the table's author, 2 of whoever lends the rows,
+ * 3 of the editor. After 0 come the facts that are named at each call below; after 1, 2 or 3 the refusal number and its place.
+ * docs/REFUSALS.md says what each number means, what its place counts and what to do. Words with nothing to say keep their contents.
+ *
+ * A call returns YOYOMYRTLE_FACTS or YOYOMYRTLE_FAULT. If the answer array has under YOYOMYRTLE_ANSWER_WORDS words, it does nothing
+ * and returns YOYOMYRTLE_TOO_SHORT. A call that refuses writes nothing but its answer. */
+#ifndef YOYOMYRTLE_H
+#define YOYOMYRTLE_H
+
+#include <stddef.h>
+#include <stdint.h>
+
+#ifdef __cplusplus
+extern "C" {
+#endif
+
+#define YOYOMYRTLE_ANSWER_WORDS 8
+#define YOYOMYRTLE_TERN_BYTES 165
+#define YOYOMYRTLE_BIN_BYTES 187
+
+#define YOYOMYRTLE_FACTS 0
+#define YOYOMYRTLE_FAULT 1
+#define YOYOMYRTLE_TOO_SHORT 2
+
+/* Checks a table file. Facts: depth h, number of leaves, number of alphabet digits. */
+uint64_t yoyomyrtle_check(const uint8_t *file, size_t file_len,
+                          int64_t *answer, size_t answer_len);
+
+/* Adds two rows of n digits (alphabet indexes, lowest place first) into the first n + h bytes of the sum. Facts: n + h. */
+uint64_t yoyomyrtle_add(const uint8_t *table, size_t table_len,
+                        const uint8_t *first, size_t first_len,
+                        const uint8_t *second, size_t second_len,
+                        uint8_t *sum, size_t sum_len,
+                        int64_t *answer, size_t answer_len);
+
+/* Stores a digit at a place of a row (0 the first, 1 the second) and renews the sum places from there to h above it.
+ * Facts: how many of these sum bytes changed. */
+uint64_t yoyomyrtle_edit(const uint8_t *table, size_t table_len,
+                         uint8_t *first, size_t first_len,
+                         uint8_t *second, size_t second_len,
+                         uint8_t *sum, size_t sum_len,
+                         uint64_t row, uint64_t place, uint64_t digit,
+                         int64_t *answer, size_t answer_len);
+
+/* The value of a row. Facts: a and b of the element a + b*omega. */
+uint64_t yoyomyrtle_value(const uint8_t *table, size_t table_len,
+                          const uint8_t *row, size_t row_len,
+                          int64_t *answer, size_t answer_len);
+
+/* The midpoint of two elements, each part rounded down. Facts: a and b. */
+uint64_t yoyomyrtle_midpoint(int32_t a1, int32_t b1, int32_t a2, int32_t b2,
+                             int64_t *answer, size_t answer_len);
+
+/* The carried tables TERN and BIN. A shorter buffer: nothing is written and YOYOMYRTLE_TOO_SHORT is returned. */
+uint64_t yoyomyrtle_tern(uint8_t *out, size_t out_len);
+uint64_t yoyomyrtle_bin(uint8_t *out, size_t out_len);
+
+#ifdef __cplusplus
+}
+#endif
+
+#endif

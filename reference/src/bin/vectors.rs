@@ -1,0 +1,125 @@
+//! Runs the calls of an outside-vector file from standard input and writes one line for each to standard output.
+#![forbid(unsafe_code)]
+
+use std::io::{self, Read, Write};
+
+use reference::{Answer, Element};
+
+fn main() -> io::Result<()> {
+    let mut bytes = Vec::new();
+    io::stdin().read_to_end(&mut bytes)?;
+    let mut run = Reader { rest: &bytes };
+    let mut output = io::stdout().lock();
+    while !run.rest.is_empty() {
+        let line = next_line(&mut run);
+        let line = line.ok_or_else(|| io::Error::from(io::ErrorKind::InvalidData))?;
+        writeln!(output, "{line}")?;
+    }
+    Ok(())
+}
+
+/// What is left of the run of calls.
+struct Reader<'a> {
+    rest: &'a [u8],
+}
+
+impl Reader<'_> {
+    fn take<const N: usize>(&mut self) -> Option<[u8; N]> {
+        let (head, rest) = self.rest.split_first_chunk::<N>()?;
+        self.rest = rest;
+        Some(*head)
+    }
+
+    /// A buffer: its length in 4 bytes, then its bytes.
+    fn buffer(&mut self) -> Option<Vec<u8>> {
+        let length = u32::from_le_bytes(self.take()?) as usize;
+        let (head, rest) = self.rest.split_at_checked(length)?;
+        self.rest = rest;
+        Some(head.to_vec())
+    }
+
+    /// A number of the edit.
+    fn number(&mut self) -> Option<u64> {
+        self.take().map(u64::from_le_bytes)
+    }
+
+    /// The two parts of an element for the midpoint.
+    fn element(&mut self) -> Option<(i32, i32)> {
+        let a = i32::from_le_bytes(self.take()?);
+        let b = i32::from_le_bytes(self.take()?);
+        Some((a, b))
+    }
+}
+
+/// The line of the next call, or none where the run breaks off or names no call.
+fn next_line(run: &mut Reader) -> Option<String> {
+    let [call] = run.take()?;
+    match call {
+        1 => Some(check_line(&run.buffer()?)),
+        2 => add_line(run),
+        3 => edit_line(run),
+        4 => {
+            let (table, row) = (run.buffer()?, run.buffer()?);
+            Some(or_fault(
+                reference::value(&table, &row),
+                |Element { a, b }| format!("value {a} {b}"),
+            ))
+        }
+        5 => {
+            let (a, b) = reference::midpoint(run.element()?, run.element()?);
+            Some(format!("midpoint {a} {b}"))
+        }
+        6 => Some(format!("table {}", hexadecimal(&reference::tern()))),
+        7 => Some(format!("table {}", hexadecimal(&reference::bin()))),
+        _ => None,
+    }
+}
+
+fn check_line(file: &[u8]) -> String {
+    or_fault(reference::check(file), |facts| {
+        format!(
+            "accepted depth {} leaves {} digits {}",
+            facts.depth, facts.leaves, facts.digits
+        )
+    })
+}
+
+fn add_line(run: &mut Reader) -> Option<String> {
+    let (table, first, second) = (run.buffer()?, run.buffer()?, run.buffer()?);
+    let mut sum = run.buffer()?;
+    let answer = reference::add(&table, &first, &second, &mut sum);
+    let head = or_fault(answer, |written| format!("sum {written}"));
+    Some(format!("{head} {}", hexadecimal(&sum)))
+}
+
+fn edit_line(run: &mut Reader) -> Option<String> {
+    let (table, mut first, mut second) = (run.buffer()?, run.buffer()?, run.buffer()?);
+    let mut sum = run.buffer()?;
+    let (row, place, digit) = (run.number()?, run.number()?, run.number()?);
+    let answer = reference::edit(&table, &mut first, &mut second, &mut sum, row, place, digit);
+    let head = or_fault(answer, |changed| format!("changed {changed}"));
+    let buffers = [first, second, sum].map(|buffer| hexadecimal(&buffer));
+    Some(format!("{head} {}", buffers.join(" ")))
+}
+
+fn or_fault<F>(answer: Answer<F>, facts: impl FnOnce(F) -> String) -> String {
+    match answer {
+        Answer::Facts(known) => facts(known),
+        Answer::Fault(fault) => {
+            format!(
+                "refused {} {} place {}",
+                fault.group.name(),
+                fault.number,
+                fault.place
+            )
+        }
+    }
+}
+
+/// Two small hexadecimal digits for each byte, `-` for none.
+fn hexadecimal(bytes: &[u8]) -> String {
+    if bytes.is_empty() {
+        return "-".to_string();
+    }
+    bytes.iter().map(|byte| format!("{byte:02x}")).collect()
+}

@@ -1,0 +1,163 @@
+//! The calls of document 01.
+
+use crate::answer::{author, editor, rows, Answer, Fault};
+use crate::element::Element;
+use crate::table::{self, Table, LONGEST_WORD};
+
+/// The longest row that rule 20 lets pass.
+pub const LONGEST_ROW: usize = 256;
+
+/// The facts of the check.
+#[derive(Clone, Copy, Debug, PartialEq, Eq)]
+pub struct TableFacts {
+    pub depth: usize,
+    pub leaves: usize,
+    pub digits: usize,
+}
+
+/// The table check: rules 1 to 14.
+pub fn check(file: &[u8]) -> Answer<TableFacts> {
+    let judge = || {
+        let table = table::read(file)?;
+        table.check_pairs()?;
+        Ok(TableFacts {
+            depth: table.depth,
+            leaves: table.leaves.len(),
+            digits: table.alphabet.len(),
+        })
+    };
+    judge().into()
+}
+
+/// Addition: writes the sum row of n + h digits and says its length. A refused call writes nothing.
+pub fn add(file: &[u8], first: &[u8], second: &[u8], sum: &mut [u8]) -> Answer<usize> {
+    let convert = || {
+        let table = table::read(file)?;
+        check_rows(&table, first, second, sum.len())?;
+        sum_row(&table, first, second, 0..first.len() + table.depth)
+    };
+    let written = convert().map(|digits| {
+        sum[..digits.len()].copy_from_slice(&digits);
+        digits.len()
+    });
+    written.into()
+}
+
+/// The digit edit: stores a digit and renews the sum places p to p + h; says how many of these bytes changed.
+pub fn edit(
+    file: &[u8],
+    first: &mut [u8],
+    second: &mut [u8],
+    sum: &mut [u8],
+    row: u64,
+    place: u64,
+    digit: u64,
+) -> Answer<usize> {
+    let judge = || {
+        let table = table::read(file)?;
+        check_rows(&table, first, second, sum.len())?;
+        editor(row <= 1, 24)?;
+        editor(place < first.len() as u64, 25)?;
+        editor(digit < table.alphabet.len() as u64, 26)?;
+        // All three are small now. Rule 27 judges the rows as they will be, before anything is stored.
+        let (place, digit) = (place as usize, digit as u8);
+        let mut edited = [first.to_vec(), second.to_vec()];
+        edited[row as usize][place] = digit;
+        let digits = sum_row(
+            &table,
+            &edited[0],
+            &edited[1],
+            place..place + table.depth + 1,
+        )?;
+        Ok((edited, place, digits))
+    };
+    let taken = judge().map(|(edited, place, digits)| {
+        first.copy_from_slice(&edited[0]);
+        second.copy_from_slice(&edited[1]);
+        let renewed = &mut sum[place..place + digits.len()];
+        let changed = renewed.iter().zip(&digits).filter(|(x, y)| x != y).count();
+        renewed.copy_from_slice(&digits);
+        changed
+    });
+    taken.into()
+}
+
+/// The value of a row, from the top place down (Horner), refused with 28 as soon as a part leaves ±2,147,483,647.
+pub fn value(file: &[u8], row: &[u8]) -> Answer<Element> {
+    let evaluate = || {
+        let table = table::read(file)?;
+        rows(row.len() <= LONGEST_ROW, 20, 0)?;
+        check_digits(&table, row, 21)?;
+        let mut total = Element::ZERO;
+        for place in (0..row.len()).rev() {
+            total = table.base.times(total) + table.alphabet[usize::from(row[place])];
+            let limit = i64::from(i32::MAX);
+            rows(total.a.abs() <= limit && total.b.abs() <= limit, 28, place)?;
+        }
+        Ok(total)
+    };
+    evaluate().into()
+}
+
+/// The midpoint of two elements of signed 32-bit parts, each half rounded down.
+pub fn midpoint(x: (i32, i32), y: (i32, i32)) -> (i32, i32) {
+    let half = |p: i32, q: i32| (i64::from(p) + i64::from(q)).div_euclid(2) as i32;
+    (half(x.0, y.0), half(x.1, y.1))
+}
+
+/// Rules 20 to 23. The rows are judged as lent, the digit to be replaced included.
+fn check_rows(table: &Table, first: &[u8], second: &[u8], sum: usize) -> Result<(), Fault> {
+    let short = first.len() <= LONGEST_ROW && second.len() <= LONGEST_ROW;
+    rows(short && first.len() == second.len(), 20, 0)?;
+    check_digits(table, first, 21)?;
+    check_digits(table, second, 22)?;
+    rows(sum >= first.len() + table.depth, 23, 0)
+}
+
+/// Rules 21 and 22: each byte of a row is an alphabet index.
+fn check_digits(table: &Table, row: &[u8], number: u8) -> Result<(), Fault> {
+    let foreign = row
+        .iter()
+        .position(|&x| usize::from(x) >= table.alphabet.len());
+    rows(foreign.is_none(), number, foreign.unwrap_or(0))
+}
+
+/// The sum digits at some places, or rule 27 at the lowest of them whose digit isn't in the alphabet.
+fn sum_row(
+    table: &Table,
+    first: &[u8],
+    second: &[u8],
+    places: std::ops::Range<usize>,
+) -> Result<Vec<u8>, Fault> {
+    let mut digits = Vec::new();
+    for place in places {
+        let at = place as i64;
+        let here = input(table, first, second, at);
+        let from_below = weight(table, first, second, at - 1);
+        let digit = here + from_below - table.base.times(weight(table, first, second, at));
+        let index = table.digit_index(digit);
+        author(index.is_some(), 27, place)?;
+        digits.extend(index);
+    }
+    Ok(digits)
+}
+
+/// w(j): the sum of the two digits at a place, zero outside the rows.
+fn input(table: &Table, first: &[u8], second: &[u8], place: i64) -> Element {
+    let digit = |row: &[u8]| {
+        let index = usize::try_from(place)
+            .ok()
+            .and_then(|place| row.get(place).copied());
+        index.map_or(Element::ZERO, |index| table.alphabet[usize::from(index)])
+    };
+    digit(first) + digit(second)
+}
+
+/// q(j): the weight of the window w(j), w(j−1), w(j−2), and so on downward.
+fn weight(table: &Table, first: &[u8], second: &[u8], place: i64) -> Element {
+    let mut window = [Element::ZERO; LONGEST_WORD];
+    for (below, seen) in window.iter_mut().enumerate() {
+        *seen = input(table, first, second, place - below as i64);
+    }
+    table.weight(&window)
+}
