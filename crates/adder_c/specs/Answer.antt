@@ -10,6 +10,7 @@ use Rattle.faults.specs.declared.Fault.{Fault}
 use Rattle.faults.specs.Outcome.{Group, author, rows, editor, Outcome, facts, refused, whose, numberOf, placeOf}
 use Rattle.table.specs.declared.Facts.{Facts}
 use Rattle.adder.specs.declared.AddedFacts.{AddedFacts}
+use Rattle.edits.specs.declared.EditedFacts.{EditedFacts}
 use Rattle.adder_c.specs.Word.{wordOf}
 
 -- word 0 of a fault: whose it is
@@ -54,6 +55,10 @@ checkWords f = wordOf (f .depth) ∷ wordOf (f .leaves) ∷ wordOf (f .digits) �
 -- the fact of addition: n + h
 abbrev pub addWords : AddedFacts → List ℤ
 addWords f = wordOf (f .places) ∷ []
+
+-- the fact of the edit: the count of sum bytes that differ from before
+abbrev pub editWords : EditedFacts → List ℤ
+editWords f = wordOf (f .count) ∷ []
 
 -- an element: its parts
 abbrev pub elementWords : List ℤ → List ℤ

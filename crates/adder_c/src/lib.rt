@@ -11,11 +11,13 @@ ghost use Rattle.faults.specs.Outcome.{facts};
 ghost use Rattle.midpoint.specs.Midpoint.{parts, midpointOf};
 ghost use Rattle.table.specs.Check.{checkOutcome};
 ghost use Rattle.adder.specs.Sum.{addOutcome, addSum};
+ghost use Rattle.edits.specs.Edit.{state, editOutcome, editState};
 ghost use Rattle.valued.specs.Value.{valueOutcome};
 ghost use Rattle.carried.specs.Tables.{ternFile, binFile};
 ghost use Rattle.adder_c.specs.Word.{wordOf};
-ghost use Rattle.adder_c.specs.Answer.{faultWords, ifRoom, returned, answered, checkWords, addWords, elementWords};
+ghost use Rattle.adder_c.specs.Answer.{faultWords, ifRoom, returned, answered, checkWords, addWords, editWords, elementWords};
 use adder::Added;
+use edits::Edited;
 use faults::Fault;
 use midpoint::Element;
 use table::Checked;
@@ -110,6 +112,42 @@ pub extern "C" fn yoyomyrtle_add(
             0
         }
         Added::Refused(fault) => refuse(answer, fault),
+    }
+}
+
+// The row number, the place and the digit have 64 bits, as usize has.
+#[no_mangle]
+pub extern "C" fn yoyomyrtle_edit(
+    table: &[u8],
+    first: &mut [u8],
+    second: &mut [u8],
+    sum: &mut [u8],
+    row: u64,
+    place: u64,
+    digit: u64,
+    answer: &mut [i64],
+) -> u64
+    ensures { λ r. ⌜ (r ≡ returned (editOutcome (now (table .entry)) (record { row = row; place = place; digit = digit }) (state (now (first .entry)) (now (second .entry)) (now (sum .entry)))) (now (answer .entry))) × (now (answer .exit) ≡ answered editWords (editOutcome (now (table .entry)) (record { row = row; place = place; digit = digit }) (state (now (first .entry)) (now (second .entry)) (now (sum .entry)))) (now (answer .entry))) ⌝ }
+    ensures { λ r. ⌜ state (now (first .exit)) (now (second .exit)) (now (sum .exit)) ≡ ifRoom 8 (length (now (answer .entry))) (editState (now (table .entry)) (record { row = row; place = place; digit = digit }) (state (now (first .entry)) (now (second .entry)) (now (sum .entry)))) (state (now (first .entry)) (now (second .entry)) (now (sum .entry))) ⌝ }
+{
+    if answer.len() < 8 {
+        return 2;
+    }
+    let outcome = edits::edit(
+        table,
+        first,
+        second,
+        sum,
+        row as usize,
+        place as usize,
+        digit as usize,
+    );
+    match outcome {
+        Edited::Count(f) => {
+            put(answer, &[0, word(f.count)]);
+            0
+        }
+        Edited::Refused(fault) => refuse(answer, fault),
     }
 }
 

@@ -1,4 +1,6 @@
 // The calls that something follows: what is read, the call, its line.
+ghost use Prim.Native.Nat.{_≤_};
+ghost use lib.ListN.{length};
 use crate::input;
 use crate::input::Read;
 use crate::output;
@@ -13,17 +15,36 @@ pub fn check() -> bool {
     output::checked(table::check(&file[..n]))
 }
 
-// The addition and its line. The caller's sum buffer is never longer than the line has room for; the test makes it plain.
-fn summed(table: &[u8], first: &[u8], second: &[u8], sum: &mut [u8]) -> bool {
-    if 1000 < sum.len() {
+// The edit and its line: what follows the buffers is the row number, the place and the new digit.
+fn edit_line(table: &[u8], first: &mut [u8], second: &mut [u8], sum: &mut [u8]) -> bool
+    requires { ⌜ (length (now first) ≤ 600) × (length (now second) ≤ 600) × (length (now sum) ≤ 1000) ⌝ }
+{
+    let mut numbers = [0u8; 24];
+    if !input::filled(&mut numbers) {
         return false;
+    }
+    let row = input::long(&numbers, 0);
+    let place = input::long(&numbers, 8);
+    let digit = input::long(&numbers, 16);
+    let answer = edits::edit(table, first, second, sum, row, place, digit);
+    output::edited(answer, first, second, sum)
+}
+
+// The addition or the edit, and its line. The caller's buffers are never longer than the line has room for; the test makes it plain.
+fn called(edit: bool, table: &[u8], first: &mut [u8], second: &mut [u8], sum: &mut [u8]) -> bool {
+    if 600 < first.len() || 600 < second.len() || 1000 < sum.len() {
+        return false;
+    }
+    if edit {
+        return edit_line(table, first, second, sum);
     }
     let answer = adder::add(table, first, second, sum);
     output::added(answer, sum)
 }
 
-// 2: the table, the first row, the second row, the sum buffer. The whole buffer is written, so a fault shows that it was left alone.
-pub fn add() -> bool {
+// 2 and 3: the table, the first row, the second row, the sum buffer; then what is the edit's alone. Whole buffers are written, so a
+// fault shows that they were left alone.
+pub fn on_rows(edit: bool) -> bool {
     let mut table = [0u8; 70000];
     let mut first = [0u8; 600];
     let mut second = [0u8; 600];
@@ -44,7 +65,13 @@ pub fn add() -> bool {
     let Read::Got(room) = sum_read else {
         return false;
     };
-    summed(&table[..t], &first[..f], &second[..s], &mut sum[..room])
+    called(
+        edit,
+        &table[..t],
+        &mut first[..f],
+        &mut second[..s],
+        &mut sum[..room],
+    )
 }
 
 // 4: the table, the row.

@@ -16,13 +16,28 @@ pub fn filled(out: &mut [u8]) -> bool {
     io::read_full(libc::STDIN_FILENO, out) == room
 }
 
+// The unsigned 32-bit number at a place.
+fn bits(bytes: &[u8], at: usize) -> usize
+    requires { ⌜ at + 3 < length (now bytes) ⌝ }
+    ensures { λ r. ⌜ r < 4294967296 ⌝ }
+{
+    layout::unsigned(bytes, at) + 65536 * layout::unsigned(bytes, at + 2)
+}
+
+// The unsigned 64-bit number at a place.
+pub fn long(bytes: &[u8], at: usize) -> usize
+    requires { ⌜ at + 7 < length (now bytes) ⌝ }
+{
+    bits(bytes, at) + 4294967296 * bits(bytes, at + 4)
+}
+
 // A length: four bytes, little-endian.
 fn count() -> Read {
     let mut bytes = [0u8; 4];
     if !filled(&mut bytes) {
         return Read::Cut;
     }
-    Read::Got(layout::unsigned(&bytes, 0) + 65536 * layout::unsigned(&bytes, 2))
+    Read::Got(bits(&bytes, 0))
 }
 
 // A buffer: its length, then its bytes, which go to the start of `out`; the length. One that is longer than `out` counts as cut.
@@ -46,11 +61,11 @@ pub fn buffer(out: &mut [u8]) -> Read
 fn number(bytes: &[u8], at: usize) -> i32
     requires { ⌜ at + 3 < length (now bytes) ⌝ }
 {
-    let bits = layout::unsigned(bytes, at) + 65536 * layout::unsigned(bytes, at + 2);
-    if bits < 2147483648 {
-        return bits as i32;
+    let n = bits(bytes, at);
+    if n < 2147483648 {
+        return n as i32;
     }
-    (bits as i64 - 4294967296) as i32
+    (n as i64 - 4294967296) as i32
 }
 
 // The element at a place: its two parts.

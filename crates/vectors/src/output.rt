@@ -1,8 +1,9 @@
 // Writing the line of a call. False where it can't be written.
 ghost use mathlib.Core.Path.{_≡_};
-ghost use Prim.Native.Nat.{_+_, _≤_};
+ghost use Prim.Native.Nat.{_+_, _*_, _≤_};
 ghost use lib.ListN.{length};
 use adder::Added;
+use edits::Edited;
 use midpoint::Element;
 use table::Checked;
 use valued::Valued;
@@ -44,6 +45,15 @@ pub fn checked(answer: Checked) -> bool {
     }
 }
 
+// A space and a whole buffer, from a place on; the next place.
+fn put_buffer(out: &mut [u8], at: usize, buffer: &[u8]) -> usize
+    requires { ⌜ at + 2 * length (now buffer) + 2 ≤ length (now out) ⌝ }
+    ensures { λ r. ⌜ r ≤ at + 2 * length (now (buffer .entry)) + 2 ⌝ }
+{
+    out[at] = b' ';
+    text::put_hex(out, at + 1, buffer)
+}
+
 // Ends a line with a whole buffer, behind what says how the call ended. That is never over 64 bytes; the test makes it plain.
 fn with_buffer(out: &mut [u8], end: usize, buffer: &[u8]) -> bool
     requires { ⌜ (length (now out) ≡ 2200) × (length (now buffer) ≤ 1000) ⌝ }
@@ -51,16 +61,28 @@ fn with_buffer(out: &mut [u8], end: usize, buffer: &[u8]) -> bool
     if 100 < end {
         return false;
     }
-    out[end] = b' ';
-    let last = text::put_hex(out, end + 1, buffer);
+    let last = put_buffer(out, end, buffer);
     line(out, last)
 }
 
-// `sum K`, at the start of a line.
-fn count(out: &mut [u8], places: usize) -> usize
-    requires { ⌜ length (now out) ≡ 2200 ⌝ }
+// The same with both rows and the sum.
+fn with_rows(out: &mut [u8], end: usize, first: &[u8], second: &[u8], sum: &[u8]) -> bool
+    requires { ⌜ (length (now out) ≡ 4600) × (length (now first) ≤ 600) × (length (now second) ≤ 600) × (length (now sum) ≤ 1000) ⌝ }
 {
-    text::put_item(out, 0, b"sum ", places)
+    if 100 < end {
+        return false;
+    }
+    let one = put_buffer(out, end, first);
+    let two = put_buffer(out, one, second);
+    let last = put_buffer(out, two, sum);
+    line(out, last)
+}
+
+// A word and a count, at the start of a line.
+fn put_count(out: &mut [u8], word: &[u8], n: usize) -> usize
+    requires { ⌜ length (now word) + 20 ≤ length (now out) ⌝ }
+{
+    text::put_item(out, 0, word, n)
 }
 
 // `sum K SUM`, or the fault and SUM.
@@ -70,12 +92,29 @@ pub fn added(answer: Added, sum: &[u8]) -> bool
     let mut out = [0u8; 2200];
     match answer {
         Added::Sum(facts) => {
-            let end = count(&mut out, facts.places);
+            let end = put_count(&mut out, b"sum ", facts.places);
             with_buffer(&mut out, end, sum)
         }
         Added::Refused(fault) => {
             let end = text::put_fault(&mut out, 0, fault);
             with_buffer(&mut out, end, sum)
+        }
+    }
+}
+
+// `changed C FIRST SECOND SUM`, or the fault and the three buffers.
+pub fn edited(answer: Edited, first: &[u8], second: &[u8], sum: &[u8]) -> bool
+    requires { ⌜ (length (now first) ≤ 600) × (length (now second) ≤ 600) × (length (now sum) ≤ 1000) ⌝ }
+{
+    let mut out = [0u8; 4600];
+    match answer {
+        Edited::Count(facts) => {
+            let end = put_count(&mut out, b"changed ", facts.count);
+            with_rows(&mut out, end, first, second, sum)
+        }
+        Edited::Refused(fault) => {
+            let end = text::put_fault(&mut out, 0, fault);
+            with_rows(&mut out, end, first, second, sum)
         }
     }
 }

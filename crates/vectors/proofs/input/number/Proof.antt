@@ -1,11 +1,11 @@
 -- Bits from 2^31 on, less 2^32, are in the range of 32 bits.
-use Prim.Native.Nat.{ℕ, _<_, _≤_}
-use native.Mathlib.Omega.{arith}
-use borrow.Author.Tests.{lt-ltb}
-use lib.IntN.{pos, _-ℤ_}
-use mir.Syntax.{w32, w64}
-use mir.Val.{SFits, toZ, ofZ}
 use mir.Facts.{toZ-pos, toZ-ofZ}
+use mir.Val.{SFits, toZ, ofZ}
+use mir.Syntax.{w32, w64}
+use lib.IntN.{pos, _-ℤ_}
+use borrow.Author.Tests.{lt-ltb}
+use native.Mathlib.Omega.{arith}
+use Prim.Native.Nat.{ℕ, _<_, _≤_}
 use borrow.Author.Needs.{needs}
 use Rattle.vectors.proofs.input.number.Statement.{statement}
 use Rattle.vectors.proofs.input.number.Tie as tie
@@ -18,20 +18,8 @@ stored-fits : (u : ℕ) → 2147483648 ≤ u → u < 4294967296 → SFits w32 (t
 stored-fits u h l =
     rw (toZ-ofZ (less-fits u h l), toZ-pos w64 {n = u} (omega arith), lt-ltb u 4294967296 l) (record { sfits = omega arith })
 
-unsigned-requires : tie.Need-unsigned-requires
-unsigned-requires c κs = search needs
-
-add-unsigned : tie.Need-add-unsigned
-add-unsigned c = search needs
-
-unsigned-requires-2 : tie.Need-unsigned-requires-2
-unsigned-requires-2 c κs = search needs
-
-mul-bits : tie.Need-mul-bits
-mul-bits c = search needs
-
-add-bits : tie.Need-add-bits
-add-bits c = search needs
+bits-requires : tie.Need-bits-requires
+bits-requires c κs = search needs
 
 cast-result : tie.Need-cast-result
 cast-result c = search needs
@@ -43,10 +31,10 @@ cast-result-2 : tie.Need-cast-result-2
 cast-result-2 c = search needs
 
 sub-result : tie.Need-sub-result
-sub-result c = less-fits _ (c .if1 .left) (omega (arith, c .before .before .unsigned .ensures .1, c .before .unsigned2 .ensures .1))
+sub-result c = less-fits _ (c .if1 .left) (c .before .bits .ensures)
 
 cast-result-3 : tie.Need-cast-result-3
-cast-result-3 c = stored-fits _ (c .if1 .left) (omega (arith, c .before .before .unsigned .ensures .1, c .before .unsigned2 .ensures .1))
+cast-result-3 c = stored-fits _ (c .if1 .left) (c .before .bits .ensures)
 
 returns-2 : tie.Need-returns-2
 returns-2 c = search needs
@@ -54,15 +42,4 @@ returns-2 c = search needs
 pub number-spec : {M : Type 1} → statement M
 number-spec =
     tie.close
-    (tie.spec
-    unsigned-requires
-    add-unsigned
-    unsigned-requires-2
-    mul-bits
-    add-bits
-    cast-result
-    returns
-    cast-result-2
-    sub-result
-    cast-result-3
-    returns-2)
+    (tie.spec bits-requires cast-result returns cast-result-2 sub-result cast-result-3 returns-2)
