@@ -51,7 +51,7 @@ module _ (leaves words : List ℕ) where
   pub order-says : (k : ℕ) → orderAllowed leaves words k ≡ true → Precedes (codeOf leaves words) k (suc k)
   order-says k t = rw (add-one k) at (precedes-sound (codeOf leaves words) k (k + 1) t)
 
-  order-holds : (k : ℕ) → Precedes (codeOf leaves words) k (suc k) → orderAllowed leaves words k ≡ true
+  pub order-holds : (k : ℕ) → Precedes (codeOf leaves words) k (suc k) → orderAllowed leaves words k ≡ true
   order-holds k h = precedes-complete (codeOf leaves words) k (k + 1) (rw (add-one k) h)
 
 module _ (leaves words : List ℕ) (m : ℕ) where

@@ -3,7 +3,8 @@
 ghost use mathlib.Core.Path.{_≡_};
 ghost use mathlib.Core.List.{List};
 ghost use Prim.Native.Nat.{ℕ, _+_, _-_, _≤_, _<_, min};
-ghost use lib.ListN.{getD};
+ghost use mathlib.Core.Bool.{true};
+ghost use lib.ListN.{length, getD};
 ghost use lib.Dec.{eqb};
 ghost use Rattle.lists.specs.Scan.{firstFailing};
 ghost use Rattle.ring.specs.Element.{Within};
@@ -11,6 +12,8 @@ ghost use Rattle.numeration.specs.Code as code;
 ghost use Rattle.leaves.specs.Leaf.{leafCount, wordStart, wordLength, codeOf, wordGiven, weightGiven};
 ghost use Rattle.leaves.specs.Coverage as coverage;
 ghost use Rattle.leaves.specs.Check.{expectedStart, leafAllowed, placeCheck, indexCheck, orderCheck, coverCheck, zeroCheck, leafCheck};
+ghost use Rattle.leaves.specs.Successor as successor;
+ghost use Rattle.leaves.specs.Kept.{CodeKept};
 ghost use Rattle.leaves.specs.Window as windows;
 use faults::Refusal;
 
@@ -323,8 +326,154 @@ fn zero_weight(leaves: &[u8]) -> Refusal
     }
 }
 
-// Rules 9 to 13, of sections 3 and 4 and the count of input digits.
-pub fn prefix_code(leaves: &[u8], words: &[u8], inputs: usize) -> Refusal
+// Whether the words lie one after the other, so that rule 9 holds: a quick look in front of the scan that names a leaf.
+fn well_placed(leaves: &[u8], all: usize) -> bool
+    ensures { λ r. ⌜ (r ≡ true → (0 < leafCount (now (leaves .entry))) × ((k : ℕ) → k < leafCount (now (leaves .entry)) → leafAllowed (now (leaves .entry)) all k ≡ true)) ⌝ }
+{
+    let count = leaf_count(leaves);
+    let mut end = 0;
+    let mut leaf = 0;
+    while leaf < count {
+        let start = word_start(leaves, leaf);
+        let length = word_length(leaves, leaf);
+        if start != end {
+            return false;
+        }
+        if length < 1 {
+            return false;
+        }
+        if LONGEST < length {
+            return false;
+        }
+        end = start + length;
+        if all < end {
+            return false;
+        }
+        leaf += 1;
+    }
+    if count == 0 {
+        return false;
+    }
+    end == all
+}
+
+// The highest byte, 0 where there is none.
+fn highest(bytes: &[u8]) -> u8
+    ensures { λ r. ⌜ ((k : ℕ) → k < length (now (bytes .entry)) → getD (now (bytes .entry)) k 0 ≤ r) ⌝ }
+{
+    let mut top = 0;
+    let mut i = 0;
+    while i < bytes.len() {
+        if top < bytes[i] {
+            top = bytes[i];
+        }
+        i += 1;
+    }
+    top
+}
+
+// Whether the bytes from a place up to another are all this one.
+fn all_same(bytes: &[u8], from: usize, end: usize, byte: u8) -> bool
+    requires { ⌜ end ≤ length (now bytes) ⌝ }
+    ensures { λ r. ⌜ (r ≡ true → (k : ℕ) → from ≤ k → k < end → getD (now (bytes .entry)) k 0 ≡ byte) ⌝ }
+{
+    let mut k = from;
+    while k < end {
+        if bytes[k] != byte {
+            return false;
+        }
+        k += 1;
+    }
+    true
+}
+
+// How many of n bytes from a on are those from b on.
+fn shared(words: &[u8], a: usize, b: usize, n: usize) -> usize
+    requires { ⌜ (a + n ≤ length (now words)) × (b + n ≤ length (now words)) ⌝ }
+    ensures { λ r. ⌜ (r ≤ n) × ((i : ℕ) → i < r → getD (now (words .entry)) (a + i) 0 ≡ getD (now (words .entry)) (b + i) 0) ⌝ }
+{
+    let mut i = 0;
+    while i < n {
+        if words[a + i] != words[b + i] {
+            return i;
+        }
+        i += 1;
+    }
+    i
+}
+
+// Whether y is the next byte after x.
+fn is_next(x: u8, y: u8) -> bool
+    ensures { λ r. ⌜ (r ≡ true → y ≡ x + 1) ⌝ }
+{
+    if y == 0 {
+        return false;
+    }
+    y - 1 == x
+}
+
+// Whether the word from b up to e follows the word from a up to b.
+fn follows(words: &[u8], a: usize, b: usize, e: usize, top: u8) -> bool
+    requires { ⌜ (a ≤ b) × (b ≤ e) × (e ≤ length (now words)) ⌝ }
+    ensures { λ r. ⌜ (r ≡ true → successor.Next (λ i. getD (now (words .entry)) (a + i) 0) (b - a) (λ i. getD (now (words .entry)) (b + i) 0) (e - b) top) ⌝ }
+{
+    let both = least(b - a, e - b);
+    let i = shared(words, a, b, both);
+    if both <= i {
+        return false;
+    }
+    if !is_next(words[a + i], words[b + i]) {
+        return false;
+    }
+    if !all_same(words, a + i + 1, b, top) {
+        return false;
+    }
+    all_same(words, b + i + 1, e, 0)
+}
+
+// Whether each word follows the one before, so that rules 11 and 12 hold.
+fn successive(leaves: &[u8], words: &[u8], top: u8) -> bool
+    requires { ⌜ (0 < leafCount (now leaves)) × ((k : ℕ) → k < leafCount (now leaves) → leafAllowed (now leaves) (length (now words)) k ≡ true) ⌝ }
+    ensures { λ r. ⌜ (r ≡ true → successor.Successive (codeOf (now (leaves .entry)) (now (words .entry))) top) ⌝ }
+{
+    let count = leaf_count(leaves);
+    if !all_same(words, 0, word_length(leaves, 0), 0) {
+        return false;
+    }
+    let mut leaf = 0;
+    while leaf + 1 < count {
+        let start = word_start(leaves, leaf);
+        let middle = word_start(leaves, leaf + 1);
+        let end = middle + word_length(leaves, leaf + 1);
+        if !follows(words, start, middle, end, top) {
+            return false;
+        }
+        leaf += 1;
+    }
+    all_same(words, word_start(leaves, leaf), words.len(), top)
+}
+
+// Whether rules 9 to 12 hold, by quick looks that say yes or nothing.
+fn well_coded(leaves: &[u8], words: &[u8], inputs: usize) -> bool
+    ensures { λ r. ⌜ (r ≡ true → CodeKept (now (leaves .entry)) (now (words .entry)) inputs) ⌝ }
+{
+    if inputs < 1 {
+        return false;
+    }
+    if 256 < inputs {
+        return false;
+    }
+    if !well_placed(leaves, words.len()) {
+        return false;
+    }
+    if inputs <= wide(highest(words)) {
+        return false;
+    }
+    successive(leaves, words, (inputs - 1) as u8)
+}
+
+// Rules 9 to 13, each by a scan that names the place.
+fn prefix_rules(leaves: &[u8], words: &[u8], inputs: usize) -> Refusal
     ensures { λ r. ⌜ r ≡ leafCheck (now (leaves .entry)) (now (words .entry)) inputs ⌝ }
 {
     let nine = places(leaves, words);
@@ -344,6 +493,16 @@ pub fn prefix_code(leaves: &[u8], words: &[u8], inputs: usize) -> Refusal
         return twelve;
     }
     zero_weight(leaves)
+}
+
+// Rules 9 to 13, of sections 3 and 4 and the count of input digits. The scans run only where the quick looks don't say yes.
+pub fn prefix_code(leaves: &[u8], words: &[u8], inputs: usize) -> Refusal
+    ensures { λ r. ⌜ r ≡ leafCheck (now (leaves .entry)) (now (words .entry)) inputs ⌝ }
+{
+    if well_coded(leaves, words, inputs) {
+        return zero_weight(leaves);
+    }
+    prefix_rules(leaves, words, inputs)
 }
 
 // Whether a leaf's word is above the window at the first place where they differ.

@@ -1,56 +1,35 @@
+use Rattle.leaves.proofs.Quick.{kept-last}
+use mathlib.Core.Path.{_∙_}
 use borrow.Author.Needs.{needs}
-use Rattle.faults.proofs.Check.{found-first, found-next}
-use Rattle.leaves.specs.Check.{leafCheck}
-use Rattle.leaves.proofs.Stage.{cover-some}
 use Rattle.leaves.proofs.prefix_code.Statement.{statement}
 use Rattle.leaves.proofs.prefix_code.Tie as tie
+use Rattle.leaves.proofs.prefix_code.Reads as reads
+use Rattle.leaves.proofs.prefix_code.Lts as lts
+use Rattle.leaves.proofs.prefix_rules.Reads as prefix-rules-reads
+use Rattle.leaves.proofs.well_coded.Reads as well-coded-reads
+use Rattle.leaves.proofs.zero_weight.Reads as zero-weight-reads
 
-places-requires : tie.Need-places-requires
-places-requires c κs = search needs
+-- src/lib.rt:502:8
+well-coded-requires : tie.Need-well-coded-requires
+well-coded-requires c κs = search needs
 
-returns : tie.Need-returns
-unfolding leafCheck
-returns c = found-first _ _ _ (c .before .before .places .ensures) (c .if1 .taken)
-
-indexes-requires : tie.Need-indexes-requires
-indexes-requires c κs = search needs
-
-returns-2 : tie.Need-returns-2
-unfolding leafCheck
-returns-2 c = found-next _ _ _ _ (c .before .before .before .before .before .places .ensures) (c .before .before .before .if1 .left) (found-first _ _ _ (c .before .before .indexes .ensures) (c .if2 .taken))
-
-order-requires : tie.Need-order-requires
-order-requires c κs = search needs
-
-returns-3 : tie.Need-returns-3
-unfolding leafCheck
-returns-3 c = found-next _ _ _ _ (c .before .before .before .before .before .before .before .before .places .ensures) (c .before .before .before .before .before .before .if1 .left) (found-next _ _ _ _ (c .before .before .before .before .before .indexes .ensures) (c .before .before .before .if2 .left) (found-first _ _ _ (c .before .before .order .ensures) (c .if3 .taken)))
-
-cover-requires : tie.Need-cover-requires
-cover-requires c κs = search needs
-
-returns-4 : tie.Need-returns-4
-unfolding leafCheck
-returns-4 c = found-next _ _ _ _ (c .before .before .before .before .before .before .before .before .before .before .before .places .ensures) (c .before .before .before .before .before .before .before .before .before .if1 .left) (found-next _ _ _ _ (c .before .before .before .before .before .before .before .before .indexes .ensures) (c .before .before .before .before .before .before .if2 .left) (found-next _ _ _ _ (c .before .before .before .before .before .order .ensures) (c .before .before .before .if3 .left) (found-first _ _ _ (c .before .before .cover .ensures) (c .if4 .taken))))
-
+-- src/lib.rt:503:9
 zero-weight-requires : tie.Need-zero-weight-requires
-zero-weight-requires c κs = cover-some _ _ _ _ (c .before .before .cover .ensures) (c .if4 .left)
+zero-weight-requires c κs = c .before .well-coded .ensures (c .if1 .taken) .some
 
-returns-5 : tie.Need-returns-5
-unfolding leafCheck
-returns-5 c = found-next _ _ _ _ (c .before .before .before .before .before .before .before .before .before .before .before .before .places .ensures) (c .before .before .before .before .before .before .before .before .before .before .if1 .left) (found-next _ _ _ _ (c .before .before .before .before .before .before .before .before .before .indexes .ensures) (c .before .before .before .before .before .before .before .if2 .left) (found-next _ _ _ _ (c .before .before .before .before .before .before .order .ensures) (c .before .before .before .before .if3 .left) (found-next _ _ _ _ (c .before .before .before .cover .ensures) (c .before .if4 .left) (c .zero-weight .ensures))))
+-- src/lib.rt:503:9
+returns : tie.Need-returns
+returns c = c .zero-weight .ensures ∙ kept-last (c .before .before .before .before .before .args .leaves .now) (c .before .before .before .before .before .args .words .now) (c .before .before .before .before .before .args .inputs) (c .before .before .well-coded .ensures (c .before .if1 .taken))
+
+-- src/lib.rt:505:5
+prefix-rules-requires : tie.Need-prefix-rules-requires
+prefix-rules-requires c κs = search needs
+
+-- src/lib.rt:499:1
+returns-2 : tie.Need-returns-2
+returns-2 c = search needs
 
 pub prefix-code-spec : {M : Type 1} → statement M
 prefix-code-spec =
     tie.close
-    (tie.spec
-    places-requires
-    returns
-    indexes-requires
-    returns-2
-    order-requires
-    returns-3
-    cover-requires
-    returns-4
-    zero-weight-requires
-    returns-5)
+    (tie.spec well-coded-requires zero-weight-requires returns prefix-rules-requires returns-2)
