@@ -1,0 +1,52 @@
+// The program `exercises`: M1 to M12 of document 01 and further cases through the public calls, a line for each. A digit is written
+// as the byte that it is in a row: its alphabet index, two hexadecimal digits.
+mod additions;
+mod changes;
+mod elements;
+mod output;
+mod tables;
+mod values;
+
+// M1 to M12
+fn marked() {
+    elements::products();
+    elements::bases();
+    changes::after_sum();
+    additions::sums();
+    additions::empty_rows();
+    tables::without_weight();
+}
+
+fn tables_and_sums() {
+    tables::carried_tables();
+    additions::tern_limits();
+    additions::bin_limits();
+    additions::row_faults();
+    additions::damaged_sums();
+}
+
+fn edited_rows() {
+    changes::refusals_in_order();
+    changes::earlier_faults();
+    changes::damaged_edit();
+    changes::tern_list();
+    changes::bin_list();
+    changes::longest_rows();
+    changes::longer_rows();
+}
+
+fn elements_of_rows() {
+    values::of_tern_sums();
+    values::of_bin_sums();
+    values::of_tern_rows();
+    values::of_no_table();
+    values::of_bin_rows();
+    elements::midpoints();
+}
+
+fn main() {
+    marked();
+    tables_and_sums();
+    edited_rows();
+    elements_of_rows();
+}

@@ -1,0 +1,118 @@
+// The pieces of a line, each written as it comes. One that can't be written is missing in what the run is compared by.
+ghost use Prim.Native.Nat.{_≤_};
+ghost use lib.ListN.{length};
+use adder::Added;
+use edits::Edited;
+use faults::Fault;
+use midpoint::Element;
+use table::Checked;
+use table::Facts;
+use valued::Valued;
+
+pub fn word(bytes: &[u8]) {
+    io::write_all(libc::STDOUT_FILENO, bytes);
+}
+
+// What a buffer holds up to a place.
+fn written(out: &[u8], end: usize) {
+    if end <= out.len() {
+        word(&out[..end]);
+    }
+}
+
+// A word and a number.
+fn item(name: &[u8], n: usize) {
+    word(name);
+    let mut out = [0u8; 20];
+    let end = text::put_decimal(&mut out, 0, n);
+    written(&out, end);
+}
+
+// A space and a whole number.
+fn signed(z: i32) {
+    let mut out = [b' '; 12];
+    let end = text::put_signed(&mut out, 1, z);
+    written(&out, end);
+}
+
+// A space and a buffer.
+pub fn buffer(bytes: &[u8])
+    requires { ⌜ length (now bytes) ≤ 260 ⌝ }
+{
+    let mut out = [b' '; 522];
+    let end = text::put_hex(&mut out, 1, bytes);
+    written(&out, end);
+}
+
+// A space and a fault.
+fn refused(fault: Fault) {
+    let mut out = [b' '; 65];
+    let end = text::put_fault(&mut out, 1, fault);
+    written(&out, end);
+}
+
+fn parts(x: Element) {
+    signed(x.a);
+    signed(x.b);
+}
+
+// `LABEL a b`
+pub fn element(label: &[u8], x: Element) {
+    word(label);
+    parts(x);
+    word(b"\n");
+}
+
+// `LABEL yes` or `LABEL no`
+pub fn verdict(label: &[u8], holds: bool) {
+    word(label);
+    if holds {
+        word(b" yes\n");
+    } else {
+        word(b" no\n");
+    }
+}
+
+fn accepted(facts: Facts) {
+    item(b" accepted depth ", facts.depth);
+    item(b" leaves ", facts.leaves);
+    item(b" digits ", facts.digits);
+}
+
+// `LABEL accepted depth h leaves L digits A`, or the fault.
+pub fn checked(label: &[u8], answer: Checked) {
+    word(label);
+    match answer {
+        Checked::Accepted(facts) => accepted(facts),
+        Checked::Refused(fault) => refused(fault),
+    }
+    word(b"\n");
+}
+
+// ` sum K`, or the fault.
+pub fn added(answer: Added) {
+    match answer {
+        Added::Sum(facts) => item(b" sum ", facts.places),
+        Added::Refused(fault) => refused(fault),
+    }
+}
+
+// ` changed K`, or the fault.
+pub fn edited(answer: Edited) {
+    match answer {
+        Edited::Count(facts) => item(b" changed ", facts.count),
+        Edited::Refused(fault) => refused(fault),
+    }
+}
+
+// `LABEL value a b`, or the fault.
+pub fn valued(label: &[u8], answer: Valued) {
+    word(label);
+    match answer {
+        Valued::Value(x) => element(b" value", x),
+        Valued::Refused(fault) => {
+            refused(fault);
+            word(b"\n");
+        }
+    }
+}
