@@ -1,3 +1,4 @@
 pub mod Filled
+pub mod Known
 pub mod Place
 pub mod Loop

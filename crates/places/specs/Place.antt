@@ -1,8 +1,9 @@
 -- Conversion place by place (document 01, "Conversion and addition"): a row of input indexes, and the digits that come out of it.
+use mathlib.Core.Path.{_≡_}
 use mathlib.Core.Bool.{Bool}
 use mathlib.Core.List.{List, replicate}
-use Prim.Native.Nat.{ℕ, _-_}
-use lib.ListN.{getD}
+use Prim.Native.Nat.{ℕ, _+_, _-_, _*_, _<_}
+use lib.ListN.{length, getD}
 use lib.IntN.{ℤ}
 use Rattle.lists.specs.Span.{span}
 use Rattle.lists.specs.Overwrite.{overwrite}
@@ -18,6 +19,11 @@ use Rattle.table.specs.Pairs.{inAlphabet}
 -- "w(j) is the sum of the two digits at place j": its input index
 abbrev pub inputAt : List ℕ → List ℕ → List ℕ → List ℕ → ℕ → ℕ
 inputAt alphabet inputs first second j = sumIndex alphabet inputs (getD first j 0) (getD second j 0)
+
+-- sums that were looked for: at 16 times one digit plus the other stands 255, or the input index of their sum
+pub record Known (alphabet inputs known : List ℕ) : Type 0 where
+  pub long : length known ≡ 256
+  pub right : (i j : ℕ) → i < 16 → j < 16 → ¬ (getD known (16 * i + j) 0 ≡ 255) → getD known (16 * i + j) 0 ≡ sumIndex alphabet inputs i j
 
 -- a row of 256 places with f at the places from i up to n, and zeros elsewhere
 unfoldable pub partRow : (ℕ → ℕ) → ℕ → ℕ → List ℕ

@@ -14,10 +14,11 @@ ghost use Rattle.numeration.specs.Conversion.{window, outDigit, weightInto};
 ghost use Rattle.numeration.specs.Elements.{elements};
 ghost use Rattle.leaves.specs.Leaf.{codeOf};
 ghost use Rattle.rows.specs.Changed.{changed};
-ghost use Rattle.places.specs.Place.{inputAt, partRow, alphabetIndex, indexAt, digitAllowed, Begun};
+ghost use Rattle.places.specs.Place.{inputAt, Known, partRow, alphabetIndex, indexAt, digitAllowed, Begun};
 use rows::Change;
 
-// The input index of the sum of two rows' digits at a place, the rows read with the change made.
+// The input index of the sum of two rows' digits at a place, the rows read with the change made. A sum is looked for once and then
+// stands in `known`.
 fn input_at(
     alphabet: &[u8],
     inputs: &[u8],
@@ -25,13 +26,18 @@ fn input_at(
     first: &[u8],
     second: &[u8],
     place: usize,
-) -> usize
-    requires { ⌜ (getD (changed change 0 (now first)) place 0 < elementCount (now alphabet)) × (getD (changed change 1 (now second)) place 0 < elementCount (now alphabet)) ⌝ }
-    ensures { λ r. ⌜ r ≡ inputAt (now (alphabet .entry)) (now (inputs .entry)) (changed change 0 (now (first .entry))) (changed change 1 (now (second .entry))) place ⌝ }
+    known: &mut [u8],
+) -> u8
+    requires { ⌜ (elementCount (now alphabet) ≤ 16) × (elementCount (now inputs) < 256) × (getD (changed change 0 (now first)) place 0 < elementCount (now alphabet)) × (getD (changed change 1 (now second)) place 0 < elementCount (now alphabet)) × Known (now alphabet) (now inputs) (now known) ⌝ }
+    ensures { λ r. ⌜ (r ≡ inputAt (now (alphabet .entry)) (now (inputs .entry)) (changed change 0 (now (first .entry))) (changed change 1 (now (second .entry))) place) × Known (now (alphabet .entry)) (now (inputs .entry)) (now (known .exit)) ⌝ }
 {
     let upper = rows::byte_at(change, 0, first, place) as usize;
     let lower = rows::byte_at(change, 1, second, place) as usize;
-    digits::sum_index(alphabet, inputs, upper, lower)
+    let pair = 16 * upper + lower;
+    if known[pair] == 255 {
+        known[pair] = digits::sum_index(alphabet, inputs, upper, lower) as u8;
+    }
+    known[pair]
 }
 
 // The input indexes at the places from `from` up to `end`; zeros elsewhere.
@@ -44,13 +50,14 @@ pub fn input_row(
     from: usize,
     end: usize,
 ) -> [u8; 256]
-    requires { ⌜ (from ≤ end) × (end ≤ 256) × (elementCount (now inputs) < 256) × ((k : ℕ) → k < end → getD (changed change 0 (now first)) k 0 < elementCount (now alphabet)) × ((k : ℕ) → k < end → getD (changed change 1 (now second)) k 0 < elementCount (now alphabet)) ⌝ }
+    requires { ⌜ (from ≤ end) × (end ≤ 256) × (elementCount (now inputs) < 256) × ((k : ℕ) → k < end → getD (changed change 0 (now first)) k 0 < elementCount (now alphabet)) × ((k : ℕ) → k < end → getD (changed change 1 (now second)) k 0 < elementCount (now alphabet)) × (elementCount (now alphabet) ≤ 16) ⌝ }
     ensures { λ r. ⌜ r ≡ partRow (inputAt (now (alphabet .entry)) (now (inputs .entry)) (changed change 0 (now (first .entry))) (changed change 1 (now (second .entry)))) from end ⌝ }
 {
     let mut row = [0u8; 256];
+    let mut known = [255u8; 256];
     let mut place = from;
     while place < end {
-        row[place] = input_at(alphabet, inputs, change, first, second, place) as u8;
+        row[place] = input_at(alphabet, inputs, change, first, second, place, &mut known);
         place += 1;
     }
     row

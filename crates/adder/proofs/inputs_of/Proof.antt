@@ -4,7 +4,7 @@ use native.Mathlib.Omega.{arith}
 use lib.Dec.{lit<}
 use Rattle.rows.specs.Changed.{changed}
 use Rattle.places.specs.Place.{inputAt, partRow}
-use Rattle.adder.proofs.Table.{directory-kept, digits-counted, few-inputs}
+use Rattle.adder.proofs.Table.{directory-kept, digits-counted, few-digits, few-inputs}
 use Rattle.adder.proofs.inputs_of.Statement.{statement}
 use Rattle.adder.proofs.inputs_of.Tie as tie
 
@@ -18,7 +18,7 @@ input-row-requires : tie.Need-input-row-requires
 input-row-requires c κs =
     let file = c .before .before .before .before .before .args .table .now in
     let size = digits-counted file (c .before .before .before .before .before .pre .0) _ (c .before .section .ensures) in
-    (c .before .before .before .before .before .pre .1, c .before .before .before .before .before .pre .2, omega (arith, few-inputs file (c .before .before .before .before .before .pre .0) _ (c .section2 .ensures) .1), λ k h. omega (arith, size, c .before .before .before .before .before .pre .3 k h), λ k h. omega (arith, size, c .before .before .before .before .before .pre .4 k h))
+    (c .before .before .before .before .before .pre .1, c .before .before .before .before .before .pre .2, omega (arith, few-inputs file (c .before .before .before .before .before .pre .0) _ (c .section2 .ensures) .1), λ k h. omega (arith, size, c .before .before .before .before .before .pre .3 k h), λ k h. omega (arith, size, c .before .before .before .before .before .pre .4 k h), few-digits file (c .before .before .before .before .before .pre .0) _ (c .before .section .ensures))
 
 returns : tie.Need-returns
 returns c =

@@ -1,31 +1,93 @@
-use mathlib.Core.Path.{sym, subst, ap₂, _∙_}
-use Prim.Native.Nat.{ℕ, _<_}
-use Rattle.digits.specs.Record.{elementCount}
+use Rattle.places.proofs.Known.{looked-for, stood-there}
+use Rattle.places.proofs.Place.{sum-index-high}
+use Rattle.places.specs.Place.{Known}
 use Rattle.digits.specs.Digits.{sumIndex}
+use lib.ListN.{getD}
+use native.Mathlib.Omega.{arith}
+use Prim.Native.Nat.{_*_, _+_, _<_}
+use mathlib.Core.Logic.{⊎-elim}
+use mathlib.Core.Path.{_≡_, sym, ap₂, _∙_}
 use borrow.Author.Needs.{needs}
 use Rattle.places.proofs.input_at.Statement.{statement}
 use Rattle.places.proofs.input_at.Tie as tie
+use Rattle.places.proofs.input_at.Reads as reads
+use Rattle.places.proofs.input_at.Lts as lts
+use Rattle.digits.proofs.sum_index.Reads as sum-index-reads
+use Rattle.rows.proofs.byte_at.Reads as byte-at-reads
 
+-- after the test: what stands at the pair
+found : (c : tie.Joined1) → (getD (c .if1 .known) (16 * c .before .before .before .byte-at .result + c .before .before .byte-at2 .result) 0 ≡ sumIndex (c .before .before .before .before .before .before .before .before .before .args .alphabet .now) (c .before .before .before .before .before .before .before .before .before .args .inputs .now) (c .before .before .before .byte-at .result) (c .before .before .byte-at2 .result)) × Known (c .before .before .before .before .before .before .before .before .before .args .alphabet .now) (c .before .before .before .before .before .before .before .before .before .args .inputs .now) (c .if1 .known)
+found c =
+    let u : c .before .before .before .byte-at .result < 16 = omega (arith, c .before .before .before .byte-at .ensures, c .before .before .before .before .before .before .before .before .before .pre .0, c .before .before .before .before .before .before .before .before .before .pre .2) in
+    let l : c .before .before .byte-at2 .result < 16 = omega (arith, c .before .before .byte-at2 .ensures, c .before .before .before .before .before .before .before .before .before .pre .0, c .before .before .before .before .before .before .before .before .before .pre .3) in
+    ⊎-elim (λ t. looked-for (c .before .before .before .before .before .before .before .before .before .args .alphabet .now) (c .before .before .before .before .before .before .before .before .before .args .inputs .now) (c .before .before .before .before .before .before .before .before .before .args .known .now) (c .before .before .before .before .before .before .before .before .before .pre .4) (c .before .before .before .byte-at .result) (c .before .before .byte-at2 .result) u l (c .if1 .known) (t .1 .result) (t .1 .ensures) (t .2)) (λ t. stood-there (c .before .before .before .before .before .before .before .before .before .args .alphabet .now) (c .before .before .before .before .before .before .before .before .before .args .inputs .now) (c .before .before .before .before .before .before .before .before .before .args .known .now) (c .before .before .before .before .before .before .before .before .before .pre .4) (c .before .before .before .byte-at .result) (c .before .before .byte-at2 .result) u l (c .if1 .known) (t .0 .left) (t .1)) (c .if1 .came)
+
+-- src/lib.rt:34:17
 byte-at-requires : tie.Need-byte-at-requires
 byte-at-requires c κs = search needs
 
+-- src/lib.rt:34:17
 cast-upper : tie.Need-cast-upper
 cast-upper c = search needs
 
+-- src/lib.rt:35:17
 byte-at-requires-2 : tie.Need-byte-at-requires-2
 byte-at-requires-2 c κs = search needs
 
+-- src/lib.rt:35:17
 cast-lower : tie.Need-cast-lower
 cast-lower c = search needs
 
-sum-index-requires : tie.Need-sum-index-requires
-sum-index-requires c κs =
-    (subst (λ (n : ℕ). n < elementCount (c .before .before .before .before .before .before .args .alphabet .now)) (sym (c .before .byte-at .ensures)) (c .before .before .before .before .before .before .pre .0), subst (λ (n : ℕ). n < elementCount (c .before .before .before .before .before .before .args .alphabet .now)) (sym (c .byte-at2 .ensures)) (c .before .before .before .before .before .before .pre .1))
+-- src/lib.rt:36:16
+mul-pair : tie.Need-mul-pair
+mul-pair c = search needs
 
+-- src/lib.rt:36:16
+add-pair : tie.Need-add-pair
+add-pair c = search needs
+
+-- src/lib.rt:37:8
+slice-read-if1 : tie.Need-slice-read-if1
+slice-read-if1 c = search needs
+
+-- src/lib.rt:38:23
+sum-index-requires : tie.Need-sum-index-requires
+sum-index-requires c κs = search needs
+
+-- src/lib.rt:38:23
+cast-known : tie.Need-cast-known
+cast-known c = omega (arith, c .sum-index .ensures, c .before .before .before .before .before .before .before .before .before .before .pre .1, sum-index-high (c .before .before .before .before .before .before .before .before .before .before .args .alphabet .now) (c .before .before .before .before .before .before .before .before .before .before .args .inputs .now) (c .before .before .before .before .byte-at .result) (c .before .before .before .byte-at2 .result))
+
+-- src/lib.rt:38:9
+slice-write-known : tie.Need-slice-write-known
+slice-write-known c = search needs
+
+-- src/lib.rt:40:5
+slice-read-result : tie.Need-slice-read-result
+slice-read-result c = omega (arith, found (c .before) .1 .long, c .before .before .before .before .byte-at .ensures, c .before .before .before .byte-at2 .ensures, c .before .before .before .before .before .before .before .before .before .before .pre .0, c .before .before .before .before .before .before .before .before .before .before .pre .2, c .before .before .before .before .before .before .before .before .before .before .pre .3)
+
+-- src/lib.rt:22:1
+same-length : tie.Need-same-length
+same-length c = found (c .before) .1 .long ∙ sym (c .before .before .before .before .before .before .before .before .before .before .pre .4 .long)
+
+-- src/lib.rt:22:1
 returns : tie.Need-returns
-returns c = c .sum-index .ensures ∙ ap₂ (sumIndex (c .before .before .before .before .before .before .before .args .alphabet .now) (c .before .before .before .before .before .before .before .args .inputs .now)) (c .before .before .byte-at .ensures) (c .before .byte-at2 .ensures)
+returns c = (found (c .before) .0 ∙ ap₂ (sumIndex (c .before .before .before .before .before .before .before .before .before .before .args .alphabet .now) (c .before .before .before .before .before .before .before .before .before .before .args .inputs .now)) (c .before .before .before .before .byte-at .ensures) (c .before .before .before .byte-at2 .ensures), found (c .before) .1)
 
 pub input-at-spec : {M : Type 1} → statement M
 input-at-spec =
     tie.close
-    (tie.spec byte-at-requires cast-upper byte-at-requires-2 cast-lower sum-index-requires returns)
+    (tie.spec
+    byte-at-requires
+    cast-upper
+    byte-at-requires-2
+    cast-lower
+    mul-pair
+    add-pair
+    slice-read-if1
+    sum-index-requires
+    cast-known
+    slice-write-known
+    slice-read-result
+    same-length
+    returns)

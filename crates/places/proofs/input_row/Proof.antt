@@ -1,50 +1,56 @@
--- The row is filled up to the place reached.
-use mathlib.Core.Path.{_≡_, ap, _∙_}
-use Prim.Native.Nat.{_≤_, _-_}
-use native.Mathlib.Nat.{le-antisymm}
-use native.Mathlib.Omega.{arith}
-use lib.ListN.{getD}
-use Rattle.places.proofs.Place.{sum-index-high}
-use Rattle.rows.specs.Changed.{changed}
-use Rattle.places.specs.Place.{inputAt, partRow}
 use Rattle.places.proofs.Filled.{row-start, row-next}
+use Rattle.places.proofs.Known.{known-none}
+use Rattle.places.specs.Place.{inputAt, Known, partRow}
+use Rattle.rows.specs.Changed.{changed}
+use native.Mathlib.Omega.{arith}
+use native.Mathlib.Nat.{le-antisymm}
+use Prim.Native.Nat.{_≤_, _-_}
+use mathlib.Core.Path.{_≡_, ap, sym, _∙_}
 use Rattle.places.proofs.input_row.Statement.{statement}
 use Rattle.places.proofs.input_row.Tie as tie
+use Rattle.places.proofs.input_row.Reads as reads
+use Rattle.places.proofs.input_row.Lts as lts
+use Rattle.places.proofs.input_at.Reads as input-at-reads
 
 abbrev Inv-loop : tie.InvT-loop
-Inv-loop alphabet inputs change first second from end row₀ place₀ row place =
-    (from ≤ place) × (place ≤ end) × (row ≡ partRow (inputAt alphabet inputs (changed change 0 first) (changed change 1 second)) from place)
+Inv-loop alphabet inputs change first second from end row₀ known₀ place₀ row known place = (from ≤ place) × (place ≤ end) × (row ≡ partRow (inputAt alphabet inputs (changed change 0 first) (changed change 1 second)) from place) × Known alphabet inputs known
 
 abbrev μ-loop : tie.MeasureT-loop
-μ-loop alphabet inputs change first second from end row₀ place₀ row place = end - place
+μ-loop alphabet inputs change first second from end row₀ known₀ place₀ row known place = end - place
 
+-- src/lib.rt:59:5
 loop-holds : tie.Need-loop-holds Inv-loop μ-loop
 loop-holds c =
     let a = c .before .before .before .before .args in
-    (omega arith, c .before .before .before .before .pre .0, row-start (inputAt (a .alphabet .now) (a .inputs .now) (changed (a .change) 0 (a .first .now)) (changed (a .change) 1 (a .second .now))) (a .from))
+    (omega arith, c .before .before .before .before .pre .0, row-start (inputAt (a .alphabet .now) (a .inputs .now) (changed (a .change) 0 (a .first .now)) (changed (a .change) 1 (a .second .now))) (a .from), known-none (a .alphabet .now) (a .inputs .now))
 
+-- src/lib.rt:60:79
+slice-aggregate-input-at : tie.Need-slice-aggregate-input-at Inv-loop μ-loop
+slice-aggregate-input-at c = sym (c .before .before .loop .inv .3 .long)
+
+-- src/lib.rt:60:22
 input-at-requires : tie.Need-input-at-requires Inv-loop μ-loop
-input-at-requires c κs = (c .before .before .before .before .before .before .pre .3 (c .before .loop .place) (c .loop-test .taken), c .before .before .before .before .before .before .pre .4 (c .before .loop .place) (c .loop-test .taken))
+input-at-requires c κs = (c .before .before .before .before .before .before .before .pre .5, c .before .before .before .before .before .before .before .pre .2, c .before .before .before .before .before .before .before .pre .3 (c .before .before .loop .place) (c .before .loop-test .taken), c .before .before .before .before .before .before .before .pre .4 (c .before .before .loop .place) (c .before .loop-test .taken), c .before .before .loop .inv .3)
 
-cast-row : tie.Need-cast-row Inv-loop μ-loop
-cast-row c =
-    let a = c .before .before .before .before .before .before .before .args in
-    omega (arith, c .input-at .ensures, c .before .before .before .before .before .before .before .pre .2, sum-index-high (a .alphabet .now) (a .inputs .now) (getD (changed (a .change) 0 (a .first .now)) (c .before .before .loop .place) 0) (getD (changed (a .change) 1 (a .second .now)) (c .before .before .loop .place) 0))
-
+-- src/lib.rt:60:9
 array-write-row : tie.Need-array-write-row Inv-loop μ-loop
-array-write-row c = omega (arith, c .before .before .before .before .before .before .before .pre .1, c .before .loop-test .taken)
+array-write-row c = omega (arith, c .before .before .before .before .before .before .before .before .before .pre .1, c .before .before .before .loop-test .taken)
 
+-- src/lib.rt:61:9
 add-place : tie.Need-add-place Inv-loop μ-loop
 add-place c = omega arith
 
+-- src/lib.rt:59:5
 loop-less : tie.Need-loop-less Inv-loop μ-loop
 loop-less c = omega arith
 
+-- src/lib.rt:59:5
 loop-again : tie.Need-loop-again Inv-loop μ-loop
 loop-again c =
-    let a = c .before .before .before .before .before .before .before .args in
-    (omega arith, omega arith, row-next (inputAt (a .alphabet .now) (a .inputs .now) (changed (a .change) 0 (a .first .now)) (changed (a .change) 1 (a .second .now))) (a .from) (c .before .before .loop .place) (c .before .before .loop .row) (c .input-at .result) (c .before .before .loop .inv .0) (omega (arith, c .before .before .before .before .before .before .before .pre .1, c .before .loop-test .taken)) (c .before .before .loop .inv .2) (c .input-at .ensures))
+    let a = c .before .before .before .before .before .before .before .before .before .args in
+    (omega arith, omega arith, row-next (inputAt (a .alphabet .now) (a .inputs .now) (changed (a .change) 0 (a .first .now)) (changed (a .change) 1 (a .second .now))) (a .from) (c .before .before .before .before .loop .place) (c .before .before .before .before .loop .row) (c .before .input-at .result) (c .before .before .before .before .loop .inv .0) (omega (arith, c .before .before .before .before .before .before .before .before .before .pre .1, c .before .before .before .loop-test .taken)) (c .before .before .before .before .loop .inv .2) (c .before .input-at .ensures .0), c .before .input-at .ensures .1)
 
+-- src/lib.rt:44:1
 returns : tie.Need-returns Inv-loop μ-loop
 returns c =
     let a = c .before .before .before .before .before .before .args in
@@ -57,8 +63,8 @@ input-row-spec =
     Inv-loop
     μ-loop
     loop-holds
+    slice-aggregate-input-at
     input-at-requires
-    cast-row
     array-write-row
     add-place
     loop-less
