@@ -49,12 +49,7 @@ pub fn signed(bytes: &[u8], at: usize) -> i64
     requires { ⌜ at + 1 < length (now bytes) ⌝ }
     ensures { λ r. ⌜ (r ≡ signedAt (now (bytes .entry)) at) × (natAbs r ≤ 32768) ⌝ }
 {
-    let u = unsigned(bytes, at);
-    if u < 32768 {
-        u as i64
-    } else {
-        u as i64 - 65536
-    }
+    ((unsigned(bytes, at) + 32768) % 65536) as i64 - 32768
 }
 
 // The size of the signed number at a place.
