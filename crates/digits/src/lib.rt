@@ -1,12 +1,15 @@
 // The digits of a table: base, alphabet and input digits, rules 5 to 8 of document 01. Each section is given as its bytes, of a
 // file or not.
 ghost use mathlib.Core.Path.{_≡_};
-ghost use Prim.Native.Nat.{_+_, _≤_, _<_};
-ghost use lib.ListN.{length};
+ghost use mathlib.Core.Bool.{true};
+ghost use Prim.Native.Nat.{ℕ, _+_, _≤_, _<_};
+ghost use lib.ListN.{length, getD};
+ghost use Rattle.faults.specs.Check.{none};
 ghost use Rattle.ring.specs.Element.{Within};
 ghost use Rattle.digits.specs.Record.{elementAt, recordAt, elementCount, indexIn};
 ghost use Rattle.digits.specs.Base.{BasePart, baseMatrix, baseCheck};
 ghost use Rattle.digits.specs.Digits.{recordAllowed, alphabetCheck, sumIndex, sumsListed, allSumsListed, isSum, inputAllowed, inputCheck, digitCheck};
+ghost use Rattle.digits.specs.Marks.{Marked};
 use faults::Refusal;
 
 // The bytes of an element.
@@ -16,6 +19,9 @@ const ELEMENT: usize = 4;
 const ALPHABET: usize = 1;
 
 const INPUTS: usize = 2;
+
+// The most input digits.
+const MOST: usize = 136;
 
 // The element whose first byte stands at a place.
 pub fn element(bytes: &[u8], at: usize) -> [i64; 2]
@@ -186,10 +192,74 @@ fn input_allowed(alphabet: &[u8], inputs: &[u8], k: usize) -> bool
     record_allowed(inputs, k) && is_sum(alphabet, record_at(inputs, k))
 }
 
+// Marks the input index of each sum of alphabet digit i and one up to it; whether every such sum is an input digit.
+fn mark_sums(alphabet: &[u8], inputs: &[u8], i: usize, marks: &mut [u8; MOST]) -> bool
+    requires { ⌜ (i < elementCount (now alphabet)) × (elementCount (now inputs) ≤ 136) × Marked (now alphabet) (now inputs) (now marks) ⌝ }
+    ensures { λ r. ⌜ (r ≡ sumsListed (now (alphabet .entry)) (now (inputs .entry)) i) × Marked (now (alphabet .entry)) (now (inputs .entry)) (now (marks .exit)) ⌝ }
+{
+    let count = layout::record_count(inputs, INPUTS);
+    let mut other = 0;
+    while other < i + 1 {
+        let found = sum_index(alphabet, inputs, i, other);
+        if found >= count {
+            return false;
+        }
+        marks[found] = 1;
+        other += 1;
+    }
+    true
+}
+
+fn all_marked(marks: &[u8; MOST], count: usize) -> bool
+    requires { ⌜ count ≤ 136 ⌝ }
+    ensures { λ r. ⌜ (r ≡ true → (k : ℕ) → k < count → ¬ (getD (now (marks .entry)) k 0 ≡ 0)) ⌝ }
+{
+    let mut k = 0;
+    while k < count {
+        if marks[k] == 0 {
+            return false;
+        }
+        k += 1;
+    }
+    true
+}
+
+// A quick look at rule 8: it is kept, or there is no answer.
+fn inputs_kept(alphabet: &[u8], inputs: &[u8]) -> bool
+    ensures { λ r. ⌜ (r ≡ true → none ≡ inputCheck (now (alphabet .entry)) (now (inputs .entry))) ⌝ }
+{
+    let n = layout::record_count(alphabet, ALPHABET);
+    let count = layout::record_count(inputs, INPUTS);
+    if count == 0 {
+        return false;
+    }
+    if count > MOST {
+        return false;
+    }
+    if !record_allowed(inputs, 0) {
+        return false;
+    }
+    let mut marks = [0; MOST];
+    let mut i = 0;
+    while i < n {
+        if !mark_sums(alphabet, inputs, i, &mut marks) {
+            return false;
+        }
+        i += 1;
+    }
+    all_marked(&marks, count)
+}
+
 // Rule 8.
 fn input_rule(alphabet: &[u8], inputs: &[u8]) -> Refusal
     ensures { λ r. ⌜ r ≡ inputCheck (now (alphabet .entry)) (now (inputs .entry)) ⌝ }
 {
+    if inputs_kept(alphabet, inputs) {
+        return Refusal {
+            number: 0,
+            place: 0,
+        };
+    }
     let count = layout::record_count(inputs, INPUTS);
     let mut input = 0;
     while input < count {

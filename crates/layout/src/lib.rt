@@ -1,10 +1,11 @@
 // The table file of document 01, as far as its layout goes: 16-bit numbers, the directory of five sections, and rules 1 to 4.
 // The stages are callable apart: `directory` is rules 1 and 2, `lengths` rule 3, `limits` rule 4.
 ghost use mathlib.Core.Path.{_≡_};
+ghost use mathlib.Core.Bool.{true};
 ghost use Prim.Native.Nat.{_+_, _≤_, _<_, _^_};
 ghost use lib.ListN.{length};
 ghost use lib.IntN.{natAbs};
-ghost use Rattle.lists.specs.Scan.{firstFailing};
+ghost use Rattle.lists.specs.Scan.{firstFailing, every};
 ghost use Rattle.layout.specs.Number.{unsignedAt, signedAt};
 ghost use Rattle.layout.specs.Section.{recordSize, recordCount, sectionStart, sectionLength, sectionEnd};
 ghost use Rattle.layout.specs.Directory.{expectedStart, pairAllowed, directoryCheck};
@@ -48,12 +49,7 @@ pub fn signed(bytes: &[u8], at: usize) -> i64
     requires { ⌜ at + 1 < length (now bytes) ⌝ }
     ensures { λ r. ⌜ (r ≡ signedAt (now (bytes .entry)) at) × (natAbs r ≤ 32768) ⌝ }
 {
-    let u = unsigned(bytes, at);
-    if u < 32768 {
-        u as i64
-    } else {
-        u as i64 - 65536
-    }
+    ((unsigned(bytes, at) + 32768) % 65536) as i64 - 32768
 }
 
 // The size of the signed number at a place.
@@ -267,14 +263,61 @@ fn first_outside(part: &[u8], size: usize, limit: usize, count: usize) -> usize
     m
 }
 
+// A byte in 32 bits.
+fn wide_32(x: u8) -> u32
+    ensures { λ r. ⌜ (r ≡ x) × (r < 256) ⌝ }
+{
+    x as u32
+}
+
+// The number at a place, raised so that it is 65,536 or more where it is outside the limit.
+fn raised(bytes: &[u8], at: usize, limit: u32) -> u32
+    requires { ⌜ (at + 1 < length (now bytes)) × (limit ≤ 1024) ⌝ }
+    ensures { λ r. ⌜ (r < 65536 → natAbs (signedAt (now (bytes .entry)) at) ≤ limit) ⌝ }
+{
+    (wide_32(bytes[at]) + 256 * wide_32(bytes[at + 1]) + limit) % 65536 + (65535 - 2 * limit)
+}
+
+// A number that is at least each of two, without a branch.
+fn at_least(a: u32, b: u32) -> u32
+    ensures { λ r. ⌜ (a ≤ r) × (b ≤ r) ⌝ }
+{
+    a | b
+}
+
+// A quick look at all numbers of a section: none is outside its limit, or there is no answer.
+fn none_outside(part: &[u8], size: usize, limit: usize) -> bool
+    requires { ⌜ (4 ≤ size) × (limit ≤ 1024) ⌝ }
+    ensures { λ r. ⌜ (r ≡ true → every (numberAllowed size limit (now (part .entry))) 0 (numberCount size (length (now (part .entry)))) ≡ true) ⌝ }
+{
+    let bound = limit as u32;
+    let count = part.len() / size;
+    let mut k = 0;
+    let mut most = 0;
+    while k < count {
+        let at = k * size + (size - ELEMENT);
+        let both = at_least(raised(part, at, bound), raised(part, at + 2, bound));
+        most = at_least(most, both);
+        k += 1;
+    }
+    most < 65536
+}
+
 // Rule 4 in one section, handed on as its part of the file; `start` is where the part starts in the file.
 pub fn limits_in(part: &[u8], start: usize, section: usize) -> Refusal
     requires { ⌜ (section < 4) × (start ≤ 65535) ⌝ }
     ensures { λ r. ⌜ r ≡ limitCheckIn (now (part .entry)) start section ⌝ }
 {
     let size = size_of_record(section);
+    let limit = size_limit(section);
+    if none_outside(part, size, limit) {
+        return Refusal {
+            number: 0,
+            place: 0,
+        };
+    }
     let count = part.len() / size * DEGREE;
-    let m = first_outside(part, size, size_limit(section), count);
+    let m = first_outside(part, size, limit, count);
     if m < count {
         return Refusal {
             number: 4,
