@@ -77,11 +77,18 @@ pub fn add(file: &[u8], first: &[u8], second: &[u8], sum: &mut [u8]) -> Result<u
     let table = read::<true>(file)?;
     rows::check(&table, first, second, sum.len())?;
     let places = first.len() + table.code.depth;
+    let mut row = [0; leaves::LONGEST + rows::MOST_PLACES];
+    let pairs = first.iter().zip(second);
+    for (input, (x, y)) in row[leaves::LONGEST..].iter_mut().zip(pairs) {
+        *input = rows::input(&table, *x, *y);
+    }
+    let row = &row[..leaves::LONGEST + places];
+    let by_first = table.code.first_digits(table.sections.inputs.len());
     let mut digits = [0; rows::MOST_PLACES];
-    let find = |window| table.code.search_keys(window);
-    let input = |place| table.sums[rows::digit(first, place)][rows::digit(second, place)];
-    rows::convert(&table, find, input, 0, &mut digits[..places])?;
-    sum[..places].copy_from_slice(&digits[..places]);
+    let digits = &mut digits[..places];
+    let find = |window| by_first.search(window);
+    rows::convert::<{ rows::MOST_PLACES }>(&table, find, row, 0, digits)?;
+    sum[..places].copy_from_slice(digits);
     Ok(places)
 }
 
@@ -95,17 +102,22 @@ pub fn edit(
     let table = read::<false>(file)?;
     rows::check(&table, first, second, sum.len())?;
     let [row, edited, digit] = rows::check_edit(asked, first.len(), table.alphabet.count)?;
-    let input = |place| {
+    let places = table.code.depth + 1;
+    let mut inputs = [0; 2 * leaves::LONGEST + 1];
+    for (at, input) in inputs[..leaves::LONGEST + places].iter_mut().enumerate() {
+        // Places below 0 are zero, as those past the rows' end are.
+        let place = (edited + at).wrapping_sub(leaves::LONGEST);
         let mut pair = [rows::digit(first, place), rows::digit(second, place)];
         if place == edited {
-            pair[row] = digit;
+            pair[row] = digit as u8;
         }
-        table.sums[pair[0]][pair[1]]
-    };
+        *input = rows::input(&table, pair[0], pair[1]);
+    }
+    let inputs = &inputs[..leaves::LONGEST + places];
     let mut digits = [0; leaves::LONGEST + 1];
-    let digits = &mut digits[..=table.code.depth];
+    let digits = &mut digits[..places];
     let find = |window| table.code.search_file(window);
-    rows::convert(&table, find, input, edited, digits)?;
+    rows::convert::<{ leaves::LONGEST + 1 }>(&table, find, inputs, edited, digits)?;
     [first, second][row][edited] = digit as u8;
     Ok(rows::renew(&mut sum[edited..][..digits.len()], digits))
 }

@@ -1,4 +1,5 @@
 //! Times the static library against a fast form of the reference and prints the results as Markdown: `bench [--agree | --quick]`.
+//! `bench --repeat TABLE CALL library|fast` makes one call again and again for some seconds, for a profiler.
 //!
 //! Before anything is timed, library and fast form are compared with the reference, on the tables to be timed and on damaged ones;
 //! `--agree` does only that. `--quick` takes fewer batches.
@@ -42,8 +43,9 @@ fn main() -> ExitCode {
         [] => Some(Effort::FULL),
         ["--quick"] => Some(Effort::QUICK),
         ["--agree"] => None,
+        ["--repeat", table, call, subject] => return report::repeat(table, call, subject),
         _ => {
-            eprintln!("usage: bench [--agree | --quick]");
+            eprintln!("usage: bench [--agree | --quick | --repeat TABLE CALL library|fast]");
             return ExitCode::from(2);
         }
     };

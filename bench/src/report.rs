@@ -1,5 +1,7 @@
 //! The results as Markdown.
 
+use std::process::ExitCode;
+
 use crate::calls::Library;
 use crate::fast::Pairs;
 use crate::interface::{Call, Calls, Lent};
@@ -48,6 +50,26 @@ pub fn print(effort: Effort) {
         println!("\n### Growth with the digits: {}\n", sample.name);
         let cases = DIGITS.map(|length| (format!("{length} digits"), jobs(sample, length)));
         grow(cases.into(), effort);
+    }
+}
+
+/// Makes one call again and again; the table is named as in the report, up to the colon.
+pub fn repeat(table: &str, call: &str, subject: &str) -> ExitCode {
+    let subject: &dyn Calls = match subject {
+        "library" => &Library,
+        _ => &Fast(Pairs::Best),
+    };
+    let samples = tables::samples();
+    let named = |sample: &&Sample| sample.name.split(':').next() == Some(table);
+    let all = samples.iter().find(named).map(|sample| jobs(sample, 256));
+    let job = all.and_then(|jobs| jobs.into_iter().find(|job| job.name == call));
+    match job {
+        Some(job) => {
+            let figures = measure(&[subject], &job.calls, &job.lent, Effort::LONG);
+            println!("{:.0} ns", figures[0]);
+            ExitCode::SUCCESS
+        }
+        None => ExitCode::FAILURE,
     }
 }
 

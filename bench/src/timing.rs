@@ -16,6 +16,10 @@ impl Effort {
         batch: Duration::from_millis(2),
         batches: 100,
     };
+    pub const LONG: Effort = Effort {
+        batch: Duration::from_millis(2),
+        batches: 1_500,
+    };
     pub const QUICK: Effort = Effort {
         batch: Duration::from_millis(1),
         batches: 20,

@@ -1,6 +1,6 @@
 //! The alphabet with a perfect hash from keys to indexes (rule 7).
 
-use super::layout::{key, Sections};
+use super::layout::{element, key, Sections};
 
 const SLOTS: usize = 256;
 const MOST_DIGITS: usize = 16;
@@ -18,14 +18,13 @@ impl Alphabet {
     /// The alphabet, if its record 0 is zero and none repeats.
     pub fn of(sections: &Sections) -> Option<Alphabet> {
         let mut alphabet = Alphabet {
-            count: sections.alphabet.len() / 4,
+            count: sections.alphabet.len(),
             keys: [0; MOST_DIGITS],
             multiplier: 0x9e37_79b9_7f4a_7c15,
             slots: [0; SLOTS],
         };
-        let records = sections.alphabet.chunks_exact(4);
-        for (slot, record) in alphabet.keys.iter_mut().zip(records) {
-            *slot = key(record);
+        for (slot, record) in alphabet.keys.iter_mut().zip(sections.alphabet) {
+            *slot = key(element(record));
         }
         if alphabet.keys[0] != 0 {
             return None;

@@ -17,9 +17,9 @@ pub const RECORDS: [(usize, usize, usize); 5] = [
 pub struct Sections<'a> {
     /// Multiplication by the base: β and β·ω.
     pub base: [[i64; 2]; 2],
-    pub alphabet: &'a [u8],
-    pub inputs: &'a [u8],
-    pub leaves: &'a [u8],
+    pub alphabet: &'a [[u8; 4]],
+    pub inputs: &'a [[u8; 4]],
+    pub leaves: &'a [[u8; 8]],
     pub words: &'a [u8],
     /// Section 4 with the eight bytes in front of it: a word that ends at e is the end of the eight bytes from e on.
     pub before_words: &'a [u8],
@@ -42,9 +42,9 @@ pub fn sections(file: &[u8]) -> Option<Sections<'_>> {
     }
     Some(Sections {
         base: [[u, v], [t * v, u + s * v]],
-        alphabet: part(1),
-        inputs: part(2),
-        leaves: part(3),
+        alphabet: part(1).as_chunks().0,
+        inputs: part(2).as_chunks().0,
+        leaves: part(3).as_chunks().0,
         words: part(4),
         before_words: &file[ends[4] - 8..],
     })
@@ -101,18 +101,21 @@ pub fn signed(bytes: &[u8], at: usize) -> i16 {
     i16::from_le_bytes([bytes[at], bytes[at + 1]])
 }
 
-/// The element of a record as one key, a·2³² + b modulo 2⁶⁴. Keys add as elements do, and parts below 2³¹ have keys of their own.
-pub fn key(record: &[u8]) -> u64 {
-    let (a, b) = (i64::from(signed(record, 0)), i64::from(signed(record, 2)));
+/// The element in four bytes.
+pub fn element(bytes: &[u8; 4]) -> [i64; 2] {
+    let [a0, a1, b0, b1] = *bytes;
+    [[a0, a1], [b0, b1]].map(|part| i64::from(i16::from_le_bytes(part)))
+}
+
+/// An element as one key, a·2³² + b modulo 2⁶⁴. Keys add as elements do, and elements with parts below 2³¹ have keys of their own.
+pub fn key([a, b]: [i64; 2]) -> u64 {
     (a << 32).wrapping_add(b) as u64
 }
 
-/// The key of β times the element of a record.
-pub fn key_times_base(base: &[[i64; 2]; 2], record: &[u8]) -> u64 {
-    let (a, b) = (i64::from(signed(record, 0)), i64::from(signed(record, 2)));
-    let image = |[re, im]: [i64; 2]| (re << 32).wrapping_add(im);
-    let product = a
-        .wrapping_mul(image(base[0]))
-        .wrapping_add(b.wrapping_mul(image(base[1])));
-    product as u64
+/// The key of β times an element.
+pub fn key_times_base(base: &[[i64; 2]; 2], [a, b]: [i64; 2]) -> u64 {
+    let [of_one, of_omega] = base.map(key);
+    let (a, b) = (a as u64, b as u64);
+    a.wrapping_mul(of_one)
+        .wrapping_add(b.wrapping_mul(of_omega))
 }

@@ -3,7 +3,7 @@
 use reference::Fault;
 
 use super::author;
-use super::layout::{is_expanding, is_square, key, signed, unsigned, RECORDS};
+use super::layout::{element, is_expanding, is_square, key, signed, unsigned, RECORDS};
 
 /// The fault of a file that breaks a rule of 1 to 13.
 pub fn first_broken(file: &[u8]) -> Fault {
@@ -69,7 +69,14 @@ fn contents(file: &[u8]) -> Result<(), Fault> {
     let [s, t, u, v] = [0, 2, 4, 6].map(|at| i64::from(signed(section(file, 0), at)));
     demand(!is_square(s * s + 4 * t), 5, 0)?;
     demand(is_expanding([s, t, u, v]), 6, 0)?;
-    let keys = |number| section(file, number).chunks_exact(4).map(key).collect();
+    let keys = |number| {
+        section(file, number)
+            .as_chunks()
+            .0
+            .iter()
+            .map(|x| key(element(x)))
+            .collect()
+    };
     let (alphabet, inputs): (Vec<u64>, Vec<u64>) = (keys(1), keys(2));
     for (record, digit) in alphabet.iter().enumerate() {
         demand(new_digit(&alphabet, record, *digit), 7, record)?;

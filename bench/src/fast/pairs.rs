@@ -1,7 +1,7 @@
 //! Rule 14. The lower leaves that fit an upper one are a run of neighbours, and the runs of upper leaves with the same first digit
 //! follow one another, so both are walked side by side and nothing is searched.
 
-use super::layout::{key, key_times_base};
+use super::layout::{element, key, key_times_base};
 use super::weights::Sets;
 use super::{Pairs, Table};
 
@@ -12,7 +12,7 @@ const FEW_LEAVES: usize = 40;
 
 /// The lowest upper leaf that gives no alphabet digit with some lower leaf that fits.
 pub fn first_bad_upper(table: &Table, pairs: Pairs) -> Option<usize> {
-    let inputs = table.sections.inputs.len() / 4;
+    let inputs = table.sections.inputs.len();
     let few = inputs <= FEW_INPUTS || table.code.count() <= FEW_LEAVES;
     if pairs == Pairs::Runs || few {
         return by_runs(table);
@@ -27,14 +27,14 @@ pub fn first_bad_upper(table: &Table, pairs: Pairs) -> Option<usize> {
 pub fn offset(table: &Table, upper: usize) -> u64 {
     let first = (table.code.keys[upper] >> 56) as usize;
     let carried_up = key_times_base(&table.sections.base, table.code.weight(upper));
-    key(&table.sections.inputs[4 * first..]).wrapping_sub(carried_up)
+    key(element(&table.sections.inputs[first])).wrapping_sub(carried_up)
 }
 
 /// Pair by pair.
 fn by_runs(table: &Table) -> Option<usize> {
     let code = &table.code;
     let weights: Vec<u64> = (0..code.count())
-        .map(|leaf| code.weight_key(leaf))
+        .map(|leaf| key(code.weight(leaf)))
         .collect();
     // The first leaf of the run that fits the upper leaf.
     let mut lower = 0;

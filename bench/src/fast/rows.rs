@@ -2,7 +2,7 @@
 
 use reference::{Element, Fault, Group};
 
-use super::layout::{key, key_times_base, signed};
+use super::layout::{element, key, key_times_base};
 use super::leaves::LONGEST;
 use super::{author, Table};
 
@@ -48,34 +48,46 @@ pub fn check_edit(asked: [u64; 3], places: usize, digits: usize) -> Result<[usiz
     Ok(asked.map(|number| number as usize))
 }
 
-/// The alphabet index at a place of a row, 0 past its end. The remainder changes nothing, it only says that indexes are small.
-#[inline(always)]
-pub fn digit(row: &[u8], place: usize) -> usize {
-    row.get(place).map_or(0, |&index| usize::from(index % 16))
+/// The alphabet index at a place of a row, 0 past its end.
+pub fn digit(row: &[u8], place: usize) -> u8 {
+    row.get(place).copied().unwrap_or(0)
 }
 
-/// The digits of the sum from a place on, or 27. The window moves up one input digit at a time.
+/// The input index of two digits. The remainders change nothing, they only say that indexes are small.
 #[inline(always)]
-pub fn convert(
+pub fn input(table: &Table, first: u8, second: u8) -> u8 {
+    table.sums[usize::from(first % 16)][usize::from(second % 16)]
+}
+
+/// The digits of the sum from a place on, or 27. The row has the input indexes of these places, in front of them the eight below;
+/// the window moves up one of them at a time.
+#[inline(always)]
+pub fn convert<const PLACES: usize>(
     table: &Table,
     find: impl Fn(u64) -> usize,
-    input: impl Fn(usize) -> u8,
+    row: &[u8],
     from: usize,
     digits: &mut [u8],
 ) -> Result<(), Fault> {
     let moved = |window: u64, index: u8| window >> 8 | u64::from(index) << 56;
-    let lower = from.saturating_sub(LONGEST)..from;
-    let mut window = lower.fold(0, |window, place| moved(window, input(place)));
-    let mut below = table.code.weight_key(find(window));
-    for (place, digit) in (from..).zip(digits) {
-        let index = input(place);
-        window = moved(window, index);
-        let leaf = find(window);
-        let carried_up = key_times_base(&table.sections.base, table.code.weight(leaf));
-        let here = key(&table.sections.inputs[4 * usize::from(index)..]);
-        let key = here.wrapping_add(below).wrapping_sub(carried_up);
-        *digit = table.alphabet.index(key).ok_or(author(27, place))?;
-        below = table.code.weight_key(leaf);
+    let (lower, row) = row.split_at(LONGEST);
+    let mut window = lower.iter().fold(0, |window, index| moved(window, *index));
+    let mut below = key(table.code.weight(find(window)));
+    let mut leaves = [0; PLACES];
+    // All three cut to one length, so that no place has to be compared with it.
+    let leaves = &mut leaves[..digits.len()];
+    let row = &row[..digits.len()];
+    for (leaf, index) in leaves.iter_mut().zip(row) {
+        window = moved(window, *index);
+        *leaf = find(window) as u16;
+    }
+    for at in 0..digits.len() {
+        let own = table.code.weight(leaves[at].into());
+        let here = key(element(&table.sections.inputs[usize::from(row[at])]));
+        let carried_up = key_times_base(&table.sections.base, own);
+        let digit = here.wrapping_add(below).wrapping_sub(carried_up);
+        digits[at] = table.alphabet.index(digit).ok_or(author(27, from + at))?;
+        below = key(own);
     }
     Ok(())
 }
@@ -87,7 +99,7 @@ pub fn renew(part: &mut [u8], digits: &[u8]) -> usize {
     changed
 }
 
-/// Rules 20, 21 and 28, and the value. Zeros at the top add nothing.
+/// Rules 20, 21 and 28, and the value. Zeros at the top add nothing and are passed over.
 pub fn value(table: &Table, row: &[u8]) -> Result<Element, Fault> {
     if row.len() > LONGEST_ROW {
         return Err(of_rows(20, 0));
@@ -95,17 +107,22 @@ pub fn value(table: &Table, row: &[u8]) -> Result<Element, Fault> {
     check_digits(row, table.alphabet.count, 21)?;
     let [[u, v], [tv, usv]] = table.sections.base;
     let limit = i64::from(i32::MAX);
-    let digits = row.iter().rposition(|&index| index != 0);
     let (mut a, mut b) = (0, 0);
-    for place in (0..digits.map_or(0, |top| top + 1)).rev() {
-        let record = &table.sections.alphabet[4 * usize::from(row[place])..];
-        let (digit_a, digit_b) = (i64::from(signed(record, 0)), i64::from(signed(record, 2)));
-        (a, b) = (u * a + tv * b + digit_a, v * a + usv * b + digit_b);
+    for place in (0..significant(row)).rev() {
+        let digit = element(&table.sections.alphabet[usize::from(row[place])]);
+        (a, b) = (u * a + tv * b + digit[0], v * a + usv * b + digit[1]);
         if a.abs() > limit || b.abs() > limit {
             return Err(of_rows(28, place));
         }
     }
     Ok(Element::new(a, b))
+}
+
+/// The length of a row without the zeros at its top, to within 16.
+fn significant(row: &[u8]) -> usize {
+    let (rest, blocks) = row.as_rchunks::<16>();
+    let last = blocks.iter().rposition(|block| *block != [0; 16]);
+    rest.len() + 16 * last.map_or(0, |last| last + 1)
 }
 
 fn of_rows(number: u8, place: usize) -> Fault {

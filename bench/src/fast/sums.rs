@@ -1,6 +1,6 @@
 //! The input digits as the sums of two alphabet digits (rule 8), each sum indexed once.
 
-use super::layout::{signed, Sections};
+use super::layout::{element, Sections};
 
 const MOST_DIGITS: usize = 16;
 
@@ -13,8 +13,9 @@ struct Inputs<const SLOTS: usize> {
 }
 
 /// An element as one number that adds as elements do; parts up to 128 have numbers of their own.
-fn number(record: &[u8]) -> i32 {
-    512 * i32::from(signed(record, 0)) + i32::from(signed(record, 2))
+fn number(record: &[u8; 4]) -> i32 {
+    let [a, b] = element(record);
+    (512 * a + b) as i32
 }
 
 impl<const SLOTS: usize> Inputs<SLOTS> {
@@ -28,9 +29,9 @@ impl<const SLOTS: usize> Inputs<SLOTS> {
     }
 
     /// The table of all input digits, if record 0 is zero and none repeats.
-    fn of(records: &[u8]) -> Option<Self> {
+    fn of(records: &[[u8; 4]]) -> Option<Self> {
         let mut inputs = Inputs { slots: [0; SLOTS] };
-        for (index, record) in records.chunks_exact(4).enumerate() {
+        for (index, record) in records.iter().enumerate() {
             let tag = tag(number(record));
             let slot = inputs.slot(tag);
             if inputs.slots[slot] != 0 {
@@ -38,7 +39,7 @@ impl<const SLOTS: usize> Inputs<SLOTS> {
             }
             inputs.slots[slot] = tag << 8 | index as u32;
         }
-        (number(records) == 0).then_some(inputs)
+        (number(&records[0]) == 0).then_some(inputs)
     }
 }
 
@@ -50,7 +51,7 @@ fn tag(number: i32) -> u32 {
 /// The index of sums, if the input digits are exactly the sums, each once.
 pub fn index(sections: &Sections) -> Option<SumIndex> {
     // A quarter full at most, and small where the table is, since it is cleared for every call.
-    match sections.inputs.len() / 4 {
+    match sections.inputs.len() {
         0..=16 => index_with::<64>(sections),
         17..=34 => index_with::<128>(sections),
         _ => index_with::<512>(sections),
@@ -60,12 +61,12 @@ pub fn index(sections: &Sections) -> Option<SumIndex> {
 fn index_with<const SLOTS: usize>(sections: &Sections) -> Option<SumIndex> {
     let inputs = Inputs::<SLOTS>::of(sections.inputs)?;
     let mut digits = [0; MOST_DIGITS];
-    for (digit, record) in digits.iter_mut().zip(sections.alphabet.chunks_exact(4)) {
+    for (digit, record) in digits.iter_mut().zip(sections.alphabet) {
         *digit = number(record);
     }
     let mut index = [[0; MOST_DIGITS]; MOST_DIGITS];
     let mut used = [0u64; 4];
-    for x in 0..sections.alphabet.len() / 4 {
+    for x in 0..sections.alphabet.len() {
         for y in 0..=x {
             let found = inputs.slots[inputs.slot(tag(digits[x] + digits[y]))];
             if found == 0 {
@@ -79,5 +80,5 @@ fn index_with<const SLOTS: usize>(sections: &Sections) -> Option<SumIndex> {
     }
     // Every sum is an input digit; each input digit is one if as many are used as there are.
     let distinct: u32 = used.iter().map(|word| word.count_ones()).sum();
-    (distinct as usize == sections.inputs.len() / 4).then_some(index)
+    (distinct as usize == sections.inputs.len()).then_some(index)
 }

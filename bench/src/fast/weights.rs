@@ -1,6 +1,7 @@
 //! Rule 14 by sets of weights. Leaves have few different weights; below each node of the tree of words the set of them is a bit mask,
 //! and an upper leaf is judged against the whole run of its lower leaves at once.
 
+use super::layout::key;
 use super::pairs::offset;
 use super::Table;
 
@@ -25,7 +26,7 @@ pub struct Sets {
 impl Sets {
     /// The sets, if no more than 64 weights are different.
     pub fn of(table: &Table) -> Option<Sets> {
-        let inputs = table.sections.inputs.len() / 4;
+        let inputs = table.sections.inputs.len();
         let nodes = (table.code.count() - 1) / (inputs - 1);
         let mut sets = Sets {
             inputs,
@@ -43,7 +44,7 @@ impl Sets {
     fn number_weights(&mut self, table: &Table) -> Option<()> {
         let mut slots = [0u8; SLOTS];
         for leaf in 0..table.code.count() {
-            let key = table.code.weight_key(leaf);
+            let key = key(table.code.weight(leaf));
             let mut slot = (key.wrapping_mul(0x9e37_79b9_7f4a_7c15) >> 56) as usize;
             loop {
                 let number = usize::from(slots[slot]);
