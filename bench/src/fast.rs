@@ -34,7 +34,7 @@ struct Table<'a> {
 /// How the pairs of rule 14 are gone through.
 #[derive(Clone, Copy, PartialEq)]
 pub enum Pairs {
-    /// Whichever is quicker for the number of input digits.
+    /// Whichever is quicker for the number of leaves.
     Best,
     /// One fitting pair after the other.
     Runs,

@@ -50,9 +50,10 @@ fn main() -> ExitCode {
         }
     };
     match agree::compare_all() {
-        Ok(calls) => {
-            println!("Same answers and buffers in {calls} calls, damaged tables among them.")
-        }
+        Ok(tally) => println!(
+            "Library, fast form and reference gave the same answers and buffers in {} calls; refusals among them: {:?}.\n",
+            tally.calls, tally.refusals
+        ),
         Err(difference) => {
             println!("{difference}");
             return ExitCode::FAILURE;

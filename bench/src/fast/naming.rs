@@ -38,7 +38,7 @@ fn layout(file: &[u8]) -> Result<(), Fault> {
     for (number, (record, least, most)) in RECORDS.into_iter().enumerate() {
         let length = section(file, number).len();
         let allowed = (least * record..=most * record).contains(&length);
-        demand(length % record == 0 && allowed, 3, number)?;
+        demand(length.is_multiple_of(record) && allowed, 3, number)?;
     }
     let numbers = [
         (0, 4, 0, 64),

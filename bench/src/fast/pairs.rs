@@ -5,16 +5,12 @@ use super::layout::{element, key, key_times_base};
 use super::weights::Sets;
 use super::{Pairs, Table};
 
-/// With so few input digits the pairs are gone through one by one, since they are few; measured.
-const FEW_INPUTS: usize = 8;
-/// With so few leaves as well.
-const FEW_LEAVES: usize = 40;
+/// With so few leaves the pairs are gone through one by one, since the sets of weights cost more to make; measured.
+const FEW_LEAVES: usize = 20;
 
 /// The lowest upper leaf that gives no alphabet digit with some lower leaf that fits.
 pub fn first_bad_upper(table: &Table, pairs: Pairs) -> Option<usize> {
-    let inputs = table.sections.inputs.len();
-    let few = inputs <= FEW_INPUTS || table.code.count() <= FEW_LEAVES;
-    if pairs == Pairs::Runs || few {
+    if pairs == Pairs::Runs || table.code.count() <= FEW_LEAVES {
         return by_runs(table);
     }
     match Sets::of(table) {
@@ -24,6 +20,7 @@ pub fn first_bad_upper(table: &Table, pairs: Pairs) -> Option<usize> {
 }
 
 /// What an upper leaf adds to a lower leaf's weight: its first digit minus β times its weight.
+#[inline(always)]
 pub fn offset(table: &Table, upper: usize) -> u64 {
     let first = (table.code.keys[upper] >> 56) as usize;
     let carried_up = key_times_base(&table.sections.base, table.code.weight(upper));
