@@ -8,10 +8,13 @@ use crate::interface::{Call, Calls, Lent};
 use crate::lend;
 use crate::subject::Fast;
 use crate::tables::{self, Sample};
-use crate::timing::{measure, Effort};
+use crate::timing::{Effort, Race};
 
 const LEAVES: [usize; 4] = [500, 1_000, 2_000, 4_000];
 const DIGITS: [usize; 3] = [16, 64, 256];
+const LIBRARY: &dyn Calls = &Library;
+const FAST: &dyn Calls = &Fast(Pairs::Best);
+const BY_PAIRS: &dyn Calls = &Fast(Pairs::Runs);
 
 /// A timed call: its name, the list that is run and the buffers.
 struct Job {
@@ -33,91 +36,149 @@ fn jobs(sample: &Sample, length: usize) -> Vec<Job> {
     ]
 }
 
-pub fn print(effort: Effort) {
-    println!("Nanoseconds a call, the quickest of many batches that took turns. Buffers were not cleared between calls.");
-    compare(effort);
-    for (family, samples) in tables::growing(LEAVES) {
-        println!("\n### Growth with the leaves: {family}, rows of 256 digits\n");
-        let cases = samples.iter().map(|sample| {
-            (
-                format!("{} leaves", sample.parts.leaves.len()),
-                jobs(sample, 256),
-            )
-        });
-        grow(cases.collect(), effort);
-    }
-    for sample in tables::samples().iter().filter(|sample| sample.accepted) {
-        println!("\n### Growth with the digits: {}\n", sample.name);
-        let cases = DIGITS.map(|length| (format!("{length} digits"), jobs(sample, length)));
-        grow(cases.into(), effort);
-    }
+/// A table of results: what stands in front of each line, and its races.
+struct Sheet {
+    title: String,
+    columns: Vec<String>,
+    lines: Vec<(String, Vec<Race>)>,
+    cell: fn(&[f64]) -> String,
 }
 
-/// Makes one call again and again; the table is named as in the report, up to the colon.
-pub fn repeat(table: &str, call: &str, subject: &str) -> ExitCode {
-    let subject: &dyn Calls = match subject {
-        "library" => &Library,
-        _ => &Fast(Pairs::Best),
-    };
-    let samples = tables::samples();
-    let named = |sample: &&Sample| sample.name.split(':').next() == Some(table);
-    let all = samples.iter().find(named).map(|sample| jobs(sample, 256));
-    let job = all.and_then(|jobs| jobs.into_iter().find(|job| job.name == call));
-    match job {
-        Some(job) => {
-            let figures = measure(&[subject], &job.calls, &job.lent, Effort::LONG);
-            println!("{:.0} ns", figures[0]);
-            ExitCode::SUCCESS
+impl Sheet {
+    fn print(&self) {
+        println!("\n### {}\n\n| {} |", self.title, self.columns.join(" | "));
+        println!("|{}", "---|".repeat(self.columns.len()));
+        for (front, races) in &self.lines {
+            let cells: Vec<String> = races
+                .iter()
+                .map(|race| (self.cell)(&race.figures()))
+                .collect();
+            println!("| {front} | {} |", cells.join(" | "));
         }
-        None => ExitCode::FAILURE,
     }
 }
 
-/// The main comparison.
-fn compare(effort: Effort) {
-    println!("\n### Rows of 256 digits\n");
-    println!("| table | call | library | fast form | library / fast |");
-    println!("|---|---|--:|--:|--:|");
+/// Measures everything and prints it.
+pub fn print(effort: Effort) {
+    println!("Nanoseconds a call, the quickest of many batches that took turns. Caches are warm; buffers were not cleared between");
+    println!("calls, so a sum is written over the sum before it. The tables:\n");
+    for sample in tables::samples() {
+        println!("- {}", sample.name);
+    }
+    let mut sheets = vec![comparison()];
+    sheets.extend(tables::growing(LEAVES).map(|(family, samples)| leaf_growth(family, &samples)));
+    let accepted = tables::samples()
+        .into_iter()
+        .filter(|sample| sample.accepted);
+    sheets.extend(accepted.map(|sample| digit_growth(&sample)));
+    for _ in 0..effort.rounds {
+        let lines = sheets.iter_mut().flat_map(|sheet| &mut sheet.lines);
+        lines
+            .flat_map(|line| &mut line.1)
+            .for_each(|race| race.run(effort.batches));
+    }
+    sheets.iter().for_each(Sheet::print);
+}
+
+/// A sample's name without its figures.
+fn short_name(sample: &Sample) -> &str {
+    sample.name.split(':').next().unwrap_or_default()
+}
+
+/// The main comparison: all tables, rows of 256 digits.
+fn comparison() -> Sheet {
+    let mut lines = Vec::new();
     for sample in tables::samples() {
         for job in jobs(&sample, 256) {
-            compare_job(&sample, &job, effort);
+            let mut subjects = vec![LIBRARY, FAST];
+            if job.name == "check" && sample.accepted {
+                subjects.push(BY_PAIRS);
+            }
+            let race = Race::new(&subjects, job.calls, &job.lent);
+            lines.push((
+                format!("{} | {}", short_name(&sample), job.name),
+                vec![race],
+            ));
         }
     }
+    let columns = [
+        "table",
+        "call",
+        "library",
+        "fast form",
+        "library / fast",
+        "fast form pair by pair",
+    ];
+    Sheet {
+        title: "Rows of 256 digits".into(),
+        columns: columns.map(String::from).into(),
+        lines,
+        cell: |figures| {
+            let (library, fast) = (figures[0], figures[1]);
+            let by_pairs = figures.get(2).map(|figure| format!("{figure:.0}"));
+            let ratio = library / fast;
+            format!(
+                "{library:.0} | {fast:.0} | {ratio:.2} | {}",
+                by_pairs.unwrap_or_default()
+            )
+        },
+    }
 }
 
-fn compare_job(sample: &Sample, job: &Job, effort: Effort) {
-    let runs = Fast(Pairs::Runs);
-    let mut subjects: Vec<&dyn Calls> = vec![&Library, &Fast(Pairs::Best)];
-    if job.name == "check" && sample.accepted {
-        subjects.push(&runs);
-    }
-    let figures = measure(&subjects, &job.calls, &job.lent, effort);
-    let ways = ["", ", pair by pair in the fast form"];
-    for (way, fast) in ways.iter().zip(&figures[1..]) {
-        let library = figures[0];
-        println!(
-            "| {} | {}{way} | {library:.0} | {fast:.0} | {:.2} |",
-            sample.name,
-            job.name,
-            library / fast
-        );
-    }
+fn leaf_growth(family: &str, samples: &[Sample]) -> Sheet {
+    let case = |sample: &Sample| (sample.size.clone(), jobs(sample, 256));
+    let title = format!("Growth with the leaves: {family}, rows of 256 digits");
+    growth(title, samples.iter().map(case).collect())
 }
 
-/// One line a call, one column a case: library, fast form and their ratio.
-fn grow(cases: Vec<(String, Vec<Job>)>, effort: Effort) {
-    let columns: Vec<&str> = cases.iter().map(|case| case.0.as_str()).collect();
-    println!("| call | {} |", columns.join(" | "));
-    println!("|---|{}", "--:|".repeat(columns.len()));
-    for call in 0..4 {
-        let cell = |case: &(String, Vec<Job>)| {
-            let job = &case.1[call];
-            let subjects: [&dyn Calls; 2] = [&Library, &Fast(Pairs::Best)];
-            let figures = measure(&subjects, &job.calls, &job.lent, effort);
+fn digit_growth(sample: &Sample) -> Sheet {
+    let cases = DIGITS.map(|length| (format!("{length} digits"), jobs(sample, length)));
+    growth(
+        format!("Growth with the digits: {}", short_name(sample)),
+        cases.into(),
+    )
+}
+
+/// One line a call, one column a case.
+fn growth(title: String, cases: Vec<(String, Vec<Job>)>) -> Sheet {
+    let mut columns = vec!["call: library / fast form".to_string()];
+    let mut lines: Vec<(String, Vec<Race>)> = Vec::new();
+    for (column, jobs) in cases {
+        columns.push(column);
+        for (line, job) in jobs.into_iter().enumerate() {
+            if line == lines.len() {
+                lines.push((job.name.into(), Vec::new()));
+            }
+            lines[line]
+                .1
+                .push(Race::new(&[LIBRARY, FAST], job.calls, &job.lent));
+        }
+    }
+    Sheet {
+        title,
+        columns,
+        lines,
+        cell: |figures| {
             let (library, fast) = (figures[0], figures[1]);
             format!("{library:.0} / {fast:.0} = {:.2}", library / fast)
-        };
-        let cells: Vec<String> = cases.iter().map(cell).collect();
-        println!("| {} | {} |", cases[0].1[call].name, cells.join(" | "));
+        },
     }
+}
+
+/// Makes one call again and again.
+pub fn repeat(table: &str, call: &str, subject: &str) -> ExitCode {
+    let subject = match subject {
+        "library" => LIBRARY,
+        _ => FAST,
+    };
+    let samples = tables::samples();
+    let sample = samples.iter().find(|sample| short_name(sample) == table);
+    let jobs = sample.map(|sample| jobs(sample, 256)).into_iter().flatten();
+    let Some(job) = jobs.into_iter().find(|job| job.name == call) else {
+        return ExitCode::FAILURE;
+    };
+    let mut race = Race::new(&[subject], job.calls, &job.lent);
+    race.run(Effort::LONG.batches);
+    println!("{:.0} ns", race.figures()[0]);
+    ExitCode::SUCCESS
 }

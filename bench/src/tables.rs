@@ -9,6 +9,8 @@ use crate::search::{self, System};
 /// A table with a name for the report.
 pub struct Sample {
     pub name: String,
+    /// Its leaves and fitting pairs.
+    pub size: String,
     pub parts: Parts,
     /// The check accepts it; the others are refused by rule 14 alone.
     pub accepted: bool,
@@ -48,13 +50,30 @@ pub fn growing(leaves: [usize; 4]) -> [(&'static str, Vec<Sample>); 2] {
 fn sample(name: &str, parts: Parts, accepted: bool) -> Sample {
     let (leaves, inputs) = (parts.leaves.len(), parts.inputs.len());
     let depth = parts.leaves.iter().map(|leaf| leaf.0.len()).max();
-    let bytes = parts.write().len();
-    let depth = depth.unwrap_or(0);
+    let (depth, bytes) = (depth.unwrap_or(0), parts.write().len());
+    let pairs = fitting_pairs(&parts);
+    let refused = if accepted { "" } else { "; refused by 14" };
     Sample {
-        name: format!("{name}: {leaves} leaves, {inputs} inputs, depth {depth}, {bytes} bytes"),
+        name: format!(
+            "{name}: {leaves} leaves, {pairs} fitting pairs, {inputs} inputs, depth {depth}, {bytes} bytes{refused}"
+        ),
+        size: format!("{leaves} leaves, {pairs} pairs"),
         parts,
         accepted,
     }
+}
+
+/// How many pairs rule 14 speaks of, counted one by one.
+fn fitting_pairs(parts: &Parts) -> usize {
+    let fit = |upper: &[u8], lower: &[u8]| upper[1..].iter().zip(lower).all(|(x, y)| x == y);
+    let lower_of = |upper: &[u8]| {
+        parts
+            .leaves
+            .iter()
+            .filter(|lower| fit(upper, &lower.0))
+            .count()
+    };
+    parts.leaves.iter().map(|upper| lower_of(&upper.0)).sum()
 }
 
 /// About 300 leaves, as the search finds them.
