@@ -1,0 +1,137 @@
+//! A fast form of the reference: the same calls with the best algorithms we know, to measure the proved library against.
+//!
+//! - Rules 1 to 13 are judged by passes that only say yes or no, nearly without branches; after a no a second pass names the fault.
+//! - An element is one 64-bit key, a·2³² + b, on which sums, differences and β act as on the element; the alphabet has a perfect hash.
+//! - A word is a left-aligned big-endian number, so that order, "begins" and the window's search are comparisons of numbers.
+//! - Rule 12 adds up how many strings each word begins; the sums of two digits are indexed once a call.
+//! - Rule 14 walks upper and lower leaves side by side, in runs of neighbours or by sets of weights.
+#![forbid(unsafe_code)]
+
+mod alphabet;
+mod layout;
+mod leaves;
+mod naming;
+mod pairs;
+mod rows;
+mod sums;
+mod weights;
+
+use reference::{Element, Fault, Group, TableFacts};
+
+use alphabet::Alphabet;
+use layout::Sections;
+use leaves::Code;
+use sums::SumIndex;
+
+/// A table past 1 to 13.
+struct Table<'a> {
+    sections: Sections<'a>,
+    alphabet: Alphabet,
+    sums: SumIndex,
+    code: Code<'a>,
+}
+
+/// How the pairs of rule 14 are gone through.
+#[derive(Clone, Copy, PartialEq)]
+pub enum Pairs {
+    /// Whichever is quicker for the number of leaves.
+    Best,
+    /// One fitting pair after the other.
+    Runs,
+}
+
+/// Rules 1 to 13. With `KEYS` the words are kept as numbers, for calls that search among them often.
+fn read<const KEYS: bool>(file: &[u8]) -> Result<Table<'_>, Fault> {
+    accept::<KEYS>(file).ok_or_else(|| naming::first_broken(file))
+}
+
+/// The table, if no rule of 1 to 13 is broken.
+fn accept<const KEYS: bool>(file: &[u8]) -> Option<Table<'_>> {
+    let sections = layout::sections(file)?;
+    let alphabet = Alphabet::of(&sections)?;
+    let sums = sums::index(&sections)?;
+    let code = leaves::code::<KEYS>(&sections)?;
+    Some(Table {
+        sections,
+        alphabet,
+        sums,
+        code,
+    })
+}
+
+/// The table check.
+pub fn check(file: &[u8], pairs: Pairs) -> Result<TableFacts, Fault> {
+    let table = read::<true>(file)?;
+    match pairs::first_bad_upper(&table, pairs) {
+        Some(upper) => Err(author(14, upper)),
+        None => Ok(TableFacts {
+            depth: table.code.depth,
+            leaves: table.code.count(),
+            digits: table.alphabet.count,
+        }),
+    }
+}
+
+/// Addition.
+pub fn add(file: &[u8], first: &[u8], second: &[u8], sum: &mut [u8]) -> Result<usize, Fault> {
+    let table = read::<true>(file)?;
+    rows::check(&table, first, second, sum.len())?;
+    let places = first.len() + table.code.depth;
+    let mut row = [0; leaves::LONGEST + rows::MOST_PLACES];
+    let pairs = first.iter().zip(second);
+    for (input, (x, y)) in row[leaves::LONGEST..].iter_mut().zip(pairs) {
+        *input = rows::input(&table, *x, *y);
+    }
+    let row = &row[..leaves::LONGEST + places];
+    let by_first = table.code.first_digits(table.sections.inputs.len());
+    let mut digits = [0; rows::MOST_PLACES];
+    let digits = &mut digits[..places];
+    let find = |window| by_first.search(window);
+    rows::convert::<{ rows::MOST_PLACES }>(&table, find, row, 0, digits)?;
+    sum[..places].copy_from_slice(digits);
+    Ok(places)
+}
+
+/// The digit edit; asked are row number, place and digit.
+pub fn edit(
+    file: &[u8],
+    [first, second]: [&mut [u8]; 2],
+    sum: &mut [u8],
+    asked: [u64; 3],
+) -> Result<usize, Fault> {
+    let table = read::<false>(file)?;
+    rows::check(&table, first, second, sum.len())?;
+    let [row, edited, digit] = rows::check_edit(asked, first.len(), table.alphabet.count)?;
+    let places = table.code.depth + 1;
+    let mut inputs = [0; 2 * leaves::LONGEST + 1];
+    for (at, input) in inputs[..leaves::LONGEST + places].iter_mut().enumerate() {
+        // Places below 0 are zero, as those past the rows' end are.
+        let place = (edited + at).wrapping_sub(leaves::LONGEST);
+        let mut pair = [rows::digit(first, place), rows::digit(second, place)];
+        if place == edited {
+            pair[row] = digit as u8;
+        }
+        *input = rows::input(&table, pair[0], pair[1]);
+    }
+    let inputs = &inputs[..leaves::LONGEST + places];
+    let mut digits = [0; leaves::LONGEST + 1];
+    let digits = &mut digits[..places];
+    let find = |window| table.code.search_file(window);
+    rows::convert::<{ leaves::LONGEST + 1 }>(&table, find, inputs, edited, digits)?;
+    [first, second][row][edited] = digit as u8;
+    Ok(rows::renew(&mut sum[edited..][..digits.len()], digits))
+}
+
+/// The value of a row.
+pub fn value(file: &[u8], row: &[u8]) -> Result<Element, Fault> {
+    let table = read::<false>(file)?;
+    rows::value(&table, row)
+}
+
+fn author(number: u8, place: usize) -> Fault {
+    Fault {
+        group: Group::Author,
+        number,
+        place,
+    }
+}

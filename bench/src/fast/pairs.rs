@@ -1,0 +1,77 @@
+//! Rule 14. The lower leaves that fit an upper one are a run of neighbours, and the runs of upper leaves with the same first digit
+//! follow one another, so both are walked side by side and nothing is searched.
+
+use super::layout::{element, key, key_times_base};
+use super::weights::Sets;
+use super::{Pairs, Table};
+
+/// With so few leaves the pairs are gone through one by one, since the sets of weights cost more to make. Chosen between TERN, where
+/// that is quicker, and the table of 287 leaves, where it isn't; nothing in between was tried.
+const FEW_LEAVES: usize = 20;
+
+/// The lowest upper leaf that gives no alphabet digit with some lower leaf that fits.
+pub fn first_bad_upper(table: &Table, pairs: Pairs) -> Option<usize> {
+    if pairs == Pairs::Runs || table.code.count() <= FEW_LEAVES {
+        return by_runs(table);
+    }
+    match Sets::of(table) {
+        Some(sets) => sets.first_bad_upper(table),
+        None => by_runs(table),
+    }
+}
+
+/// What an upper leaf adds to a lower leaf's weight: its first digit minus β times its weight.
+#[inline(always)]
+pub fn offset(table: &Table, upper: usize) -> u64 {
+    let first = (table.code.keys[upper] >> 56) as usize;
+    let carried_up = key_times_base(&table.sections.base, table.code.weight(upper));
+    key(element(&table.sections.inputs[first])).wrapping_sub(carried_up)
+}
+
+/// Pair by pair.
+fn by_runs(table: &Table) -> Option<usize> {
+    let code = &table.code;
+    let weights: Vec<u64> = (0..code.count())
+        .map(|leaf| key(code.weight(leaf)))
+        .collect();
+    // The first leaf of the run that fits the upper leaf.
+    let mut lower = 0;
+    for upper in 0..code.count() {
+        let offset = offset(table, upper);
+        let run = run(&code.keys, lower, tail_end(table, upper));
+        let good = |weight: &u64| table.alphabet.index(weight.wrapping_add(offset)).is_some();
+        if !weights[lower..run].iter().all(good) {
+            return Some(upper);
+        }
+        lower = next_lower(table, upper, run - 1);
+    }
+    None
+}
+
+/// The end of the run of leaves from one on whose words are below a bound; the one itself is in it.
+fn run(keys: &[u64], lower: usize, bound: Option<u64>) -> usize {
+    let Some(bound) = bound else {
+        return keys.len();
+    };
+    let others = keys[lower + 1..].iter().take_while(|word| **word < bound);
+    lower + 1 + others.count()
+}
+
+/// The number above the upper word without its first digit, and all that it begins; none if that is every string.
+fn tail_end(table: &Table, upper: usize) -> Option<u64> {
+    let tail_length = table.code.length(upper) - 1;
+    let unit = 1u64.checked_shl(64 - 8 * tail_length as u32)?;
+    Some((table.code.keys[upper] << 8) + unit)
+}
+
+/// The first lower leaf of the next upper leaf: the last of this run where it reaches beyond this upper leaf.
+fn next_lower(table: &Table, upper: usize, last: usize) -> usize {
+    let Some(&next) = table.code.keys.get(upper + 1) else {
+        return 0;
+    };
+    if next >> 56 != table.code.keys[upper] >> 56 {
+        return 0;
+    }
+    let end = table.code.keys.get(last + 1).copied().unwrap_or(u64::MAX);
+    last + usize::from(next << 8 >= end)
+}

@@ -1,0 +1,66 @@
+//! Times the static library against a fast form of the reference and prints the results as Markdown: `bench [--agree | --quick]`.
+//! `bench --repeat TABLE CALL library|fast` makes one call again and again for some seconds, for a profiler.
+//!
+//! Before anything is timed, library and fast form are compared with the reference, on the tables to be timed and on damaged ones;
+//! `--agree` does only that. `--quick` takes fewer batches.
+#![deny(unsafe_code)]
+
+mod agree;
+#[path = "../../differential/src/calls.rs"]
+#[allow(unsafe_code)]
+mod calls;
+#[path = "../../differential/src/codes.rs"]
+mod codes;
+#[path = "../../differential/src/damage.rs"]
+mod damage;
+mod fast;
+#[path = "../../differential/src/interface.rs"]
+#[allow(dead_code)]
+mod interface;
+mod lend;
+#[path = "../../differential/src/model.rs"]
+mod model;
+#[path = "../../differential/src/random.rs"]
+#[allow(dead_code)]
+mod random;
+mod report;
+#[path = "../../differential/src/search.rs"]
+#[allow(dead_code)]
+mod search;
+mod subject;
+mod tables;
+mod timing;
+
+use std::env;
+use std::process::ExitCode;
+
+use timing::Effort;
+
+fn main() -> ExitCode {
+    let arguments: Vec<String> = env::args().skip(1).collect();
+    let words: Vec<&str> = arguments.iter().map(String::as_str).collect();
+    let effort = match words[..] {
+        [] => Some(Effort::FULL),
+        ["--quick"] => Some(Effort::QUICK),
+        ["--agree"] => None,
+        ["--repeat", table, call, subject] => return report::repeat(table, call, subject),
+        _ => {
+            eprintln!("usage: bench [--agree | --quick | --repeat TABLE CALL library|fast]");
+            return ExitCode::from(2);
+        }
+    };
+    match agree::compare_all() {
+        Ok(tally) => println!(
+            "Library, fast form and reference gave the same answers and buffers in {} calls; refusals among them: {:?}.\n",
+            tally.calls, tally.refusals
+        ),
+        Err(difference) => {
+            println!("{difference}");
+            return ExitCode::FAILURE;
+        }
+    }
+    if let Some(effort) = effort {
+        report::print(effort);
+    }
+    ExitCode::SUCCESS
+}

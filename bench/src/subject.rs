@@ -1,0 +1,62 @@
+//! The fast form behind the C interface's calls, so that it is compared and timed as the library is.
+
+use reference::{Fault, Group};
+
+use crate::fast::{self, Pairs};
+use crate::interface::{Call, Calls, Lent, ANSWER_WORDS, FACTS, FAULT, TOO_SHORT};
+
+/// The fast form, with one of its ways through the pairs of rule 14.
+pub struct Fast(pub Pairs);
+
+impl Calls for Fast {
+    fn call(&self, call: &Call, lent: &mut Lent) -> u64 {
+        if lent.answer.len() < ANSWER_WORDS {
+            return TOO_SHORT;
+        }
+        let Lent {
+            table,
+            first,
+            second,
+            sum,
+            answer,
+        } = lent;
+        match *call {
+            Call::Check => store(answer, fast::check(table, self.0), |facts| {
+                [facts.depth, facts.leaves, facts.digits].map(|fact| fact as i64)
+            }),
+            Call::Add => store(answer, fast::add(table, first, second, sum), |places| {
+                [places as i64]
+            }),
+            Call::Edit { row, place, digit } => {
+                let edited = fast::edit(table, [first, second], sum, [row, place, digit]);
+                store(answer, edited, |count| [count as i64])
+            }
+            Call::Value => store(answer, fast::value(table, first), |x| [x.a, x.b]),
+            Call::Midpoint { .. } | Call::Tern | Call::Bin => unreachable!("not a timed call"),
+        }
+    }
+}
+
+/// Writes an answer as the C interface does; what the call returns.
+fn store<F, const N: usize>(
+    words: &mut [i64],
+    answer: Result<F, Fault>,
+    facts: impl FnOnce(F) -> [i64; N],
+) -> u64 {
+    match answer {
+        Ok(known) => {
+            words[0] = 0;
+            words[1..=N].copy_from_slice(&facts(known));
+            FACTS
+        }
+        Err(fault) => {
+            let group = match fault.group {
+                Group::Author => 1,
+                Group::Rows => 2,
+                Group::Editor => 3,
+            };
+            words[..3].copy_from_slice(&[group, fault.number.into(), fault.place as i64]);
+            FAULT
+        }
+    }
+}

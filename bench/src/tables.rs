@@ -1,0 +1,167 @@
+//! The tables that are timed. Each is made from a fixed seed, so that every run has the same ones.
+
+use reference::{Base, Element, Parts};
+
+use crate::codes;
+use crate::random::Random;
+use crate::search::{self, System};
+
+/// A table with a name for the report.
+pub struct Sample {
+    pub name: String,
+    /// Its leaves and fitting pairs.
+    pub size: String,
+    pub parts: Parts,
+    /// The check accepts it; the others are refused by rule 14 alone.
+    pub accepted: bool,
+}
+
+/// The tables of the main comparison.
+pub fn samples() -> Vec<Sample> {
+    let accepted = |name: &str, parts| sample(name, parts, true);
+    vec![
+        accepted("TERN", reference::carried::tern_parts()),
+        accepted("middle", middle()),
+        accepted("many inputs", many_inputs()),
+        accepted("deep", deep()),
+        sample("all inputs", all_inputs(), false),
+    ]
+}
+
+/// Finer codes of one table, for the growth with the leaves: of few inputs and of many.
+pub fn growing(leaves: [usize; 4]) -> [(&'static str, Vec<Sample>); 2] {
+    let family = |parts: Parts| -> Vec<Sample> {
+        let refined = |most| {
+            let mut parts = parts.clone();
+            refine(&mut parts, most, 3);
+            sample("", parts, true)
+        };
+        leaves.into_iter().map(refined).collect()
+    };
+    [
+        (
+            "BIN refined, 5 inputs",
+            family(reference::carried::bin_parts()),
+        ),
+        ("25 inputs", family(boxed([0, 2, 2, 0], [1, 1], 0..=450))),
+    ]
+}
+
+fn sample(name: &str, parts: Parts, accepted: bool) -> Sample {
+    let (leaves, inputs) = (parts.leaves.len(), parts.inputs.len());
+    let depth = parts.leaves.iter().map(|leaf| leaf.0.len()).max();
+    let (depth, bytes) = (depth.unwrap_or(0), parts.write().len());
+    let pairs = fitting_pairs(&parts);
+    let refused = if accepted { "" } else { "; refused by 14" };
+    Sample {
+        name: format!(
+            "{name}: {leaves} leaves, {pairs} fitting pairs, {inputs} inputs, depth {depth}, {bytes} bytes{refused}"
+        ),
+        size: format!("{leaves} leaves, {pairs} pairs"),
+        parts,
+        accepted,
+    }
+}
+
+/// How many pairs rule 14 speaks of, counted one by one.
+fn fitting_pairs(parts: &Parts) -> usize {
+    let fit = |upper: &[u8], lower: &[u8]| upper[1..].iter().zip(lower).all(|(x, y)| x == y);
+    let lower_of = |upper: &[u8]| {
+        parts
+            .leaves
+            .iter()
+            .filter(|lower| fit(upper, &lower.0))
+            .count()
+    };
+    parts.leaves.iter().map(|upper| lower_of(&upper.0)).sum()
+}
+
+/// About 300 leaves, as the search finds them.
+fn middle() -> Parts {
+    let mut random = Random::new(1);
+    loop {
+        let system = search::random_system(&mut random);
+        let found = search::weights(&system, &mut random);
+        if let Some(parts) = found.filter(|parts| (280..=320).contains(&parts.leaves.len())) {
+            return parts;
+        }
+    }
+}
+
+/// 45 inputs and nearly 4,000 leaves, most of them as the search finds them.
+fn many_inputs() -> Parts {
+    let mut parts = boxed([1, -2, 0, 2], [2, 1], 3_500..=4_000);
+    refine(&mut parts, codes::MOST_LEAVES, 2);
+    parts
+}
+
+/// A table whose digits are a box around zero.
+fn boxed(base: [i64; 4], [wide, high]: [i64; 2], leaves: std::ops::RangeInclusive<usize>) -> Parts {
+    let [s, t, u, v] = base;
+    let column = |a| (-high..=high).map(move |b| Element::new(a, b));
+    let mut alphabet: Vec<Element> = (-wide..=wide).flat_map(column).collect();
+    alphabet.sort_by_key(|digit| *digit != Element::ZERO);
+    let mut random = Random::new(1);
+    loop {
+        let system = System {
+            base: Base { s, t, u, v },
+            inputs: search::sums(&alphabet, &mut random),
+            alphabet: alphabet.clone(),
+        };
+        let found = search::weights(&system, &mut random);
+        if let Some(parts) = found.filter(|parts| leaves.contains(&parts.leaves.len())) {
+            return parts;
+        }
+    }
+}
+
+/// Replaces random leaves by their extensions, which keep the weight, as often as it goes below the limit.
+fn refine(parts: &mut Parts, most_leaves: usize, seed: u64) {
+    let mut random = Random::new(seed);
+    while parts.leaves.len() + parts.inputs.len() - 1 <= most_leaves {
+        let at = random.below(parts.leaves.len());
+        if parts.leaves[at].0.len() < codes::LONGEST_WORD {
+            codes::split(parts, at);
+        }
+    }
+}
+
+/// BIN with nearly 4,000 leaves, nearly all of them eight digits long.
+fn deep() -> Parts {
+    let mut parts = reference::carried::bin_parts();
+    let mut at = 2;
+    while parts.leaves.len() + parts.inputs.len() - 1 <= codes::MOST_LEAVES {
+        match parts.leaves[at].0.len() {
+            codes::LONGEST_WORD => at += 1,
+            _ => codes::split(&mut parts, at),
+        }
+    }
+    parts
+}
+
+/// 136 inputs, as many as there can be, and nearly 4,000 leaves of weight zero.
+fn all_inputs() -> Parts {
+    let mut random = Random::new(4);
+    let mut alphabet = vec![Element::ZERO];
+    while alphabet.len() < 16 {
+        let digit = Element::new(random.between(-64, 64), random.between(-64, 64));
+        let mut longer = alphabet.clone();
+        longer.push(digit);
+        let pairs = longer.len() * (longer.len() + 1) / 2;
+        if search::sums(&longer, &mut random).len() == pairs {
+            alphabet = longer;
+        }
+    }
+    let inputs = search::sums(&alphabet, &mut random);
+    let one_digit = |input| (vec![input as u8], Element::ZERO);
+    let leaves = (0..inputs.len()).map(one_digit).collect();
+    let [s, t, u, v] = [0, -1, 3, 0];
+    let system = System {
+        base: Base { s, t, u, v },
+        alphabet,
+        inputs,
+    };
+    let mut parts = search::parts(&system, leaves);
+    refine(&mut parts, codes::MOST_LEAVES, 5);
+    parts
+}
