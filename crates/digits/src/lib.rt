@@ -5,11 +5,11 @@ ghost use mathlib.Core.Bool.{true};
 ghost use Prim.Native.Nat.{ℕ, _+_, _≤_, _<_};
 ghost use lib.ListN.{length, getD};
 ghost use Rattle.faults.specs.Check.{none};
-ghost use Rattle.ring.specs.Element.{Within};
+ghost use Rattle.ring.specs.Element.{plus, Within};
 ghost use Rattle.digits.specs.Record.{elementAt, recordAt, elementCount, indexIn};
 ghost use Rattle.digits.specs.Base.{BasePart, baseMatrix, baseCheck};
 ghost use Rattle.digits.specs.Digits.{recordAllowed, alphabetCheck, sumIndex, sumsListed, allSumsListed, isSum, inputAllowed, inputCheck, digitCheck};
-ghost use Rattle.digits.specs.Marks.{Marked};
+ghost use Rattle.digits.specs.Marks.{slotOf, followed, located, Marked};
 use faults::Refusal;
 
 // The bytes of an element.
@@ -22,6 +22,9 @@ const INPUTS: usize = 2;
 
 // The most input digits.
 const MOST: usize = 136;
+
+// The slots that they are looked up by.
+const SLOTS: usize = 256;
 
 // The element whose first byte stands at a place.
 pub fn element(bytes: &[u8], at: usize) -> [i64; 2]
@@ -192,15 +195,88 @@ fn input_allowed(alphabet: &[u8], inputs: &[u8], k: usize) -> bool
     record_allowed(inputs, k) && is_sum(alphabet, record_at(inputs, k))
 }
 
-// Marks the input index of each sum of alphabet digit i and one up to it; whether every such sum is an input digit.
-fn mark_sums(alphabet: &[u8], inputs: &[u8], i: usize, marks: &mut [u8; MOST]) -> bool
-    requires { ⌜ (i < elementCount (now alphabet)) × (elementCount (now inputs) ≤ 136) × Marked (now alphabet) (now inputs) (now marks) ⌝ }
-    ensures { λ r. ⌜ (r ≡ sumsListed (now (alphabet .entry)) (now (inputs .entry)) i) × Marked (now (alphabet .entry)) (now (inputs .entry)) (now (marks .exit)) ⌝ }
+fn wide(x: u8) -> usize
+    ensures { λ r. ⌜ r ≡ x ⌝ }
+{
+    x as usize
+}
+
+// The slot of an element.
+fn slot(x: [i64; 2]) -> usize
+    requires { ⌜ Within 65536 x ⌝ }
+    ensures { λ r. ⌜ (r ≡ slotOf x) × (r < 256) ⌝ }
+{
+    (x[0] + 31 * x[1] + 4194304) as usize % SLOTS
+}
+
+// Makes each input digit the first of its slot, with a link to the one that was.
+fn link(inputs: &[u8], heads: &mut [u8; SLOTS], links: &mut [u8; MOST])
+    requires { ⌜ elementCount (now inputs) ≤ 136 ⌝ }
+{
+    let count = layout::record_count(inputs, INPUTS);
+    let mut k = 0;
+    while k < count {
+        let place = slot(record_at(inputs, k));
+        links[k] = heads[place];
+        heads[place] = k as u8;
+        k += 1;
+    }
+}
+
+// The input index of an element along the links, or the count of input digits.
+fn follow(inputs: &[u8], links: &[u8; MOST], first: u8, x: [i64; 2]) -> usize
+    requires { ⌜ elementCount (now inputs) ≤ 136 ⌝ }
+    ensures { λ r. ⌜ r ≡ followed (now (inputs .entry)) (now (links .entry)) x 136 first ⌝ }
+{
+    let count = layout::record_count(inputs, INPUTS);
+    let mut at = wide(first);
+    let mut left = MOST;
+    while left > 0 {
+        if at >= count {
+            return count;
+        }
+        if ring::equal(record_at(inputs, at), x) {
+            return at;
+        }
+        at = wide(links[at]);
+        left -= 1;
+    }
+    count
+}
+
+// The input index of the sum of two alphabet digits by its slot, or the count of input digits.
+fn locate(
+    alphabet: &[u8],
+    inputs: &[u8],
+    heads: &[u8; SLOTS],
+    links: &[u8; MOST],
+    i: usize,
+    other: usize,
+) -> usize
+    requires { ⌜ (i < elementCount (now alphabet)) × (other < elementCount (now alphabet)) × (elementCount (now inputs) ≤ 136) ⌝ }
+    ensures { λ r. ⌜ r ≡ located (now (inputs .entry)) (now (heads .entry)) (now (links .entry)) (plus (recordAt (now (alphabet .entry)) i) (recordAt (now (alphabet .entry)) other)) ⌝ }
+{
+    let x = ring::sum(record_at(alphabet, i), record_at(alphabet, other));
+    let place = slot(x);
+    follow(inputs, links, heads[place], x)
+}
+
+// Marks the input index of each sum of alphabet digit i and one up to it; whether every such sum was found.
+fn mark_sums(
+    alphabet: &[u8],
+    inputs: &[u8],
+    heads: &[u8; SLOTS],
+    links: &[u8; MOST],
+    i: usize,
+    marks: &mut [u8; MOST],
+) -> bool
+    requires { ⌜ (i < elementCount (now alphabet)) × (elementCount (now inputs) ≤ 136) × Marked (now alphabet) (located (now inputs) (now heads) (now links)) (now marks) ⌝ }
+    ensures { λ r. ⌜ (r ≡ true → sumsListed (now (alphabet .entry)) (now (inputs .entry)) i ≡ true) × Marked (now (alphabet .entry)) (located (now (inputs .entry)) (now (heads .entry)) (now (links .entry))) (now (marks .exit)) ⌝ }
 {
     let count = layout::record_count(inputs, INPUTS);
     let mut other = 0;
     while other < i + 1 {
-        let found = sum_index(alphabet, inputs, i, other);
+        let found = locate(alphabet, inputs, heads, links, i, other);
         if found >= count {
             return false;
         }
@@ -239,10 +315,13 @@ fn inputs_kept(alphabet: &[u8], inputs: &[u8]) -> bool
     if !record_allowed(inputs, 0) {
         return false;
     }
+    let mut heads = [255; SLOTS];
+    let mut links = [255; MOST];
+    link(inputs, &mut heads, &mut links);
     let mut marks = [0; MOST];
     let mut i = 0;
     while i < n {
-        if !mark_sums(alphabet, inputs, i, &mut marks) {
+        if !mark_sums(alphabet, inputs, &heads, &links, i, &mut marks) {
             return false;
         }
         i += 1;

@@ -1,5 +1,5 @@
-use Rattle.digits.proofs.Marks.{none-marked, all-kept}
-use Rattle.digits.specs.Marks.{Marked}
+use Rattle.digits.proofs.Marks.{located-finds, none-marked, all-kept}
+use Rattle.digits.specs.Marks.{located, Marked}
 use Rattle.digits.specs.Digits.{sumsListed, allSumsListed}
 use Rattle.lists.specs.Scan.{firstFailing, every}
 use Rattle.lists.proofs.Test.{clash}
@@ -14,10 +14,10 @@ use Rattle.digits.proofs.inputs_kept.Statement.{statement}
 use Rattle.digits.proofs.inputs_kept.Tie as tie
 
 abbrev Inv-loop : tie.InvT-loop
-Inv-loop alphabet inputs n count marks₀ i₀ marks i = (i ≤ n) × (firstFailing (sumsListed alphabet inputs) i (n - i) ≡ firstFailing (sumsListed alphabet inputs) 0 n) × Marked alphabet inputs marks
+Inv-loop alphabet inputs n count heads links marks₀ i₀ marks i = (i ≤ n) × (firstFailing (sumsListed alphabet inputs) i (n - i) ≡ firstFailing (sumsListed alphabet inputs) 0 n) × Marked alphabet (located inputs heads links) marks
 
 abbrev μ-loop : tie.MeasureT-loop
-μ-loop alphabet inputs n count marks₀ i₀ marks i = n - i
+μ-loop alphabet inputs n count heads links marks₀ i₀ marks i = n - i
 
 record-count-requires : tie.Need-record-count-requires Inv-loop μ-loop
 record-count-requires c κs = search needs
@@ -37,11 +37,14 @@ record-allowed-requires c κs = omega (arith, c .before .before .record-count2 .
 returns-3 : tie.Need-returns-3 Inv-loop μ-loop
 returns-3 c = λ no. clash no refl
 
+link-requires : tie.Need-link-requires Inv-loop μ-loop
+link-requires c κs = omega (arith, c .before .before .before .before .before .before .record-count2 .ensures)
+
 loop-holds : tie.Need-loop-holds Inv-loop μ-loop
 loop-holds c = (omega arith, simp sub-zero, none-marked _ _ 136)
 
 mark-sums-requires : tie.Need-mark-sums-requires Inv-loop μ-loop
-mark-sums-requires c κs = (omega (arith, c .before .before .before .before .before .before .before .before .record-count .ensures), omega (arith, c .before .before .before .before .before .before .before .record-count2 .ensures), c .before .before .loop .inv .2)
+mark-sums-requires c κs = (omega (arith, c .before .before .before .before .before .before .before .before .before .before .before .before .before .record-count .ensures), omega (arith, c .before .before .before .before .before .before .before .before .before .before .before .before .record-count2 .ensures), c .before .before .before .before .loop .inv .2)
 
 returns-4 : tie.Need-returns-4 Inv-loop μ-loop
 returns-4 c = λ no. clash no refl
@@ -53,14 +56,14 @@ loop-less : tie.Need-loop-less Inv-loop μ-loop
 loop-less c = search needs
 
 loop-again : tie.Need-loop-again Inv-loop μ-loop
-loop-again c = (omega arith, sym (scan-on _ _ _ (c .before .before .before .loop-test .taken) (sym (c .before .mark-sums .ensures .0) ∙ not-false _ (c .if4 .left))) ∙ c .before .before .before .before .loop .inv .1, c .before .mark-sums .ensures .1)
+loop-again c = (omega arith, sym (scan-on _ _ _ (c .before .before .before .before .before .loop-test .taken) (c .before .mark-sums .ensures .0 (not-false _ (c .if4 .left)))) ∙ c .before .before .before .before .before .before .loop .inv .1, c .before .mark-sums .ensures .1)
 
 all-marked-requires : tie.Need-all-marked-requires Inv-loop μ-loop
 all-marked-requires c κs = omega arith
 
 returns-5 : tie.Need-returns-5 Inv-loop μ-loop
 unfolding allSumsListed
-returns-5 c = λ yes. all-kept _ _ (sym (c .before .before .before .before .before .record-allowed .ensures) ∙ not-false _ (c .before .before .before .before .if3 .left)) (ap (every _ 0) (sym (c .before .before .before .before .before .before .before .before .before .record-count .ensures)) ∙ every-out _ _ _ (c .before .before .before .loop .inv .1) (c .before .before .loop-test .left)) (λ k h. c .before .before .before .loop .inv .2 .marked k (c .all-marked .ensures yes k (omega (arith, c .before .before .before .before .before .before .before .before .record-count2 .ensures))))
+returns-5 c = λ yes. all-kept _ _ _ (located-finds _ _ _) (sym (c .before .before .before .before .before .before .before .before .record-allowed .ensures) ∙ not-false _ (c .before .before .before .before .before .before .before .if3 .left)) (λ k h. c .before .before .before .loop .inv .2 .marked k (c .all-marked .ensures yes k (omega (arith, c .before .before .before .before .before .before .before .before .before .before .before .record-count2 .ensures)))) (ap (every _ 0) (sym (c .before .before .before .before .before .before .before .before .before .before .before .before .record-count .ensures)) ∙ every-out _ _ _ (c .before .before .before .loop .inv .1) (c .before .before .loop-test .left))
 
 pub inputs-kept-spec : {M : Type 1} → statement M
 inputs-kept-spec =
@@ -74,6 +77,7 @@ inputs-kept-spec =
     returns-2
     record-allowed-requires
     returns-3
+    link-requires
     loop-holds
     mark-sums-requires
     returns-4
