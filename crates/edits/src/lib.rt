@@ -2,6 +2,7 @@
 ghost use mathlib.Core.Path.{_≡_};
 ghost use Prim.Native.Nat.{ℕ, _+_, _-_, _≤_, _<_};
 ghost use lib.ListN.{length};
+ghost use Rattle.faults.specs.Outcome.{refused, rows, editor};
 ghost use Rattle.reader.specs.Table.{tableCheck, tableFacts};
 ghost use Rattle.rows.specs.Changed.{changed};
 ghost use Rattle.rows.specs.Fit.{RowsFit, EditFits};
@@ -10,6 +11,7 @@ ghost use Rattle.edits.specs.Count.{differing};
 ghost use Rattle.edits.specs.Edit.{state, renewOutcome, renewState, editOutcome, editState};
 ghost use Rattle.edits.specs.Answer.{outcomeOf};
 use faults::Fault;
+use faults::Refusal;
 use reader::Reading;
 use rows::Change;
 
@@ -21,6 +23,25 @@ pub struct EditedFacts {
 pub enum Edited {
     Count(EditedFacts),
     Refused(Fault),
+}
+
+// 20 to 23 in the name of whoever lends the rows, 24 to 26 in the editor's.
+fn refused_rows(found: Refusal) -> Edited
+    ensures { λ r. ⌜ outcomeOf r ≡ refused rows (found .number) (found .place) ⌝ }
+{
+    Edited::Refused(Fault::Rows {
+        number: found.number,
+        place: found.place,
+    })
+}
+
+fn refused_edit(asked: Refusal) -> Edited
+    ensures { λ r. ⌜ outcomeOf r ≡ refused editor (asked .number) (asked .place) ⌝ }
+{
+    Edited::Refused(Fault::Editor {
+        number: asked.number,
+        place: asked.place,
+    })
 }
 
 // The lowest place that a digit at `place` depends on.
@@ -128,17 +149,11 @@ pub fn edit(
     let alphabet = facts.alphabet;
     let found = rows::row_check(first, second, sum.len(), alphabet.count, facts.depth);
     if found.number != 0 {
-        return Edited::Refused(Fault::Rows {
-            number: found.number,
-            place: found.place,
-        });
+        return refused_rows(found);
     }
     let asked = rows::edit_check(row, place, digit, first.len(), alphabet.count);
     if asked.number != 0 {
-        return Edited::Refused(Fault::Editor {
-            number: asked.number,
-            place: asked.place,
-        });
+        return refused_edit(asked);
     }
     let change = Change {
         row,

@@ -20,6 +20,8 @@ use Rattle.edits.proofs.edit.Tie as tie
 use Rattle.edits.proofs.edit.Reads as reads
 use Rattle.edits.proofs.edit.Lts as lts
 use Rattle.edits.proofs.edit_rows.Reads as edit-rows-reads
+use Rattle.edits.proofs.refused_edit.Reads as refused-edit-reads
+use Rattle.edits.proofs.refused_rows.Reads as refused-rows-reads
 use Rattle.reader.proofs.read.Reads as read-reads
 use Rattle.rows.proofs.edit_check.Reads as edit-check-reads
 use Rattle.rows.proofs.row_check.Reads as row-check-reads
@@ -56,101 +58,109 @@ taken c = ap (λ (r : Refusal). r .number) (sym (asked (c .before .before))) ∙
 fits : (c : tie.Else2) → EditFits (c .before .before .before .before .before .before .before .before .before .before .before .before .before .before .before .before .before .args .row) (c .before .before .before .before .before .before .before .before .before .before .before .before .before .before .before .before .before .args .place) (c .before .before .before .before .before .before .before .before .before .before .before .before .before .before .before .before .before .args .digit) (length (c .before .before .before .before .before .before .before .before .before .before .before .before .before .before .before .before .before .args .first .now)) (digitCount (c .before .before .before .before .before .before .before .before .before .before .before .before .before .before .before .before .before .args .table .now))
 fits c = edit-fits (c .before .before .before .before .before .before .before .before .before .before .before .before .before .before .before .before .before .args .row) (c .before .before .before .before .before .before .before .before .before .before .before .before .before .before .before .before .before .args .place) (c .before .before .before .before .before .before .before .before .before .before .before .before .before .before .before .before .before .args .digit) (length (c .before .before .before .before .before .before .before .before .before .before .before .before .before .before .before .before .before .args .first .now)) (digitCount (c .before .before .before .before .before .before .before .before .before .before .before .before .before .before .before .before .before .args .table .now)) (taken c)
 
--- src/lib.rt:118:9
+-- src/lib.rt:139:9
 read-requires : tie.Need-read-requires
 read-requires c κs = search needs
 
--- src/lib.rt:119:24
+-- src/lib.rt:140:24
 enum-known-answer : tie.Need-enum-known-answer
 enum-known-answer c = search needs
 
--- src/lib.rt:120:13
+-- src/lib.rt:141:13
 enum-known-answer-2 : tie.Need-enum-known-answer-2
 enum-known-answer-2 c = search needs
 
--- src/lib.rt:120:30
+-- src/lib.rt:141:30
 enum-known-answer-3 : tie.Need-enum-known-answer-3
 enum-known-answer-3 c = search needs
 
--- src/lib.rt:121:36
+-- src/lib.rt:142:36
 enum-told : tie.Need-enum-told
 enum-told c = search needs
 
--- src/lib.rt:121:13
+-- src/lib.rt:142:13
 returns : tie.Need-returns
 returns c = search needs
 
--- src/lib.rt:126:9
+-- src/lib.rt:147:9
 returns-2 : tie.Need-returns-2
 returns-2 c =
     let fault = c .before .answer3 .given .0 .0 in
     let is = table-refused (c .before .before .before .before .before .before .before .before .before .before .before .args .table .now) (edited (c .before .before .before .before .before .before .before .before .before .before .before)) (lent (c .before .before .before .before .before .before .before .before .before .before .before)) (whose fault) (numberOf fault) (placeOf fault) (sym (ap readAs (c .before .answer3 .given .1)) ∙ sym (ap readAs (c .before .before .before .before .answer2 .given .1)) ∙ c .before .before .before .before .before .before .read .ensures) in
     (is, state-lent (c .before .before .before .before .before .before .before .before .before .before .before .args .table .now) (edited (c .before .before .before .before .before .before .before .before .before .before .before)) (lent (c .before .before .before .before .before .before .before .before .before .before .before)) (whose fault) (numberOf fault) (placeOf fault) is)
 
--- src/lib.rt:129:9
+-- src/lib.rt:150:9
 row-check-requires : tie.Need-row-check-requires
 row-check-requires c κs = search needs
 
--- src/lib.rt:131:9
+-- src/lib.rt:152:9
+refused-rows-requires : tie.Need-refused-rows-requires
+refused-rows-requires c κs = search needs
+
+-- src/lib.rt:152:9
 same-length : tie.Need-same-length
 same-length c = search needs
 
--- src/lib.rt:131:9
+-- src/lib.rt:152:9
 same-length-2 : tie.Need-same-length-2
 same-length-2 c = search needs
 
--- src/lib.rt:131:9
+-- src/lib.rt:152:9
 returns-3 : tie.Need-returns-3
 returns-3 c =
-    let found = c .before .before .row-check .result in
-    let is = rows-refused (c .before .before .before .before .before .before .before .before .before .before .before .before .before .before .args .table .now) (edited (c .before .before .before .before .before .before .before .before .before .before .before .before .before .before)) (lent (c .before .before .before .before .before .before .before .before .before .before .before .before .before .before)) (known (c .before .before .before .before .before .before .before) .0) found (checked (c .before .before)) (c .if1 .taken) in
-    (is, state-lent (c .before .before .before .before .before .before .before .before .before .before .before .before .before .before .args .table .now) (edited (c .before .before .before .before .before .before .before .before .before .before .before .before .before .before)) (lent (c .before .before .before .before .before .before .before .before .before .before .before .before .before .before)) rows (found .number) (found .place) is)
+    let found = c .before .before .before .row-check .result in
+    let is = c .refused-rows .ensures ∙ rows-refused (c .before .before .before .before .before .before .before .before .before .before .before .before .before .before .before .args .table .now) (edited (c .before .before .before .before .before .before .before .before .before .before .before .before .before .before .before)) (lent (c .before .before .before .before .before .before .before .before .before .before .before .before .before .before .before)) (known (c .before .before .before .before .before .before .before .before) .0) found (checked (c .before .before .before)) (c .before .if1 .taken) in
+    (is, state-lent (c .before .before .before .before .before .before .before .before .before .before .before .before .before .before .before .args .table .now) (edited (c .before .before .before .before .before .before .before .before .before .before .before .before .before .before .before)) (lent (c .before .before .before .before .before .before .before .before .before .before .before .before .before .before .before)) rows (found .number) (found .place) (sym (c .refused-rows .ensures) ∙ is))
 
--- src/lib.rt:136:9
+-- src/lib.rt:154:9
 edit-check-requires : tie.Need-edit-check-requires
 edit-check-requires c κs = search needs
 
--- src/lib.rt:138:9
+-- src/lib.rt:156:9
+refused-edit-requires : tie.Need-refused-edit-requires
+refused-edit-requires c κs = search needs
+
+-- src/lib.rt:156:9
 same-length-3 : tie.Need-same-length-3
 same-length-3 c = search needs
 
--- src/lib.rt:138:9
+-- src/lib.rt:156:9
 same-length-4 : tie.Need-same-length-4
 same-length-4 c = search needs
 
--- src/lib.rt:138:9
+-- src/lib.rt:156:9
 returns-4 : tie.Need-returns-4
 returns-4 c =
-    let found = c .before .before .edit-check .result in
-    let is = edit-refused (c .before .before .before .before .before .before .before .before .before .before .before .before .before .before .before .before .before .args .table .now) (edited (c .before .before .before .before .before .before .before .before .before .before .before .before .before .before .before .before .before)) (lent (c .before .before .before .before .before .before .before .before .before .before .before .before .before .before .before .before .before)) (known (c .before .before .before .before .before .before .before .before .before .before) .0) (fitting (c .before .before .before)) found (asked (c .before .before)) (c .if2 .taken) in
-    (is, state-lent (c .before .before .before .before .before .before .before .before .before .before .before .before .before .before .before .before .before .args .table .now) (edited (c .before .before .before .before .before .before .before .before .before .before .before .before .before .before .before .before .before)) (lent (c .before .before .before .before .before .before .before .before .before .before .before .before .before .before .before .before .before)) editor (found .number) (found .place) is)
+    let found = c .before .before .before .edit-check .result in
+    let is = c .refused-edit .ensures ∙ edit-refused (c .before .before .before .before .before .before .before .before .before .before .before .before .before .before .before .before .before .before .args .table .now) (edited (c .before .before .before .before .before .before .before .before .before .before .before .before .before .before .before .before .before .before)) (lent (c .before .before .before .before .before .before .before .before .before .before .before .before .before .before .before .before .before .before)) (known (c .before .before .before .before .before .before .before .before .before .before .before) .0) (fitting (c .before .before .before .before)) found (asked (c .before .before .before)) (c .before .if2 .taken) in
+    (is, state-lent (c .before .before .before .before .before .before .before .before .before .before .before .before .before .before .before .before .before .before .args .table .now) (edited (c .before .before .before .before .before .before .before .before .before .before .before .before .before .before .before .before .before .before)) (lent (c .before .before .before .before .before .before .before .before .before .before .before .before .before .before .before .before .before .before)) editor (found .number) (found .place) (sym (c .refused-edit .ensures) ∙ is))
 
--- src/lib.rt:146:16
-cast-t24 : tie.Need-cast-t24
-cast-t24 c =
+-- src/lib.rt:161:16
+cast-t22 : tie.Need-cast-t22
+cast-t22 c =
     let size = ready-passed (c .before .before .before .before .before .before .before .before .before .before .before .before .before .before .before .before .before .args .table .now) (known (c .before .before .before .before .before .before .before .before .before .before) .0) in
     omega (arith, fits c .index, size .alphabet-count .1, size .alphabet-lies .counts)
 
--- src/lib.rt:148:5
+-- src/lib.rt:163:5
 edit-rows-requires : tie.Need-edit-rows-requires
 edit-rows-requires c κs =
     let a = c .before .before .before .before .before .before .before .before .before .before .before .before .before .before .before .before .before .before .before .before .args in
     let t = known (c .before .before .before .before .before .before .before .before .before .before .before .before .before) in
     (t .0, rows-fit (a .first .now) (a .second .now) (length (a .sum .now)) (digitCount (a .table .now)) (tableFacts (a .table .now) .depth) (fitting (c .before .before .before .before .before .before)), fits (c .before .before .before), λ i. t .1 i .depth)
 
--- src/lib.rt:107:1
+-- src/lib.rt:128:1
 same-length-5 : tie.Need-same-length-5
 same-length-5 c = search needs
 
--- src/lib.rt:107:1
+-- src/lib.rt:128:1
 same-length-6 : tie.Need-same-length-6
 same-length-6 c = search needs
 
--- src/lib.rt:107:1
+-- src/lib.rt:128:1
 same-length-7 : tie.Need-same-length-7
 same-length-7 c = search needs
 
--- src/lib.rt:107:1
+-- src/lib.rt:128:1
 returns-5 : tie.Need-returns-5
 returns-5 c =
     let is = edit-passed (c .before .before .before .before .before .before .before .before .before .before .before .before .before .before .before .before .before .before .before .before .before .before .before .before .before .before .before .args .table .now) (edited (c .before .before .before .before .before .before .before .before .before .before .before .before .before .before .before .before .before .before .before .before .before .before .before .before .before .before .before)) (lent (c .before .before .before .before .before .before .before .before .before .before .before .before .before .before .before .before .before .before .before .before .before .before .before .before .before .before .before)) (known (c .before .before .before .before .before .before .before .before .before .before .before .before .before .before .before .before .before .before .before .before) .0) (fitting (c .before .before .before .before .before .before .before .before .before .before .before .before .before)) (taken (c .before .before .before .before .before .before .before .before .before .before)) in
@@ -168,14 +178,16 @@ edit-spec =
     returns
     returns-2
     row-check-requires
+    refused-rows-requires
     same-length
     same-length-2
     returns-3
     edit-check-requires
+    refused-edit-requires
     same-length-3
     same-length-4
     returns-4
-    cast-t24
+    cast-t22
     edit-rows-requires
     same-length-5
     same-length-6
