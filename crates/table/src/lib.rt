@@ -1,17 +1,17 @@
 // The check of a table, and its line of text.
 ghost use mathlib.Core.Path.{_≡_};
 ghost use lib.ListN.{length, getD};
+ghost use Rattle.ring.specs.Element.{plus, Within};
 ghost use Rattle.ring.specs.Matrix.{RowsWithin};
 ghost use Rattle.layout.specs.Section.{degree};
 ghost use Rattle.digits.specs.Base.{BasePart};
 ghost use Rattle.digits.specs.Record.{recordAt, elementCount};
 ghost use Rattle.numeration.specs.Code.{agree};
-ghost use Rattle.numeration.specs.Conversion.{outDigit};
 ghost use Rattle.numeration.specs.Elements.{elements};
 ghost use Rattle.numeration.specs.Pairs.{pairPasses};
 ghost use Rattle.leaves.specs.Leaf.{leafCount, codeOf, wordGiven, weightGiven};
 ghost use Rattle.leaves.specs.Check.{leafCheck};
-ghost use Rattle.table.specs.Pairs.{inAlphabet, badPair, pairCheck};
+ghost use Rattle.table.specs.Pairs.{inAlphabet, upperPart, badPair, pairCheck};
 ghost use Prim.Native.Nat.{ℕ, _+_, _≤_, _<_, _^_, min, pred};
 ghost use Rattle.lists.specs.Span.{span};
 ghost use Rattle.lists.specs.Scan.{firstFailing};
@@ -75,26 +75,24 @@ fn fit(upper: &[u8], lower: &[u8]) -> bool
     true
 }
 
-// Whether a fitting pair gives an alphabet digit.
-fn gives_digit(
-    base: [[i64; 2]; 2],
-    alphabet: &[u8],
-    inputs: &[u8],
-    leaves: &[u8],
-    words: &[u8],
-    upper: usize,
-    lower: usize,
-) -> bool
+// What an upper leaf gives to the digits of its pairs: its first digit minus the base times its weight.
+fn upper_part(base: [[i64; 2]; 2], inputs: &[u8], leaves: &[u8], words: &[u8], upper: usize) -> [i64; 2]
     requires { ⌜ RowsWithin (2 ^ 24) base × (getD (wordGiven (now leaves) (now words) upper) 0 0 < elementCount (now inputs)) ⌝ }
-    ensures { λ r. ⌜ r ≡ inAlphabet (now (alphabet .entry)) (outDigit (elements degree base) (recordAt (now (inputs .entry)) (getD (wordGiven (now (leaves .entry)) (now (words .entry)) upper) 0 0)) (weightGiven (now (leaves .entry)) lower) (weightGiven (now (leaves .entry)) upper)) ⌝ }
+    ensures { λ r. ⌜ (r ≡ upperPart base (now (inputs .entry)) (now (leaves .entry)) (now (words .entry)) upper) × Within (2 ^ 58) r ⌝ }
 {
     let first = leaves::byte_at(leaves::word(leaves, words, upper), 0) as usize;
-    let digit = conversion::out_digit(
-        base,
+    ring::difference(
         digits::record_at(inputs, first),
-        leaves::weight(leaves, lower),
-        leaves::weight(leaves, upper),
-    );
+        ring::times_base(base, leaves::weight(leaves, upper)),
+    )
+}
+
+// Whether a fitting pair gives an alphabet digit, by the upper leaf's part of it.
+fn gives_digit(alphabet: &[u8], part: [i64; 2], leaves: &[u8], lower: usize) -> bool
+    requires { ⌜ Within (2 ^ 58) part ⌝ }
+    ensures { λ r. ⌜ r ≡ inAlphabet (now (alphabet .entry)) (plus part (weightGiven (now (leaves .entry)) lower)) ⌝ }
+{
+    let digit = ring::sum(part, leaves::weight(leaves, lower));
     let count = layout::record_count(alphabet, 1);
     digits::find(alphabet, count, digit) < count
 }
@@ -114,12 +112,13 @@ fn bad_lower(
 {
     let count = leaves::leaf_count(leaves);
     let top = leaves::word(leaves, words, upper);
+    let part = upper_part(base, inputs, leaves, words, upper);
     let mut lower = leaves::look_up(leaves, words, tail_window(top));
     while lower < count {
         if !fit(top, leaves::word(leaves, words, lower)) {
             return count;
         }
-        if !gives_digit(base, alphabet, inputs, leaves, words, upper, lower) {
+        if !gives_digit(alphabet, part, leaves, lower) {
             return lower;
         }
         lower += 1;
