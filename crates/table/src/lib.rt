@@ -76,7 +76,13 @@ fn fit(upper: &[u8], lower: &[u8]) -> bool
 }
 
 // What an upper leaf gives to the digits of its pairs: its first digit minus the base times its weight.
-fn upper_part(base: [[i64; 2]; 2], inputs: &[u8], leaves: &[u8], words: &[u8], upper: usize) -> [i64; 2]
+fn upper_part(
+    base: [[i64; 2]; 2],
+    inputs: &[u8],
+    leaves: &[u8],
+    words: &[u8],
+    upper: usize,
+) -> [i64; 2]
     requires { ⌜ RowsWithin (2 ^ 24) base × (getD (wordGiven (now leaves) (now words) upper) 0 0 < elementCount (now inputs)) ⌝ }
     ensures { λ r. ⌜ (r ≡ upperPart base (now (inputs .entry)) (now (leaves .entry)) (now (words .entry)) upper) × Within (2 ^ 58) r ⌝ }
 {
