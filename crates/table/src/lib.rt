@@ -11,6 +11,8 @@ ghost use Rattle.numeration.specs.Elements.{elements};
 ghost use Rattle.numeration.specs.Pairs.{pairPasses};
 ghost use Rattle.leaves.specs.Leaf.{leafCount, codeOf, wordGiven, weightGiven};
 ghost use Rattle.leaves.specs.Check.{leafCheck};
+ghost use mathlib.Core.Bool.{true};
+ghost use Rattle.table.specs.Slots.{slotOf, Slotted};
 ghost use Rattle.table.specs.Pairs.{inAlphabet, upperPart, badPair, pairCheck};
 ghost use Prim.Native.Nat.{ℕ, _+_, _≤_, _<_, _^_, min, pred};
 ghost use Rattle.lists.specs.Span.{span};
@@ -30,6 +32,11 @@ pub struct Facts {
     pub leaves: usize,
     pub digits: usize,
 }
+
+// The count of slots for alphabet digits, and the mark of an empty one.
+const SLOTS: usize = 256;
+
+const EMPTY: u8 = 255;
 
 // Two leaves, upper and lower.
 pub struct Pair {
@@ -84,7 +91,7 @@ fn upper_part(
     upper: usize,
 ) -> [i64; 2]
     requires { ⌜ RowsWithin (2 ^ 24) base × (getD (wordGiven (now leaves) (now words) upper) 0 0 < elementCount (now inputs)) ⌝ }
-    ensures { λ r. ⌜ (r ≡ upperPart base (now (inputs .entry)) (now (leaves .entry)) (now (words .entry)) upper) × Within (2 ^ 58) r ⌝ }
+    ensures { λ r. ⌜ (r ≡ upperPart base (now (inputs .entry)) (now (leaves .entry)) (now (words .entry)) upper) × Within (2 ^ 57 + 32768) r ⌝ }
 {
     let first = leaves::byte_at(leaves::word(leaves, words, upper), 0) as usize;
     ring::difference(
@@ -93,12 +100,73 @@ fn upper_part(
     )
 }
 
-// Whether a fitting pair gives an alphabet digit, by the upper leaf's part of it.
-fn gives_digit(alphabet: &[u8], part: [i64; 2], leaves: &[u8], lower: usize) -> bool
-    requires { ⌜ Within (2 ^ 58) part ⌝ }
+fn wide(x: u8) -> usize
+    ensures { λ r. ⌜ r ≡ x ⌝ }
+{
+    x as usize
+}
+
+// The slot of an element. Those of a square of 16 by 16 have different ones.
+fn slot_of(x: [i64; 2]) -> usize
+    requires { ⌜ Within (2 ^ 58) x ⌝ }
+    ensures { λ r. ⌜ (r ≡ slotOf x) × (r < 256) ⌝ }
+{
+    let place = x[0] + 16 * x[1] + 32768;
+    if place < 0 {
+        return 0;
+    }
+    place as usize % SLOTS
+}
+
+// Puts the number of each alphabet digit into its slot; whether each has a slot of its own.
+fn slot_digits(alphabet: &[u8], slots: &mut [u8; SLOTS]) -> bool
+    ensures { λ r. ⌜ (r ≡ true → Slotted (now (alphabet .entry)) (now (slots .exit))) ⌝ }
+{
+    let count = layout::record_count(alphabet, 1);
+    if count > 255 {
+        return false;
+    }
+    let mut digit = 0;
+    while digit < count {
+        let slot = slot_of(digits::record_at(alphabet, digit));
+        if slots[slot] < EMPTY {
+            return false;
+        }
+        slots[slot] = digit as u8;
+        digit += 1;
+    }
+    true
+}
+
+// Whether an element is an alphabet digit, by the one in its slot.
+fn in_slots(alphabet: &[u8], slots: &[u8; SLOTS], x: [i64; 2]) -> bool
+    requires { ⌜ Within (2 ^ 58) x × Slotted (now alphabet) (now slots) ⌝ }
+    ensures { λ r. ⌜ r ≡ inAlphabet (now (alphabet .entry)) x ⌝ }
+{
+    let slot = slot_of(x);
+    let digit = wide(slots[slot]);
+    if digit < layout::record_count(alphabet, 1) {
+        return ring::equal(digits::record_at(alphabet, digit), x);
+    }
+    false
+}
+
+// Whether a fitting pair gives an alphabet digit, by the upper leaf's part of it, and by the slots where they are known.
+fn gives_digit(
+    alphabet: &[u8],
+    known: bool,
+    slots: &[u8; SLOTS],
+    part: [i64; 2],
+    leaves: &[u8],
+    lower: usize,
+) -> bool
+    requires { ⌜ (known ≡ true → Slotted (now alphabet) (now slots)) × Within (2 ^ 57 + 32768) part ⌝ }
     ensures { λ r. ⌜ r ≡ inAlphabet (now (alphabet .entry)) (plus part (weightGiven (now (leaves .entry)) lower)) ⌝ }
 {
     let digit = ring::sum(part, leaves::weight(leaves, lower));
+    if known {
+        return in_slots(alphabet, slots, digit);
+    }
     let count = layout::record_count(alphabet, 1);
     digits::find(alphabet, count, digit) < count
 }
@@ -108,12 +176,14 @@ fn gives_digit(alphabet: &[u8], part: [i64; 2], leaves: &[u8], lower: usize) -> 
 fn bad_lower(
     base: [[i64; 2]; 2],
     alphabet: &[u8],
+    known: bool,
+    slots: &[u8; SLOTS],
     inputs: &[u8],
     leaves: &[u8],
     words: &[u8],
     upper: usize,
 ) -> usize
-    requires { ⌜ RowsWithin (2 ^ 24) base × (0 < elementCount (now inputs)) × (leafCheck (now leaves) (now words) (elementCount (now inputs)) .number ≡ 0) × (upper < leafCount (now leaves)) ⌝ }
+    requires { ⌜ RowsWithin (2 ^ 24) base × (0 < elementCount (now inputs)) × (leafCheck (now leaves) (now words) (elementCount (now inputs)) .number ≡ 0) × (upper < leafCount (now leaves)) × (known ≡ true → Slotted (now alphabet) (now slots)) ⌝ }
     ensures { λ r. ⌜ r ≡ firstFailing (pairPasses (elements degree base) (recordAt (now (inputs .entry))) (codeOf (now (leaves .entry)) (now (words .entry))) (inAlphabet (now (alphabet .entry))) upper) 0 (leafCount (now (leaves .entry))) ⌝ }
 {
     let count = leaves::leaf_count(leaves);
@@ -124,7 +194,7 @@ fn bad_lower(
         if !fit(top, leaves::word(leaves, words, lower)) {
             return count;
         }
-        if !gives_digit(alphabet, part, leaves, lower) {
+        if !gives_digit(alphabet, known, slots, part, leaves, lower) {
             return lower;
         }
         lower += 1;
@@ -138,10 +208,21 @@ pub fn bad_pair(base: &[u8], alphabet: &[u8], inputs: &[u8], leaves: &[u8], word
     ensures { λ r. ⌜ r ≡ badPair (now (base .entry)) (now (alphabet .entry)) (now (inputs .entry)) (now (leaves .entry)) (now (words .entry)) ⌝ }
 {
     let matrix = digits::base_of(base);
+    let mut slots = [EMPTY; SLOTS];
+    let known = slot_digits(alphabet, &mut slots);
     let count = leaves::leaf_count(leaves);
     let mut upper = 0;
     while upper < count {
-        let lower = bad_lower(matrix, alphabet, inputs, leaves, words, upper);
+        let lower = bad_lower(
+            matrix,
+            alphabet,
+            known,
+            &slots,
+            inputs,
+            leaves,
+            words,
+            upper,
+        );
         if lower < count {
             return Pair { upper, lower };
         }

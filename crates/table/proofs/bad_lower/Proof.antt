@@ -27,11 +27,11 @@ use Rattle.table.proofs.bad_lower.Statement.{statement}
 use Rattle.table.proofs.bad_lower.Tie as tie
 
 abbrev Inv-loop : tie.InvT-loop
-Inv-loop alphabet inputs leaves words upper count top part lower₀ lower =
+Inv-loop alphabet known slots inputs leaves words upper count top part lower₀ lower =
     (lowestFit (codeOf leaves words) upper ≤ lower) × ((matrix : List (List ℤ)) → part ≡ upperPart matrix inputs leaves words upper → (j : ℕ) → j < lower → pairPasses (elements degree matrix) (recordAt inputs) (codeOf leaves words) (inAlphabet alphabet) upper j ≡ true)
 
 abbrev μ-loop : tie.MeasureT-loop
-μ-loop alphabet inputs leaves words upper count top part lower₀ lower = count - lower
+μ-loop alphabet known slots inputs leaves words upper count top part lower₀ lower = count - lower
 
 well : (s : tie.Start Inv-loop μ-loop) → Formed (s .args .leaves .now) (s .args .words .now) (elementCount (s .args .inputs .now))
 well s = formed (s .args .leaves .now) (s .args .words .now) (elementCount (s .args .inputs .now)) (s .pre .1) (s .pre .2)
@@ -101,7 +101,7 @@ returns c =
     count ∙ ends-unfit leaves (s .args .words .now) (elementCount (s .args .inputs .now)) (s .pre .1) (well s) (s .args .upper) (s .pre .3) (s .args .base) (s .args .inputs .now) (inAlphabet (s .args .alphabet .now)) (loop .lower) (loop .inv .0) (omega (arith, count, c .before .before .before .loop-test .taken)) (sym (fit-says (c .before)) ∙ not-true _ (c .if1 .taken)) (loop .inv .1 (s .args .base) (c .before .before .before .before .before .before .before .upper-part .ensures .0))
 
 gives-digit-requires : tie.Need-gives-digit-requires Inv-loop μ-loop
-gives-digit-requires c κs = c .before .before .before .before .before .before .before .upper-part .ensures .1
+gives-digit-requires c κs = (c .before .before .before .before .before .before .before .before .before .before .before .before .before .before .pre .4, c .before .before .before .before .before .before .before .upper-part .ensures .1)
 
 returns-2 : tie.Need-returns-2 Inv-loop μ-loop
 returns-2 c =

@@ -1,10 +1,10 @@
 use Rattle.table.specs.Pairs.{inAlphabet}
 use Rattle.digits.specs.Record.{indexIn}
-use Rattle.ring.proofs.Element.{within-le}
-use Rattle.ring.specs.Element.{plus}
+use Rattle.ring.proofs.Element.{within-plus, within-le}
+use Rattle.ring.specs.Element.{plus, Within}
 use lib.Dec.{ltb, lit≤}
-use Prim.Native.Nat.{_^_}
-use mathlib.Core.Path.{_≡_, ap, _∙_}
+use Prim.Native.Nat.{_+_, _^_}
+use mathlib.Core.Path.{_≡_, sym, ap, subst, _∙_}
 use borrow.Author.Needs.{needs}
 use Rattle.table.proofs.gives_digit.Statement.{statement}
 use Rattle.table.proofs.gives_digit.Tie as tie
@@ -13,7 +13,15 @@ weight-requires : tie.Need-weight-requires
 weight-requires c κs = search needs
 
 sum-requires : tie.Need-sum-requires
-sum-requires c κs = (within-le (2 ^ 58) (2 ^ 61) _ (lit≤ tt) (c .before .before .before .pre), within-le 32768 (2 ^ 61) _ (lit≤ tt) (c .weight .ensures .1))
+sum-requires c κs = (within-le (2 ^ 57 + 32768) (2 ^ 61) _ (lit≤ tt) (c .before .before .before .pre .1), within-le 32768 (2 ^ 61) _ (lit≤ tt) (c .weight .ensures .1))
+
+in-slots-requires : tie.Need-in-slots-requires
+in-slots-requires c κs =
+    let total = within-plus (2 ^ 57 + 32768) 32768 (c .before .before .before .before .before .args .part) (c .before .before .weight .result) (c .before .before .before .before .before .pre .1) (c .before .before .weight .ensures .1) in
+    (subst (Within (2 ^ 58)) (sym (c .before .sum .ensures)) (within-le (2 ^ 57 + 32768 + 32768) (2 ^ 58) _ (lit≤ tt) total), c .before .before .before .before .before .pre .0 (c .if1 .taken))
+
+returns : tie.Need-returns
+returns c = c .in-slots .ensures ∙ ap (inAlphabet (c .before .before .before .before .before .before .args .alphabet .now)) (c .before .before .sum .ensures ∙ ap (plus (c .before .before .before .before .before .before .args .part)) (c .before .before .before .weight .ensures .0))
 
 record-count-requires : tie.Need-record-count-requires
 record-count-requires c κs = search needs
@@ -21,12 +29,20 @@ record-count-requires c κs = search needs
 find-requires : tie.Need-find-requires
 find-requires c κs = search needs
 
-returns : tie.Need-returns
+returns-2 : tie.Need-returns-2
 unfolding inAlphabet
-returns c =
-    let digit = c .before .before .sum .ensures ∙ ap (plus (c .before .before .before .before .before .before .args .part)) (c .before .before .before .weight .ensures .0) in
-    λ i. ltb ((c .find .ensures ∙ (λ j. indexIn (c .before .before .before .before .before .before .args .alphabet .now) (c .before .record-count .ensures j) (digit j))) i) (c .before .record-count .ensures i)
+returns-2 c =
+    let digit = c .before .before .before .sum .ensures ∙ ap (plus (c .before .before .before .before .before .before .before .args .part)) (c .before .before .before .before .weight .ensures .0) in
+    λ i. ltb ((c .find .ensures ∙ (λ j. indexIn (c .before .before .before .before .before .before .before .args .alphabet .now) (c .before .record-count .ensures j) (digit j))) i) (c .before .record-count .ensures i)
 
 pub gives-digit-spec : {M : Type 1} → statement M
 gives-digit-spec =
-    tie.close (tie.spec weight-requires sum-requires record-count-requires find-requires returns)
+    tie.close
+    (tie.spec
+    weight-requires
+    sum-requires
+    in-slots-requires
+    returns
+    record-count-requires
+    find-requires
+    returns-2)

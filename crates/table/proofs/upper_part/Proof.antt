@@ -39,7 +39,7 @@ returns c =
     let input = c .before .before .before .record-at .ensures .0 ∙ ap (recordAt (c .before .before .before .before .before .before .before .before .before .args .inputs .now)) first in
     let product = c .before .times-base .ensures .0 ∙ ap (times (c .before .before .before .before .before .before .before .before .before .args .base)) (c .before .before .weight .ensures .0) in
     let whole = within-minus 32768 (2 ^ 57) (c .before .before .before .record-at .result) (c .before .times-base .result) (c .before .before .before .record-at .ensures .1) (c .before .times-base .ensures .1) in
-    (c .difference .ensures ∙ (λ i. minus (input i) (product i)), subst (Within (2 ^ 58)) (sym (c .difference .ensures)) (within-le (32768 + 2 ^ 57) (2 ^ 58) _ (lit≤ tt) whole))
+    (c .difference .ensures ∙ (λ i. minus (input i) (product i)), subst (Within (2 ^ 57 + 32768)) (sym (c .difference .ensures)) (within-le (32768 + 2 ^ 57) (2 ^ 57 + 32768) _ (lit≤ tt) whole))
 
 pub upper-part-spec : {M : Type 1} → statement M
 upper-part-spec =
