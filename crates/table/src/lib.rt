@@ -44,6 +44,12 @@ pub struct Pair {
     pub lower: usize,
 }
 
+// What an upper leaf gives: its lowest failing lower leaf, or the leaf count, and where the run of its lower leaves ended.
+struct Run {
+    bad: usize,
+    end: usize,
+}
+
 pub enum Checked {
     Accepted(Facts),
     Refused(Fault),
@@ -172,7 +178,7 @@ fn gives_digit(
 }
 
 // The lowest lower leaf that fits and gives no alphabet digit, or the leaf count. Those that fit are neighbours, from the leaf of the
-// upper word's tail on.
+// upper word's tail on, which may be the guessed one.
 fn bad_lower(
     base: [[i64; 2]; 2],
     alphabet: &[u8],
@@ -182,24 +188,34 @@ fn bad_lower(
     leaves: &[u8],
     words: &[u8],
     upper: usize,
-) -> usize
+    guess: usize,
+) -> Run
     requires { ⌜ RowsWithin (2 ^ 24) base × (0 < elementCount (now inputs)) × (leafCheck (now leaves) (now words) (elementCount (now inputs)) .number ≡ 0) × (upper < leafCount (now leaves)) × (known ≡ true → Slotted (now alphabet) (now slots)) ⌝ }
-    ensures { λ r. ⌜ r ≡ firstFailing (pairPasses (elements degree base) (recordAt (now (inputs .entry))) (codeOf (now (leaves .entry)) (now (words .entry))) (inAlphabet (now (alphabet .entry))) upper) 0 (leafCount (now (leaves .entry))) ⌝ }
+    ensures { λ r. ⌜ r .bad ≡ firstFailing (pairPasses (elements degree base) (recordAt (now (inputs .entry))) (codeOf (now (leaves .entry)) (now (words .entry))) (inAlphabet (now (alphabet .entry))) upper) 0 (leafCount (now (leaves .entry))) ⌝ }
 {
     let count = leaves::leaf_count(leaves);
     let top = leaves::word(leaves, words, upper);
     let part = upper_part(base, inputs, leaves, words, upper);
-    let mut lower = leaves::look_up(leaves, words, tail_window(top));
+    let mut lower = leaves::look_up_from(leaves, words, tail_window(top), guess);
     while lower < count {
         if !fit(top, leaves::word(leaves, words, lower)) {
-            return count;
+            return Run {
+                bad: count,
+                end: lower,
+            };
         }
         if !gives_digit(alphabet, known, slots, part, leaves, lower) {
-            return lower;
+            return Run {
+                bad: lower,
+                end: lower,
+            };
         }
         lower += 1;
     }
-    count
+    Run {
+        bad: count,
+        end: lower,
+    }
 }
 
 // The lowest upper leaf that fails with some lower leaf, and the lowest such lower leaf; the leaf count twice where none fails.
@@ -211,9 +227,10 @@ pub fn bad_pair(base: &[u8], alphabet: &[u8], inputs: &[u8], leaves: &[u8], word
     let mut slots = [EMPTY; SLOTS];
     let known = slot_digits(alphabet, &mut slots);
     let count = leaves::leaf_count(leaves);
+    let mut guess = 0;
     let mut upper = 0;
     while upper < count {
-        let lower = bad_lower(
+        let run = bad_lower(
             matrix,
             alphabet,
             known,
@@ -222,10 +239,13 @@ pub fn bad_pair(base: &[u8], alphabet: &[u8], inputs: &[u8], leaves: &[u8], word
             leaves,
             words,
             upper,
+            guess,
         );
+        let lower = run.bad;
         if lower < count {
             return Pair { upper, lower };
         }
+        guess = run.end;
         upper += 1;
     }
     Pair {

@@ -27,11 +27,11 @@ use Rattle.table.proofs.bad_lower.Statement.{statement}
 use Rattle.table.proofs.bad_lower.Tie as tie
 
 abbrev Inv-loop : tie.InvT-loop
-Inv-loop alphabet known slots inputs leaves words upper count top part lower₀ lower =
+Inv-loop alphabet known slots inputs leaves words upper guess count top part lower₀ lower =
     (lowestFit (codeOf leaves words) upper ≤ lower) × ((matrix : List (List ℤ)) → part ≡ upperPart matrix inputs leaves words upper → (j : ℕ) → j < lower → pairPasses (elements degree matrix) (recordAt inputs) (codeOf leaves words) (inAlphabet alphabet) upper j ≡ true)
 
 abbrev μ-loop : tie.MeasureT-loop
-μ-loop alphabet known slots inputs leaves words upper count top part lower₀ lower = count - lower
+μ-loop alphabet known slots inputs leaves words upper guess count top part lower₀ lower = count - lower
 
 well : (s : tie.Start Inv-loop μ-loop) → Formed (s .args .leaves .now) (s .args .words .now) (elementCount (s .args .inputs .now))
 well s = formed (s .args .leaves .now) (s .args .words .now) (elementCount (s .args .inputs .now)) (s .pre .1) (s .pre .2)
@@ -72,8 +72,8 @@ upper-part-requires c κs =
 tail-window-requires : tie.Need-tail-window-requires Inv-loop μ-loop
 tail-window-requires c κs = search needs
 
-look-up-requires : tie.Need-look-up-requires Inv-loop μ-loop
-look-up-requires c κs = search needs
+look-up-from-requires : tie.Need-look-up-from-requires Inv-loop μ-loop
+look-up-from-requires c κs = search needs
 
 loop-holds : tie.Need-loop-holds Inv-loop μ-loop
 loop-holds c =
@@ -83,7 +83,7 @@ loop-holds c =
     let m = elementCount (s .args .inputs .now) in
     let u = s .args .upper in
     let window = c .before .tail-window .ensures ∙ ap (λ w. span (λ i. getD w i 0) 1 8) (c .before .before .before .word .ensures) in
-    let lowest = lowest-found leaves words m (s .pre .1) (well s) u (s .pre .3) (c .look-up .result) (subst (λ w. LookedUp (codeOf leaves words) w (c .look-up .result)) window (c .look-up .ensures)) in
+    let lowest = lowest-found leaves words m (s .pre .1) (well s) u (s .pre .3) (c .look-up-from .result) (subst (λ w. LookedUp (codeOf leaves words) w (c .look-up-from .result)) window (c .look-up-from .ensures)) in
     (omega (arith, lowest), λ matrix own. subst (λ (l : ℕ). (j : ℕ) → j < l → pairPasses (elements degree matrix) (recordAt (s .args .inputs .now)) (codeOf leaves words) (inAlphabet (s .args .alphabet .now)) u j ≡ true) (sym lowest) (upto-lowest leaves words m (s .pre .1) (well s) u (s .pre .3) matrix (s .args .inputs .now) (inAlphabet (s .args .alphabet .now))))
 
 word-requires-2 : tie.Need-word-requires-2 Inv-loop μ-loop
@@ -135,7 +135,7 @@ bad-lower-spec =
     word-requires
     upper-part-requires
     tail-window-requires
-    look-up-requires
+    look-up-from-requires
     loop-holds
     word-requires-2
     fit-requires

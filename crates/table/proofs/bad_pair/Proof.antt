@@ -19,13 +19,13 @@ use Rattle.table.proofs.bad_pair.Statement.{statement}
 use Rattle.table.proofs.bad_pair.Tie as tie
 
 abbrev Inv-loop : tie.InvT-loop
-Inv-loop base alphabet inputs leaves words matrix slots known count upper₀ upper = UppersPass base alphabet inputs leaves words upper
+Inv-loop base alphabet inputs leaves words matrix slots known count guess₀ upper₀ guess upper = UppersPass base alphabet inputs leaves words upper
 
 abbrev μ-loop : tie.MeasureT-loop
-μ-loop base alphabet inputs leaves words matrix slots known count upper₀ upper = count - upper
+μ-loop base alphabet inputs leaves words matrix slots known count guess₀ upper₀ guess upper = count - upper
 
 -- the lowest lower leaf of the upper one, by the base's matrix
-lower-is : (c : tie.After-bad-lower Inv-loop μ-loop) → c .bad-lower .result ≡ badLower (c .before .before .before .before .before .before .before .before .before .before .before .before .before .args .base .now) (c .before .before .before .before .before .before .before .before .before .before .before .before .before .args .alphabet .now) (c .before .before .before .before .before .before .before .before .before .before .before .before .before .args .inputs .now) (c .before .before .before .before .before .before .before .before .before .before .before .before .before .args .leaves .now) (c .before .before .before .before .before .before .before .before .before .before .before .before .before .args .words .now) (c .before .before .before .loop .upper)
+lower-is : (c : tie.After-bad-lower Inv-loop μ-loop) → c .bad-lower .result .bad ≡ badLower (c .before .before .before .before .before .before .before .before .before .before .before .before .before .args .base .now) (c .before .before .before .before .before .before .before .before .before .before .before .before .before .args .alphabet .now) (c .before .before .before .before .before .before .before .before .before .before .before .before .before .args .inputs .now) (c .before .before .before .before .before .before .before .before .before .before .before .before .before .args .leaves .now) (c .before .before .before .before .before .before .before .before .before .before .before .before .before .args .words .now) (c .before .before .before .loop .upper)
 unfolding badLower
 lower-is c =
     let s = c .before .before .before .before .before .before .before .before .before .before .before .before .before in
@@ -51,7 +51,7 @@ bad-lower-requires c κs =
 returns : tie.Need-returns Inv-loop μ-loop
 returns c =
     let a = c .before .before .before .before .before .before .before .before .before .before .before .before .before .before .args in
-    pair-found (a .base .now) (a .alphabet .now) (a .inputs .now) (a .leaves .now) (a .words .now) (c .before .before .before .before .loop .upper) (c .before .bad-lower .result) (omega (arith, c .before .before .before .before .before .leaf-count .ensures, c .before .before .before .loop-test .taken)) (lower-is (c .before)) (omega (arith, c .before .before .before .before .before .leaf-count .ensures, c .if1 .taken)) (c .before .before .before .before .loop .inv)
+    pair-found (a .base .now) (a .alphabet .now) (a .inputs .now) (a .leaves .now) (a .words .now) (c .before .before .before .before .loop .upper) (c .before .bad-lower .result .bad) (omega (arith, c .before .before .before .before .before .leaf-count .ensures, c .before .before .before .loop-test .taken)) (lower-is (c .before)) (omega (arith, c .before .before .before .before .before .leaf-count .ensures, c .if1 .taken)) (c .before .before .before .before .loop .inv)
 
 add-upper : tie.Need-add-upper Inv-loop μ-loop
 add-upper c = omega arith
