@@ -1,16 +1,18 @@
 -- Laws of the comparison of strings, for the functions that run rule 11 and the look-up.
-use mathlib.Core.Path.{_≡_}
+use mathlib.Core.Path.{_≡_, sym, ap, _∙_}
 use mathlib.Core.Bool.{false}
 use mathlib.Core.List.{List}
 use Prim.Native.Nat.{ℕ, _+_, _<_, _≤_, min}
 use native.Mathlib.Nat.{zero-add}
+use native.Mathlib.Omega.{arith}
 use lib.ListN.{getD}
 use lib.Dec.{eqb, ltb}
-use borrow.Author.Tests.{lt-ltb, le-ltb}
+use borrow.Author.Tests.{lt-ltb, le-ltb, eqb-true}
 use Rattle.lists.specs.Scan.{firstFailing}
-use Rattle.numeration.specs.Code.{lower, precedes}
+use Rattle.lists.proofs.Scan.{scan-passed}
+use Rattle.numeration.specs.Code.{lower, precedes, Begins}
 use Rattle.leaves.specs.Leaf.{wordStart, wordLength, codeOf}
-use Rattle.leaves.specs.Window.{above}
+use Rattle.leaves.specs.Window.{digits, above}
 
 -- two strings whose first difference was found
 module _ (v w : ℕ → ℕ) (n i : ℕ) (first : i ≡ firstFailing (λ i. eqb (v i) (w i)) 0 n) where
@@ -32,3 +34,9 @@ pub window-read : (leaves words window : List ℕ) (k start n : ℕ) → start �
     → lower (λ i. getD window (0 + i) 0) (λ i. getD words (start + i) 0) n ≡ above (codeOf leaves words) window k
 unfolding above
 window-read leaves words window k start n starts reach = rw (starts, reach) (simp zero-add)
+
+-- a word that differs from the window nowhere begins it
+pub begins-read : (leaves words window : List ℕ) (k start n i : ℕ) → start ≡ wordStart leaves k → n ≡ wordLength leaves k → i ≡ firstFailing (λ j. eqb (getD words (start + j) 0) (getD window (0 + j) 0)) 0 n → n ≤ i
+    → Begins (codeOf leaves words) k (digits window)
+begins-read leaves words window k start n i starts long first h j l =
+    ap (λ (a : ℕ). getD words (a + j) 0) (sym starts) ∙ eqb-true _ _ (scan-passed (λ j. eqb (getD words (start + j) 0) (getD window (0 + j) 0)) 0 n j (omega arith) (omega arith)) ∙ ap (digits window) (zero-add j)

@@ -89,3 +89,11 @@ module _ {A : Type 0} (c : Code A) (window : List ℕ) where
         a-leaf = λ n. omega (arith, at .some n, at .inside);
         the-leaf = λ s w. let (k, leaf, b) = w in let range = at .holds s k leaf b in let same : low ≡ k = omega arith in same ∙ sym (leafOf-unique c (ordered-separate c (s .ordered)) (digits window) k leaf b);
       }
+
+  -- a leaf that begins the window is the one looked up
+  pub begins-looked-up : (k : ℕ) → k < c .leaves → Begins c k (digits window) → LookedUp c window k
+  begins-looked-up k leaf b =
+      record {
+        a-leaf = λ _. leaf;
+        the-leaf = λ s w. sym (leafOf-unique c (ordered-separate c (s .ordered)) (digits window) k leaf b);
+      }

@@ -531,3 +531,25 @@ pub fn look_up(leaves: &[u8], words: &[u8], window: [u8; 8]) -> usize
     }
     low
 }
+
+// Whether a leaf's word begins the window.
+fn begins(leaves: &[u8], words: &[u8], window: &[u8; 8], leaf: usize) -> bool
+    requires { ⌜ leaf < leafCount (now leaves) ⌝ }
+    ensures { λ r. ⌜ (r ≡ true → code.Begins (codeOf (now (leaves .entry)) (now (words .entry))) leaf (windows.digits (now (window .entry)))) ⌝ }
+{
+    let start = word_start(leaves, leaf);
+    let n = word_length(leaves, leaf);
+    n <= first_difference(words, start, window, 0, n)
+}
+
+// The look-up with a guess: the search is only made where the guessed leaf doesn't begin the window.
+pub fn look_up_from(leaves: &[u8], words: &[u8], window: [u8; 8], guess: usize) -> usize
+    ensures { λ r. ⌜ windows.LookedUp (codeOf (now (leaves .entry)) (now (words .entry))) window r ⌝ }
+{
+    if guess < leaf_count(leaves) {
+        if begins(leaves, words, &window, guess) {
+            return guess;
+        }
+    }
+    look_up(leaves, words, window)
+}

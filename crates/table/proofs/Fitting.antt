@@ -15,10 +15,14 @@ use Rattle.lists.specs.Scan.{firstFailing}
 use Rattle.lists.proofs.Span.{getD-span, length-span}
 use Rattle.lists.proofs.Scan.{scan-all, scan-unique}
 use Rattle.lists.proofs.Test.{same-outcome, clash}
+use Rattle.ring.specs.Element.{plus, minus, negative}
+use Rattle.ring.specs.Matrix.{times}
+use Rattle.ring.proofs.Element.{plus-assoc, plus-comm}
+use Rattle.layout.specs.Section.{degree}
 use Rattle.digits.specs.Record.{recordAt}
-use Rattle.numeration.specs.Group.{Operations}
 use Rattle.numeration.specs.Code.{Code, agree, Inputs, PrefixCode}
 use Rattle.numeration.specs.Conversion.{outDigit}
+use Rattle.numeration.specs.Elements.{elements}
 use Rattle.numeration.specs.Pairs.{tail, fits, Fits, pairDigit, pairPasses}
 use Rattle.numeration.specs.Runs.{tailThenZeros, lowestFit}
 use Rattle.numeration.proofs.Agreement.{agree-sound, agree-complete}
@@ -28,6 +32,14 @@ use Rattle.leaves.specs.Formed.{Formed}
 use Rattle.leaves.specs.Window.{digits, LookedUp}
 use Rattle.leaves.proofs.Leaf.{word-length, word-digit, weight-there}
 use Rattle.leaves.proofs.Formed.{complete-prefix-code, look-up-is}
+use Rattle.table.specs.Pairs.{upperPart}
+
+-- the digit of a pair, from the upper leaf's part of it
+upper-first : (matrix : List (List ℤ)) (x below own : List ℤ) → plus (minus x (times matrix own)) below ≡ outDigit (elements degree matrix) x below own
+unfolding outDigit elements minus
+upper-first matrix x below own =
+    let other = negative (times matrix own) in
+    plus-assoc x other below ∙ ap (plus x) (plus-comm other below) ∙ sym (plus-assoc x below other)
 
 module _ (leaves words : List ℕ) (m : ℕ) (input : 0 < m) (is : Formed leaves words m) where
   -- a leaf's word as it is handed out
@@ -78,19 +90,19 @@ module _ (leaves words : List ℕ) (m : ℕ) (input : 0 < m) (is : Formed leaves
     fit-is l hl =
         rw (long u hu, long l hl) (same-outcome _ _ (λ e. agree-complete _ _ _ (λ i h. sym (tail-reads i (omega arith)) ∙ agree-sound _ _ _ e i h ∙ reads l i hl (omega arith))) (λ e. agree-complete _ _ _ (λ i h. tail-reads i (omega arith) ∙ agree-sound _ _ _ e i h ∙ sym (reads l i hl (omega arith)))))
 
-    module _ (o : Operations (List ℤ)) (inputs : List ℕ) (alphabet : List ℤ → Bool) where
+    module _ (matrix : List (List ℤ)) (inputs : List ℕ) (alphabet : List ℤ → Bool) where
       abbrev passes : ℕ → Bool
-      passes l = pairPasses o (recordAt inputs) (codeOf leaves words) alphabet u l
+      passes l = pairPasses (elements degree matrix) (recordAt inputs) (codeOf leaves words) alphabet u l
 
       -- all lower leaves up to l pass
       abbrev pub Upto : ℕ → Type 0
       Upto l = (j : ℕ) → j < l → passes j ≡ true
 
       -- the digit of a fitting pair, from the words and weights as they are handed out
-      pub pair-is : (l : ℕ) → l < leafCount leaves → fits (codeOf leaves words) u l ≡ true → alphabet (outDigit o (recordAt inputs (getD (wordGiven leaves words u) 0 0)) (weightGiven leaves l) (weightGiven leaves u)) ≡ passes l
+      pub pair-is : (l : ℕ) → l < leafCount leaves → fits (codeOf leaves words) u l ≡ true → alphabet (plus (upperPart matrix inputs leaves words u) (weightGiven leaves l)) ≡ passes l
       unfolding pairPasses pairDigit
       pair-is l hl fit =
-          rw (fit, pairPasses, reads u 0 hu (is .some u hu), sym (weight-there leaves l hl), sym (weight-there leaves u hu))
+          rw (fit, pairPasses, upper-first matrix (recordAt inputs (getD (wordGiven leaves words u) 0 0)) (weightGiven leaves l) (weightGiven leaves u), reads u 0 hu (is .some u hu), sym (weight-there leaves l hl), sym (weight-there leaves u hu))
 
       apart : (l : ℕ) → fits (codeOf leaves words) u l ≡ false → Fits (codeOf leaves words) u l → ⊥
       unfolding fits
@@ -98,7 +110,7 @@ module _ (leaves words : List ℕ) (m : ℕ) (input : 0 < m) (is : Formed leaves
 
       pub upto-lowest : Upto (lowestFit (codeOf leaves words) u)
       upto-lowest j h =
-          unfit-passes o (recordAt inputs) (codeOf leaves words) alphabet u j (run-below (codeOf leaves words) m (complete-prefix-code leaves words m input is) (is .ordered) u hu j h)
+          unfit-passes (elements degree matrix) (recordAt inputs) (codeOf leaves words) alphabet u j (run-below (codeOf leaves words) m (complete-prefix-code leaves words m input is) (is .ordered) u hu j h)
 
       -- the run ends, with a leaf that doesn't fit, with the last leaf, or with a pair that gives no alphabet digit
       pub ends-unfit : (l : ℕ) → lowestFit (codeOf leaves words) u ≤ l → l < leafCount leaves → fits (codeOf leaves words) u l ≡ false → Upto l → leafCount leaves ≡ firstFailing passes 0 (leafCount leaves)
@@ -115,7 +127,7 @@ module _ (leaves words : List ℕ) (m : ℕ) (input : 0 < m) (is : Formed leaves
           all j z hj =
               elim (decLt j l) [
                 | yes lt ↦ upto j lt
-                | no ge ↦ unfit-passes o (recordAt inputs) (codeOf leaves words) alphabet u j (behind j (omega arith) (omega arith))
+                | no ge ↦ unfit-passes (elements degree matrix) (recordAt inputs) (codeOf leaves words) alphabet u j (behind j (omega arith) (omega arith))
               ]
 
       pub ends-all : (l : ℕ) → leafCount leaves ≤ l → Upto l → leafCount leaves ≡ firstFailing passes 0 (leafCount leaves)

@@ -3,3 +3,4 @@ pub mod Answer
 pub mod Line
 pub mod Check
 pub mod Broken
+pub mod Slots

@@ -5,16 +5,19 @@ use mathlib.Core.List.{List}
 use Prim.Native.Nat.{ℕ}
 use lib.IntN.{ℤ}
 use lib.Dec.{ltb}
+use lib.ListN.{getD}
 use Rattle.lists.specs.Scan.{firstFailing}
 use Rattle.faults.specs.declared.Refusal.{Refusal}
 use Rattle.faults.specs.Check.{judge}
+use Rattle.ring.specs.Element.{minus}
+use Rattle.ring.specs.Matrix.{times}
 use Rattle.layout.specs.Section.{degree}
 use Rattle.digits.specs.Record.{recordAt, elementCount, indexIn}
 use Rattle.digits.specs.Base.{baseMatrix}
 use Rattle.numeration.specs.Group.{Operations}
 use Rattle.numeration.specs.Elements.{elements}
 use Rattle.numeration.specs.Pairs.{pairPasses, upperPasses}
-use Rattle.leaves.specs.Leaf.{leafCount, codeOf}
+use Rattle.leaves.specs.Leaf.{leafCount, codeOf, wordGiven, weightGiven}
 use Rattle.table.specs.declared.Pair.{Pair}
 
 -- the ring's elements with multiplication by the base
@@ -24,6 +27,11 @@ system base = elements degree (baseMatrix base)
 -- an element is in the alphabet
 unfoldable pub inAlphabet : List ℕ → List ℤ → Bool
 inAlphabet alphabet x = ltb (indexIn alphabet (elementCount alphabet) x) (elementCount alphabet)
+
+-- what an upper leaf gives to the digits of its pairs: its first digit minus the base times its weight
+abbrev pub upperPart : List (List ℤ) → List ℕ → List ℕ → List ℕ → ℕ → List ℤ
+upperPart matrix inputs leaves words u =
+    minus (recordAt inputs (getD (wordGiven leaves words u) 0 0)) (times matrix (weightGiven leaves u))
 
 module _ (base alphabet inputs leaves words : List ℕ) where
   -- a pair that doesn't fit, or gives an alphabet digit

@@ -1,34 +1,37 @@
--- All lower leaves before the run and in it so far pass.
+-- All lower leaves before the run and in it so far pass, with every base that gives the upper leaf's part.
 use mathlib.Core.Path.{_≡_, refl, sym, ap, subst, _∙_}
 use mathlib.Core.Bool.{Bool, true, false}
+use mathlib.Core.List.{List}
 use Prim.Native.Nat.{ℕ, _+_, _-_, _<_, _≤_, min, pred}
 use native.Mathlib.Omega.{arith}
+use lib.IntN.{ℤ}
 use lib.ListN.{length, getD}
 use borrow.Author.Count.{below-more}
 use borrow.Author.Needs.{needs}
 use borrow.Author.Tests.{not-true, not-false}
 use Rattle.lists.specs.Span.{span}
+use Rattle.ring.specs.Element.{plus}
 use Rattle.layout.specs.Section.{degree}
 use Rattle.digits.specs.Record.{recordAt, elementCount}
 use Rattle.numeration.specs.Code.{agree}
 use Rattle.numeration.specs.Elements.{elements}
 use Rattle.numeration.specs.Pairs.{fits, pairPasses}
 use Rattle.numeration.specs.Runs.{lowestFit}
-use Rattle.leaves.specs.Leaf.{leafCount, codeOf, wordGiven}
+use Rattle.leaves.specs.Leaf.{leafCount, codeOf, wordGiven, weightGiven}
 use Rattle.leaves.specs.Window.{LookedUp}
 use Rattle.leaves.specs.Formed.{Formed}
 use Rattle.leaves.proofs.Formed.{formed}
-use Rattle.table.specs.Pairs.{inAlphabet}
+use Rattle.table.specs.Pairs.{inAlphabet, upperPart}
 use Rattle.table.proofs.Fitting.{first-input, lowest-found, fit-is, pair-is, upto-lowest, ends-unfit, ends-all, ends-bad}
 use Rattle.table.proofs.bad_lower.Statement.{statement}
 use Rattle.table.proofs.bad_lower.Tie as tie
 
 abbrev Inv-loop : tie.InvT-loop
-Inv-loop base alphabet inputs leaves words upper count top lower₀ lower =
-    (lowestFit (codeOf leaves words) upper ≤ lower) × ((j : ℕ) → j < lower → pairPasses (elements degree base) (recordAt inputs) (codeOf leaves words) (inAlphabet alphabet) upper j ≡ true)
+Inv-loop alphabet known slots inputs leaves words upper guess count top part lower₀ lower =
+    (lowestFit (codeOf leaves words) upper ≤ lower) × ((matrix : List (List ℤ)) → part ≡ upperPart matrix inputs leaves words upper → (j : ℕ) → j < lower → pairPasses (elements degree matrix) (recordAt inputs) (codeOf leaves words) (inAlphabet alphabet) upper j ≡ true)
 
 abbrev μ-loop : tie.MeasureT-loop
-μ-loop base alphabet inputs leaves words upper count top lower₀ lower = count - lower
+μ-loop alphabet known slots inputs leaves words upper guess count top part lower₀ lower = count - lower
 
 well : (s : tie.Start Inv-loop μ-loop) → Formed (s .args .leaves .now) (s .args .words .now) (elementCount (s .args .inputs .now))
 well s = formed (s .args .leaves .now) (s .args .words .now) (elementCount (s .args .inputs .now)) (s .pre .1) (s .pre .2)
@@ -37,22 +40,23 @@ well s = formed (s .args .leaves .now) (s .args .words .now) (elementCount (s .a
 counted : (c : tie.After-leaf-count Inv-loop μ-loop) → c .leaf-count .result ≡ leafCount (c .before .before .before .before .before .args .leaves .now)
 counted c = c .leaf-count .ensures
 
-fit-says : (c : tie.After-fit Inv-loop μ-loop) → c .fit .result ≡ fits (codeOf (c .before .before .before .before .before .before .before .before .before .before .before .before .args .leaves .now) (c .before .before .before .before .before .before .before .before .before .before .before .before .args .words .now)) (c .before .before .before .before .before .before .before .before .before .before .before .before .args .upper) (c .before .before .before .loop .lower)
+fit-says : (c : tie.After-fit Inv-loop μ-loop) → c .fit .result ≡ fits (codeOf (c .before .before .before .before .before .before .before .before .before .before .before .before .before .args .leaves .now) (c .before .before .before .before .before .before .before .before .before .before .before .before .before .args .words .now)) (c .before .before .before .before .before .before .before .before .before .before .before .before .before .args .upper) (c .before .before .before .loop .lower)
 fit-says c =
-    let s = c .before .before .before .before .before .before .before .before .before .before .before .before in
+    let s = c .before .before .before .before .before .before .before .before .before .before .before .before .before in
     let leaves = s .args .leaves .now in
     let words = s .args .words .now in
-    let top = c .before .before .before .before .before .before .word .ensures in
+    let top = c .before .before .before .before .before .before .before .word .ensures in
     let low = c .before .word2 .ensures in
-    let h : c .before .before .before .loop .lower < leafCount leaves = omega (arith, counted (c .before .before .before .before .before .before .before), c .before .before .loop-test .taken) in
+    let h : c .before .before .before .loop .lower < leafCount leaves = omega (arith, counted (c .before .before .before .before .before .before .before .before), c .before .before .loop-test .taken) in
     c .fit .ensures ∙ (λ i. agree (λ k. getD (top i) (k + 1) 0) (λ k. getD (low i) k 0) (min (pred (length (top i))) (length (low i)))) ∙ fit-is leaves words (elementCount (s .args .inputs .now)) (s .pre .1) (well s) (s .args .upper) (s .pre .3) (c .before .before .before .loop .lower) h
 
-pair-says : (c : tie.After-gives-digit Inv-loop μ-loop) → c .gives-digit .result ≡ pairPasses (elements degree (c .before .before .before .before .before .before .before .before .before .before .before .before .before .before .args .base)) (recordAt (c .before .before .before .before .before .before .before .before .before .before .before .before .before .before .args .inputs .now)) (codeOf (c .before .before .before .before .before .before .before .before .before .before .before .before .before .before .args .leaves .now) (c .before .before .before .before .before .before .before .before .before .before .before .before .before .before .args .words .now)) (inAlphabet (c .before .before .before .before .before .before .before .before .before .before .before .before .before .before .args .alphabet .now)) (c .before .before .before .before .before .before .before .before .before .before .before .before .before .before .args .upper) (c .before .before .before .before .before .loop .lower)
-pair-says c =
-    let s = c .before .before .before .before .before .before .before .before .before .before .before .before .before .before in
+pair-says : (c : tie.After-gives-digit Inv-loop μ-loop) (matrix : List (List ℤ)) → c .before .before .before .before .before .before .before .before .upper-part .result ≡ upperPart matrix (c .before .before .before .before .before .before .before .before .before .before .before .before .before .before .before .args .inputs .now) (c .before .before .before .before .before .before .before .before .before .before .before .before .before .before .before .args .leaves .now) (c .before .before .before .before .before .before .before .before .before .before .before .before .before .before .before .args .words .now) (c .before .before .before .before .before .before .before .before .before .before .before .before .before .before .before .args .upper) → c .gives-digit .result ≡ pairPasses (elements degree matrix) (recordAt (c .before .before .before .before .before .before .before .before .before .before .before .before .before .before .before .args .inputs .now)) (codeOf (c .before .before .before .before .before .before .before .before .before .before .before .before .before .before .before .args .leaves .now) (c .before .before .before .before .before .before .before .before .before .before .before .before .before .before .before .args .words .now)) (inAlphabet (c .before .before .before .before .before .before .before .before .before .before .before .before .before .before .before .args .alphabet .now)) (c .before .before .before .before .before .before .before .before .before .before .before .before .before .before .before .args .upper) (c .before .before .before .before .before .loop .lower)
+pair-says c matrix own =
+    let s = c .before .before .before .before .before .before .before .before .before .before .before .before .before .before .before in
     let d = c .before .before in
-    let h : d .before .before .before .loop .lower < leafCount (s .args .leaves .now) = omega (arith, counted (d .before .before .before .before .before .before .before), d .before .before .loop-test .taken) in
-    c .gives-digit .ensures ∙ pair-is (s .args .leaves .now) (s .args .words .now) (elementCount (s .args .inputs .now)) (s .pre .1) (well s) (s .args .upper) (s .pre .3) (elements degree (s .args .base)) (s .args .inputs .now) (inAlphabet (s .args .alphabet .now)) (d .before .before .before .loop .lower) h (sym (fit-says d) ∙ not-false _ (c .before .if1 .left))
+    let l = d .before .before .before .loop .lower in
+    let h : d .before .before .before .loop .lower < leafCount (s .args .leaves .now) = omega (arith, counted (d .before .before .before .before .before .before .before .before), d .before .before .loop-test .taken) in
+    c .gives-digit .ensures ∙ ap (λ p. inAlphabet (s .args .alphabet .now) (plus p (weightGiven (s .args .leaves .now) l))) own ∙ pair-is (s .args .leaves .now) (s .args .words .now) (elementCount (s .args .inputs .now)) (s .pre .1) (well s) (s .args .upper) (s .pre .3) matrix (s .args .inputs .now) (inAlphabet (s .args .alphabet .now)) l h (sym (fit-says d) ∙ not-false _ (c .before .if1 .left))
 
 leaf-count-requires : tie.Need-leaf-count-requires Inv-loop μ-loop
 leaf-count-requires c κs = search needs
@@ -60,22 +64,27 @@ leaf-count-requires c κs = search needs
 word-requires : tie.Need-word-requires Inv-loop μ-loop
 word-requires c κs = search needs
 
+upper-part-requires : tie.Need-upper-part-requires Inv-loop μ-loop
+upper-part-requires c κs =
+    let s = (c .before .before .before .before .before .before) in
+    (s .pre .0, first-input (s .args .leaves .now) (s .args .words .now) (elementCount (s .args .inputs .now)) (s .pre .1) (well s) (s .args .upper) (s .pre .3))
+
 tail-window-requires : tie.Need-tail-window-requires Inv-loop μ-loop
 tail-window-requires c κs = search needs
 
-look-up-requires : tie.Need-look-up-requires Inv-loop μ-loop
-look-up-requires c κs = search needs
+look-up-from-requires : tie.Need-look-up-from-requires Inv-loop μ-loop
+look-up-from-requires c κs = search needs
 
 loop-holds : tie.Need-loop-holds Inv-loop μ-loop
 loop-holds c =
-    let s = (c .before .before .before .before .before .before .before .before) in
+    let s = (c .before .before .before .before .before .before .before .before .before) in
     let leaves = s .args .leaves .now in
     let words = s .args .words .now in
     let m = elementCount (s .args .inputs .now) in
     let u = s .args .upper in
-    let window = c .before .tail-window .ensures ∙ ap (λ w. span (λ i. getD w i 0) 1 8) (c .before .before .word .ensures) in
-    let lowest = lowest-found leaves words m (s .pre .1) (well s) u (s .pre .3) (c .look-up .result) (subst (λ w. LookedUp (codeOf leaves words) w (c .look-up .result)) window (c .look-up .ensures)) in
-    (omega (arith, lowest), subst (λ (l : ℕ). (j : ℕ) → j < l → pairPasses (elements degree (s .args .base)) (recordAt (s .args .inputs .now)) (codeOf leaves words) (inAlphabet (s .args .alphabet .now)) u j ≡ true) (sym lowest) (upto-lowest leaves words m (s .pre .1) (well s) u (s .pre .3) (elements degree (s .args .base)) (s .args .inputs .now) (inAlphabet (s .args .alphabet .now))))
+    let window = c .before .tail-window .ensures ∙ ap (λ w. span (λ i. getD w i 0) 1 8) (c .before .before .before .word .ensures) in
+    let lowest = lowest-found leaves words m (s .pre .1) (well s) u (s .pre .3) (c .look-up-from .result) (subst (λ w. LookedUp (codeOf leaves words) w (c .look-up-from .result)) window (c .look-up-from .ensures)) in
+    (omega (arith, lowest), λ matrix own. subst (λ (l : ℕ). (j : ℕ) → j < l → pairPasses (elements degree matrix) (recordAt (s .args .inputs .now)) (codeOf leaves words) (inAlphabet (s .args .alphabet .now)) u j ≡ true) (sym lowest) (upto-lowest leaves words m (s .pre .1) (well s) u (s .pre .3) matrix (s .args .inputs .now) (inAlphabet (s .args .alphabet .now))))
 
 word-requires-2 : tie.Need-word-requires-2 Inv-loop μ-loop
 word-requires-2 c κs = search needs
@@ -85,22 +94,20 @@ fit-requires c κs = search needs
 
 returns : tie.Need-returns Inv-loop μ-loop
 returns c =
-    let s = (c .before .before .before .before .before .before .before .before .before .before .before .before .before) in
+    let s = (c .before .before .before .before .before .before .before .before .before .before .before .before .before .before) in
     let leaves = s .args .leaves .now in
     let loop = c .before .before .before .before .loop in
-    let count = counted (c .before .before .before .before .before .before .before .before) in
-    count ∙ ends-unfit leaves (s .args .words .now) (elementCount (s .args .inputs .now)) (s .pre .1) (well s) (s .args .upper) (s .pre .3) (elements degree (s .args .base)) (s .args .inputs .now) (inAlphabet (s .args .alphabet .now)) (loop .lower) (loop .inv .0) (omega (arith, count, c .before .before .before .loop-test .taken)) (sym (fit-says (c .before)) ∙ not-true _ (c .if1 .taken)) (loop .inv .1)
+    let count = counted (c .before .before .before .before .before .before .before .before .before) in
+    count ∙ ends-unfit leaves (s .args .words .now) (elementCount (s .args .inputs .now)) (s .pre .1) (well s) (s .args .upper) (s .pre .3) (s .args .base) (s .args .inputs .now) (inAlphabet (s .args .alphabet .now)) (loop .lower) (loop .inv .0) (omega (arith, count, c .before .before .before .loop-test .taken)) (sym (fit-says (c .before)) ∙ not-true _ (c .if1 .taken)) (loop .inv .1 (s .args .base) (c .before .before .before .before .before .before .before .upper-part .ensures .0))
 
 gives-digit-requires : tie.Need-gives-digit-requires Inv-loop μ-loop
-gives-digit-requires c κs =
-    let s = (c .before .before .before .before .before .before .before .before .before .before .before .before .before) in
-    (s .pre .0, first-input (s .args .leaves .now) (s .args .words .now) (elementCount (s .args .inputs .now)) (s .pre .1) (well s) (s .args .upper) (s .pre .3))
+gives-digit-requires c κs = (c .before .before .before .before .before .before .before .before .before .before .before .before .before .before .pre .4, c .before .before .before .before .before .before .before .upper-part .ensures .1)
 
 returns-2 : tie.Need-returns-2 Inv-loop μ-loop
 returns-2 c =
-    let s = (c .before .before .before .before .before .before .before .before .before .before .before .before .before .before .before) in
+    let s = (c .before .before .before .before .before .before .before .before .before .before .before .before .before .before .before .before) in
     let loop = c .before .before .before .before .before .before .loop in
-    ends-bad (s .args .leaves .now) (s .args .words .now) (elementCount (s .args .inputs .now)) (s .pre .1) (well s) (s .args .upper) (s .pre .3) (elements degree (s .args .base)) (s .args .inputs .now) (inAlphabet (s .args .alphabet .now)) (loop .lower) (omega (arith, counted (c .before .before .before .before .before .before .before .before .before .before), c .before .before .before .before .before .loop-test .taken)) (sym (pair-says (c .before)) ∙ not-true _ (c .if2 .taken)) (loop .inv .1)
+    ends-bad (s .args .leaves .now) (s .args .words .now) (elementCount (s .args .inputs .now)) (s .pre .1) (well s) (s .args .upper) (s .pre .3) (s .args .base) (s .args .inputs .now) (inAlphabet (s .args .alphabet .now)) (loop .lower) (omega (arith, counted (c .before .before .before .before .before .before .before .before .before .before .before), c .before .before .before .before .before .loop-test .taken)) (sym (pair-says (c .before) (s .args .base) (c .before .before .before .before .before .before .before .before .before .upper-part .ensures .0)) ∙ not-true _ (c .if2 .taken)) (loop .inv .1 (s .args .base) (c .before .before .before .before .before .before .before .before .before .upper-part .ensures .0))
 
 add-lower : tie.Need-add-lower Inv-loop μ-loop
 add-lower c = omega arith
@@ -109,14 +116,14 @@ loop-less : tie.Need-loop-less Inv-loop μ-loop
 loop-less c = omega arith
 
 loop-again : tie.Need-loop-again Inv-loop μ-loop
-loop-again c = (omega (arith, c .before .before .before .before .before .before .loop .inv .0), below-more _ _ (c .before .before .before .before .before .before .loop .inv .1) (sym (pair-says (c .before)) ∙ not-false _ (c .if2 .left)))
+loop-again c = (omega (arith, c .before .before .before .before .before .before .loop .inv .0), λ matrix own. below-more _ _ (c .before .before .before .before .before .before .loop .inv .1 matrix own) (sym (pair-says (c .before) matrix own) ∙ not-false _ (c .if2 .left)))
 
 returns-3 : tie.Need-returns-3 Inv-loop μ-loop
 returns-3 c =
-    let s = (c .before .before .before .before .before .before .before .before .before .before) in
+    let s = (c .before .before .before .before .before .before .before .before .before .before .before) in
     let loop = c .before .loop in
-    let count = counted (c .before .before .before .before .before) in
-    count ∙ ends-all (s .args .leaves .now) (s .args .words .now) (elementCount (s .args .inputs .now)) (s .pre .1) (well s) (s .args .upper) (s .pre .3) (elements degree (s .args .base)) (s .args .inputs .now) (inAlphabet (s .args .alphabet .now)) (loop .lower) (omega (arith, count, c .loop-test .left)) (loop .inv .1)
+    let count = counted (c .before .before .before .before .before .before) in
+    count ∙ ends-all (s .args .leaves .now) (s .args .words .now) (elementCount (s .args .inputs .now)) (s .pre .1) (well s) (s .args .upper) (s .pre .3) (s .args .base) (s .args .inputs .now) (inAlphabet (s .args .alphabet .now)) (loop .lower) (omega (arith, count, c .loop-test .left)) (loop .inv .1 (s .args .base) (c .before .before .before .before .upper-part .ensures .0))
 
 pub bad-lower-spec : {M : Type 1} → statement M
 bad-lower-spec =
@@ -126,8 +133,9 @@ bad-lower-spec =
     μ-loop
     leaf-count-requires
     word-requires
+    upper-part-requires
     tail-window-requires
-    look-up-requires
+    look-up-from-requires
     loop-holds
     word-requires-2
     fit-requires

@@ -19,20 +19,23 @@ use Rattle.table.proofs.bad_pair.Statement.{statement}
 use Rattle.table.proofs.bad_pair.Tie as tie
 
 abbrev Inv-loop : tie.InvT-loop
-Inv-loop base alphabet inputs leaves words matrix count upper₀ upper = UppersPass base alphabet inputs leaves words upper
+Inv-loop base alphabet inputs leaves words matrix slots known count guess₀ upper₀ guess upper = UppersPass base alphabet inputs leaves words upper
 
 abbrev μ-loop : tie.MeasureT-loop
-μ-loop base alphabet inputs leaves words matrix count upper₀ upper = count - upper
+μ-loop base alphabet inputs leaves words matrix slots known count guess₀ upper₀ guess upper = count - upper
 
 -- the lowest lower leaf of the upper one, by the base's matrix
-lower-is : (c : tie.After-bad-lower Inv-loop μ-loop) → c .bad-lower .result ≡ badLower (c .before .before .before .before .before .before .before .before .before .before .args .base .now) (c .before .before .before .before .before .before .before .before .before .before .args .alphabet .now) (c .before .before .before .before .before .before .before .before .before .before .args .inputs .now) (c .before .before .before .before .before .before .before .before .before .before .args .leaves .now) (c .before .before .before .before .before .before .before .before .before .before .args .words .now) (c .before .before .loop .upper)
+lower-is : (c : tie.After-bad-lower Inv-loop μ-loop) → c .bad-lower .result .bad ≡ badLower (c .before .before .before .before .before .before .before .before .before .before .before .before .before .args .base .now) (c .before .before .before .before .before .before .before .before .before .before .before .before .before .args .alphabet .now) (c .before .before .before .before .before .before .before .before .before .before .before .before .before .args .inputs .now) (c .before .before .before .before .before .before .before .before .before .before .before .before .before .args .leaves .now) (c .before .before .before .before .before .before .before .before .before .before .before .before .before .args .words .now) (c .before .before .before .loop .upper)
 unfolding badLower
 lower-is c =
-    let s = c .before .before .before .before .before .before .before .before .before .before in
-    c .bad-lower .ensures ∙ ap (λ b. firstFailing (pairPasses (elements degree b) (recordAt (s .args .inputs .now)) (codeOf (s .args .leaves .now) (s .args .words .now)) (inAlphabet (s .args .alphabet .now)) (c .before .before .loop .upper)) 0 (leafCount (s .args .leaves .now))) (c .before .before .before .before .base-of .ensures)
+    let s = c .before .before .before .before .before .before .before .before .before .before .before .before .before in
+    c .bad-lower .ensures ∙ ap (λ b. firstFailing (pairPasses (elements degree b) (recordAt (s .args .inputs .now)) (codeOf (s .args .leaves .now) (s .args .words .now)) (inAlphabet (s .args .alphabet .now)) (c .before .before .before .loop .upper)) 0 (leafCount (s .args .leaves .now))) (c .before .before .before .before .before .before .before .base-of .ensures)
 
 base-of-requires : tie.Need-base-of-requires Inv-loop μ-loop
 base-of-requires c κs = c .before .before .before .before .before .pre .0
+
+slot-digits-requires : tie.Need-slot-digits-requires Inv-loop μ-loop
+slot-digits-requires c κs = search needs
 
 leaf-count-requires : tie.Need-leaf-count-requires Inv-loop μ-loop
 leaf-count-requires c κs = search needs
@@ -42,14 +45,13 @@ loop-holds c = λ j h. absurd (not-suc-le-zero h)
 
 bad-lower-requires : tie.Need-bad-lower-requires Inv-loop μ-loop
 bad-lower-requires c κs =
-    let s = (c .before .before .before .before .before .before .before .before .before) in
-    (subst (RowsWithin (2 ^ 24)) (sym (c .before .before .before .base-of .ensures)) (base-within (s .args .base .now) (s .pre .0)), s .pre .1, s .pre .2, omega (arith, c .before .before .leaf-count .ensures, c .loop-test .taken))
+    let base = c .before .before .before .before .before .before .before .before .before .before .before .before .args .base .now in
+    (subst (RowsWithin (2 ^ 24)) (sym (c .before .before .before .before .before .before .base-of .ensures)) (base-within base (c .before .before .before .before .before .before .before .before .before .before .before .before .pre .0)), c .before .before .before .before .before .before .before .before .before .before .before .before .pre .1, c .before .before .before .before .before .before .before .before .before .before .before .before .pre .2, omega (arith, c .before .before .before .leaf-count .ensures, c .before .loop-test .taken), c .before .before .before .before .slot-digits .ensures)
 
 returns : tie.Need-returns Inv-loop μ-loop
 returns c =
-    let s = (c .before .before .before .before .before .before .before .before .before .before .before) in
-    let a = s .args in
-    pair-found (a .base .now) (a .alphabet .now) (a .inputs .now) (a .leaves .now) (a .words .now) (c .before .before .before .loop .upper) (c .before .bad-lower .result) (omega (arith, c .before .before .before .before .leaf-count .ensures, c .before .before .loop-test .taken)) (lower-is (c .before)) (omega (arith, c .before .before .before .before .leaf-count .ensures, c .if1 .taken)) (c .before .before .before .loop .inv)
+    let a = c .before .before .before .before .before .before .before .before .before .before .before .before .before .before .args in
+    pair-found (a .base .now) (a .alphabet .now) (a .inputs .now) (a .leaves .now) (a .words .now) (c .before .before .before .before .loop .upper) (c .before .bad-lower .result .bad) (omega (arith, c .before .before .before .before .before .leaf-count .ensures, c .before .before .before .loop-test .taken)) (lower-is (c .before)) (omega (arith, c .before .before .before .before .before .leaf-count .ensures, c .if1 .taken)) (c .before .before .before .before .loop .inv)
 
 add-upper : tie.Need-add-upper Inv-loop μ-loop
 add-upper c = omega arith
@@ -59,14 +61,12 @@ loop-less c = omega arith
 
 loop-again : tie.Need-loop-again Inv-loop μ-loop
 loop-again c =
-    let s = (c .before .before .before .before .before .before .before .before .before .before .before) in
-    let a = s .args in
-    below-more _ _ (c .before .before .before .loop .inv) (upper-passes (a .base .now) (a .alphabet .now) (a .inputs .now) (a .leaves .now) (a .words .now) (c .before .before .before .loop .upper) (omega (arith, lower-is (c .before), c .before .before .before .before .leaf-count .ensures, c .if1 .left)))
+    let a = c .before .before .before .before .before .before .before .before .before .before .before .before .before .before .args in
+    below-more _ _ (c .before .before .before .before .loop .inv) (upper-passes (a .base .now) (a .alphabet .now) (a .inputs .now) (a .leaves .now) (a .words .now) (c .before .before .before .before .loop .upper) (omega (arith, lower-is (c .before), c .before .before .before .before .before .leaf-count .ensures, c .if1 .left)))
 
 returns-2 : tie.Need-returns-2 Inv-loop μ-loop
 returns-2 c =
-    let s = (c .before .before .before .before .before .before .before .before .before) in
-    let a = s .args in
+    let a = c .before .before .before .before .before .before .before .before .before .before .before .args in
     (λ i. record { upper = c .before .before .leaf-count .ensures i; lower = c .before .before .leaf-count .ensures i }) ∙ pair-none (a .base .now) (a .alphabet .now) (a .inputs .now) (a .leaves .now) (a .words .now) (c .before .loop .upper) (omega (arith, c .before .before .leaf-count .ensures, c .loop-test .left)) (c .before .loop .inv)
 
 pub bad-pair-spec : {M : Type 1} → statement M
@@ -76,6 +76,7 @@ bad-pair-spec =
     Inv-loop
     μ-loop
     base-of-requires
+    slot-digits-requires
     leaf-count-requires
     loop-holds
     bad-lower-requires

@@ -1,0 +1,25 @@
+use Rattle.leaves.proofs.Search.{begins-looked-up}
+use Rattle.leaves.specs.Leaf.{codeOf}
+use native.Mathlib.Omega.{arith}
+use borrow.Author.Needs.{needs}
+use Rattle.leaves.proofs.look_up_from.Statement.{statement}
+use Rattle.leaves.proofs.look_up_from.Tie as tie
+
+leaf-count-requires : tie.Need-leaf-count-requires
+leaf-count-requires c κs = search needs
+
+begins-requires : tie.Need-begins-requires
+begins-requires c κs = search needs
+
+returns : tie.Need-returns
+returns c = begins-looked-up (codeOf (c .before .before .before .before .before .before .before .args .leaves .now) (c .before .before .before .before .before .before .before .args .words .now)) _ (c .before .before .before .before .before .before .before .args .guess) (omega (arith, c .before .before .before .before .leaf-count .ensures, c .before .before .before .if1 .taken)) (c .before .begins .ensures (c .if2 .taken))
+
+look-up-requires : tie.Need-look-up-requires
+look-up-requires c κs = search needs
+
+returns-2 : tie.Need-returns-2
+returns-2 c = search needs
+
+pub look-up-from-spec : {M : Type 1} → statement M
+look-up-from-spec =
+    tie.close (tie.spec leaf-count-requires begins-requires returns look-up-requires returns-2)

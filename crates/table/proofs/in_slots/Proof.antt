@@ -1,0 +1,51 @@
+use Rattle.table.proofs.Slots.{slot-none, slot-some}
+use Rattle.ring.specs.Element.{same}
+use lib.ListN.{getD}
+use denote.Ref.{now}
+use native.Mathlib.Omega.{arith}
+use Prim.Native.Nat.{ℕ, _<_, _≤_}
+use mathlib.Core.Path.{_≡_, ap, _∙_}
+use borrow.Author.Needs.{needs}
+use Rattle.table.proofs.in_slots.Statement.{statement}
+use Rattle.table.proofs.in_slots.Tie as tie
+
+slot-of-requires : tie.Need-slot-of-requires
+slot-of-requires c κs = search needs
+
+element-copy-out-wide : tie.Need-element-copy-out-wide
+element-copy-out-wide c = search needs
+
+wide-requires : tie.Need-wide-requires
+wide-requires c κs = search needs
+
+record-count-requires : tie.Need-record-count-requires
+record-count-requires c κs = search needs
+
+record-at-requires : tie.Need-record-at-requires
+record-at-requires c κs = search needs
+
+equal-requires : tie.Need-equal-requires
+equal-requires c κs = search needs
+
+returns : tie.Need-returns
+returns c =
+    let at = c .before .before .before .before .wide .ensures ∙ ap (λ (i : ℕ). getD (now (c .before .before .before .before .before .before .before .before .args .slots)) i 0) (c .before .before .before .before .before .before .slot-of .ensures .0) in
+    c .equal .ensures ∙ ap (λ y. same y (c .before .before .before .before .before .before .before .before .args .x)) (c .before .record-at .ensures .0) ∙ slot-some (c .before .before .before .before .before .before .before .before .args .alphabet .now) (now (c .before .before .before .before .before .before .before .before .args .slots)) (c .before .before .before .before .before .before .before .before .pre .1) (c .before .before .before .before .before .before .before .before .args .x) (c .before .before .before .before .wide .result) at (omega (arith, c .before .before .before .record-count .ensures, c .before .before .if1 .taken))
+
+returns-2 : tie.Need-returns-2
+returns-2 c =
+    let at = c .before .before .wide .ensures ∙ ap (λ (i : ℕ). getD (now (c .before .before .before .before .before .before .args .slots)) i 0) (c .before .before .before .before .slot-of .ensures .0) in
+    slot-none (c .before .before .before .before .before .before .args .alphabet .now) (now (c .before .before .before .before .before .before .args .slots)) (c .before .before .before .before .before .before .pre .1) (c .before .before .before .before .before .before .args .x) (c .before .before .wide .result) at (omega (arith, c .before .record-count .ensures, c .if1 .left))
+
+pub in-slots-spec : {M : Type 1} → statement M
+in-slots-spec =
+    tie.close
+    (tie.spec
+    slot-of-requires
+    element-copy-out-wide
+    wide-requires
+    record-count-requires
+    record-at-requires
+    equal-requires
+    returns
+    returns-2)
