@@ -1,4 +1,1 @@
-pub mod Sum
 pub mod Answer
-pub mod Broken
-pub mod Summed

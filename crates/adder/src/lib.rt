@@ -5,21 +5,17 @@ ghost use lib.ListN.{length, getD};
 ghost use Rattle.lists.specs.Scan.{firstFailing};
 ghost use Rattle.lists.specs.Overwrite.{overwrite};
 ghost use Rattle.numeration.specs.Code.{Inputs};
-ghost use Rattle.reader.specs.Table.{tableCheck, tableFacts};
-ghost use Rattle.reader.specs.Ready.{inputCount};
-ghost use Rattle.rows.specs.Changed.{changed};
-ghost use Rattle.rows.specs.Fit.{RowsFit};
+ghost use Rattle.reader_rules.specs.Table.{tableCheck, tableFacts};
+ghost use Rattle.reader_rules.specs.Ready.{inputCount};
+ghost use Rattle.row_rules.specs.Changed.{changed};
+ghost use Rattle.row_rules.specs.Fit.{RowsFit};
 ghost use Rattle.places.specs.Place.{partRow};
-ghost use Rattle.adder.specs.Sum.{inputOf, digitCount, placeCount, rowAllowed, rowPart, sumRow, digitsOutcome, addOutcome, atExit, addSum};
+ghost use Rattle.adder_rules.specs.Sum.{inputOf, digitCount, placeCount, rowAllowed, rowPart, sumRow, digitsOutcome, addOutcome, atExit, addSum};
 ghost use Rattle.adder.specs.Answer.{outcomeOf};
+use adder_rules::AddedFacts;
 use faults::Fault;
-use reader::Reading;
-use rows::Change;
-
-// The facts of addition: n + h, the bytes written.
-pub struct AddedFacts {
-    pub places: usize,
-}
+use reader_rules::Reading;
+use row_rules::Change;
 
 pub enum Added {
     Sum(AddedFacts),

@@ -8,9 +8,9 @@ use lib.ListN.{length}
 use Rattle.lists.specs.Overwrite.{overwrite}
 use Rattle.faults.specs.declared.Fault.{Fault}
 use Rattle.faults.specs.Outcome.{Group, author, rows, editor, Outcome, facts, refused, whose, numberOf, placeOf}
-use Rattle.table.specs.declared.Facts.{Facts}
-use Rattle.adder.specs.declared.AddedFacts.{AddedFacts}
-use Rattle.edits.specs.declared.EditedFacts.{EditedFacts}
+use Rattle.table_rules.specs.declared.Facts.{Facts}
+use Rattle.adder_rules.specs.declared.AddedFacts.{AddedFacts}
+use Rattle.edit_rules.specs.declared.EditedFacts.{EditedFacts}
 use Rattle.adder_c.specs.Word.{wordOf}
 
 -- word 0 of a fault: whose it is

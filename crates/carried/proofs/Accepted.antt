@@ -9,24 +9,24 @@ use Rattle.ring.specs.Element.{plus, negative, minus, scale, timesOmega, produc
 use Rattle.ring.specs.Matrix.{dot, times, columns, matrixOf, trace, alternating, without, determinant}
 use Rattle.faults.specs.Check.{judge, _then_, inTurn}
 use Rattle.faults.specs.Unless.{unless}
-use Rattle.layout.specs.Directory.{sizeAllowed, expectedStart, pairAllowed, directoryCheck}
-use Rattle.layout.specs.Length.{lengthAllowed, lengthCheck}
-use Rattle.layout.specs.Limit.{numberPlace, numberCount, numberAllowed, limitCheckIn, limitCheckOf, limitCheck}
-use Rattle.layout.specs.Number.{unsignedAt, toSigned}
-use Rattle.digits.specs.Base.{omegaOf, betaOf, baseMatrix, discriminantAllowed, expandingBase, baseCheck}
-use Rattle.digits.specs.Digits.{recordAllowed, alphabetCheck, sumIndex, sumListed, sumsListed, allSumsListed, noSumWith, isSum, inputAllowed, inputsAllowed, inputCheck, digitCheck}
-use Rattle.digits.specs.Record.{elementAt, indexIn}
+use Rattle.layout_rules.specs.Directory.{sizeAllowed, expectedStart, pairAllowed, directoryCheck}
+use Rattle.layout_rules.specs.Length.{lengthAllowed, lengthCheck}
+use Rattle.layout_rules.specs.Limit.{numberPlace, numberCount, numberAllowed, limitCheckIn, limitCheckOf, limitCheck}
+use Rattle.layout_rules.specs.Number.{unsignedAt, toSigned}
+use Rattle.digit_rules.specs.Base.{omegaOf, betaOf, baseMatrix, discriminantAllowed, expandingBase, baseCheck}
+use Rattle.digit_rules.specs.Digits.{recordAllowed, alphabetCheck, sumIndex, sumListed, sumsListed, allSumsListed, noSumWith, isSum, inputAllowed, inputsAllowed, inputCheck, digitCheck}
+use Rattle.digit_rules.specs.Record.{elementAt, indexIn}
 use Rattle.numeration.specs.Code.{agree, lower, largest, begins, leafOf, depth, precedes}
 use Rattle.numeration.specs.Conversion.{window, outDigit, weightInto, weightAt, convert, convertRow}
 use Rattle.numeration.specs.Elements.{elements}
 use Rattle.numeration.specs.Pairs.{tail, fits, pairDigitAt, pairString, pairRow, pairDigit, pairPasses, upperPasses, lowestBadUpper}
-use Rattle.leaves.specs.Check.{expectedStart as leaves-expectedStart, leafAllowed, placeCheck, indexCheck, orderCheck, coverCheck, zeroCheck, leafCheck}
-use Rattle.leaves.specs.Coverage.{runEnd, everyRun, covered}
+use Rattle.prefix_rules.specs.Check.{expectedStart as leaves-expectedStart, leafAllowed, placeCheck, indexCheck, orderCheck, coverCheck, zeroCheck, leafCheck}
+use Rattle.prefix_rules.specs.Coverage.{runEnd, everyRun, covered}
 use Rattle.leaves.specs.Leaf.{wordGiven, weightGiven}
 use Rattle.leaves.specs.Window.{above}
-use Rattle.reader.specs.Table.{layoutCheck, digitsOf, leavesOf, tableCheck, partFacts, tableFacts, readOutcome}
-use Rattle.table.specs.Check.{pairsOf, checkFacts, checkOutcome}
-use Rattle.table.specs.Pairs.{inAlphabet, badLower, badUpper, pairCheck, badPair}
+use Rattle.reader_rules.specs.Table.{layoutCheck, digitsOf, leavesOf, tableCheck, partFacts, tableFacts, readOutcome}
+use Rattle.table_rules.specs.Check.{pairsOf, checkFacts, checkOutcome}
+use Rattle.table_rules.specs.Pairs.{inAlphabet, badLower, badUpper, pairCheck, badPair}
 use Rattle.carried.specs.Tables.{unsigned16, signed16, joined, record4, leafRecords, directory, sections, fileOf, ternInputs, ternWeight, ternLeaves, ternFile, binInputs, binWeight2, binWeight1, binLeavesOf, binLeaves, binFile}
 
 pub accepted : (checkOutcome ternFile ≡ facts (record { depth = 1; leaves = 9; digits = 5 })) × (checkOutcome binFile ≡ facts (record { depth = 2; leaves = 13; digits = 3 }))

@@ -3,7 +3,7 @@ ghost use mathlib.Core.Path.{_≡_};
 ghost use Prim.Native.Nat.{_^_};
 ghost use Rattle.ring.specs.Element.{Within};
 ghost use Rattle.ring.specs.Matrix.{RowsWithin};
-ghost use Rattle.layout.specs.Section.{degree};
+ghost use Rattle.layout_rules.specs.Section.{degree};
 ghost use Rattle.numeration.specs.Conversion.{outDigit};
 ghost use Rattle.numeration.specs.Elements.{elements};
 

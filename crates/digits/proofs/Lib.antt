@@ -1,9 +1,1 @@
-pub mod Record
-pub mod Index
-pub mod Base
-pub mod Allowed
-pub mod Sums
 pub mod Marks
-pub mod Broken
-pub mod Formed
-pub mod Passed

@@ -21,13 +21,13 @@ use Rattle.faults.proofs.Check.{judge-kept}
 use Rattle.ring.specs.Element.{plus, same, Within}
 use Rattle.ring.proofs.Element.{same→≡}
 use Rattle.ring.proofs.Parts.{entry}
-use Rattle.digits.specs.Record.{recordAt, elementCount, indexIn}
-use Rattle.digits.specs.Digits.{recordAllowed, sumIndex, sumListed, allSumsListed, inputAllowed, inputsAllowed, inputCheck}
-use Rattle.digits.specs.Broken.{Broken7}
+use Rattle.digit_rules.specs.Record.{recordAt, elementCount, indexIn}
+use Rattle.digit_rules.specs.Digits.{recordAllowed, sumIndex, sumListed, allSumsListed, inputAllowed, inputsAllowed, inputCheck}
+use Rattle.digit_rules.specs.Broken.{Broken7}
 use Rattle.digits.specs.Marks.{slotOf, followed, located, FoundAt, Marked}
-use Rattle.digits.proofs.Index.{index-first}
-use Rattle.digits.proofs.Allowed.{at-record, after-records}
-use Rattle.digits.proofs.Sums.{record-fails, sum-passes}
+use Rattle.digit_rules.proofs.Index.{index-first}
+use Rattle.digit_rules.proofs.Allowed.{at-record, after-records}
+use Rattle.digit_rules.proofs.Sums.{record-fails, sum-passes}
 
 not-failed : (b : Bool) → (b ≡ false → ⊥) → b ≡ true
 not-failed true h = refl

@@ -8,7 +8,7 @@ use lib.ListN.{getD}
 use lib.Dec.{ltb}
 use lib.IntN.{ℤ, pos, natAbs, _+ℤ_, _*ℤ_}
 use Rattle.ring.specs.Element.{part, plus, same}
-use Rattle.digits.specs.Record.{recordAt, elementCount}
+use Rattle.digit_rules.specs.Record.{recordAt, elementCount}
 
 -- the slot of an element, of 256
 unfoldable pub slotOf : List ℤ → ℕ

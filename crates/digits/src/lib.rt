@@ -6,9 +6,9 @@ ghost use Prim.Native.Nat.{ℕ, _+_, _≤_, _<_};
 ghost use lib.ListN.{length, getD};
 ghost use Rattle.faults.specs.Check.{none};
 ghost use Rattle.ring.specs.Element.{plus, Within};
-ghost use Rattle.digits.specs.Record.{elementAt, recordAt, elementCount, indexIn};
-ghost use Rattle.digits.specs.Base.{BasePart, baseMatrix, baseCheck};
-ghost use Rattle.digits.specs.Digits.{recordAllowed, alphabetCheck, sumIndex, sumsListed, allSumsListed, isSum, inputAllowed, inputCheck, digitCheck};
+ghost use Rattle.digit_rules.specs.Record.{elementAt, recordAt, elementCount, indexIn};
+ghost use Rattle.digit_rules.specs.Base.{BasePart, baseMatrix, baseCheck};
+ghost use Rattle.digit_rules.specs.Digits.{recordAllowed, alphabetCheck, sumIndex, sumsListed, allSumsListed, isSum, inputAllowed, inputCheck, digitCheck};
 ghost use Rattle.digits.specs.Marks.{slotOf, followed, located, Marked};
 use faults::Refusal;
 

@@ -1,6 +1,6 @@
 -- The answer of the edit ("Who sends a fault" of document 01): "of the edit, its count".
 use Rattle.faults.specs.Outcome.{Outcome, facts, refusedBy}
-use Rattle.edits.specs.declared.EditedFacts.{EditedFacts}
+use Rattle.edit_rules.specs.declared.EditedFacts.{EditedFacts}
 use Rattle.edits.specs.declared.Edited.{Edited}
 use Rattle.edits.specs.declared.Edited.the-variants.{Count, Refused}
 

@@ -1,6 +1,1 @@
-pub mod Count
-pub mod Edit
 pub mod Answer
-pub mod Broken
-pub mod Run
-pub mod Follows

@@ -3,22 +3,18 @@ ghost use mathlib.Core.Path.{_≡_};
 ghost use Prim.Native.Nat.{ℕ, _+_, _-_, _≤_, _<_};
 ghost use lib.ListN.{length};
 ghost use Rattle.faults.specs.Outcome.{refused, rows, editor};
-ghost use Rattle.reader.specs.Table.{tableCheck, tableFacts};
-ghost use Rattle.rows.specs.Changed.{changed};
-ghost use Rattle.rows.specs.Fit.{RowsFit, EditFits};
-ghost use Rattle.adder.specs.Sum.{digitCount};
-ghost use Rattle.edits.specs.Count.{differing};
-ghost use Rattle.edits.specs.Edit.{state, renewOutcome, renewState, editOutcome, editState};
+ghost use Rattle.reader_rules.specs.Table.{tableCheck, tableFacts};
+ghost use Rattle.row_rules.specs.Changed.{changed};
+ghost use Rattle.row_rules.specs.Fit.{RowsFit, EditFits};
+ghost use Rattle.adder_rules.specs.Sum.{digitCount};
+ghost use Rattle.edit_rules.specs.Count.{differing};
+ghost use Rattle.edit_rules.specs.Edit.{state, renewOutcome, renewState, editOutcome, editState};
 ghost use Rattle.edits.specs.Answer.{outcomeOf};
+use edit_rules::EditedFacts;
 use faults::Fault;
 use faults::Refusal;
-use reader::Reading;
-use rows::Change;
-
-// The facts of the edit: how many sum bytes it changed.
-pub struct EditedFacts {
-    pub count: usize,
-}
+use reader_rules::Reading;
+use row_rules::Change;
 
 pub enum Edited {
     Count(EditedFacts),

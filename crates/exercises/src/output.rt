@@ -6,7 +6,7 @@ use edits::Edited;
 use faults::Fault;
 use midpoint::Element;
 use table::Checked;
-use table::Facts;
+use table_rules::Facts;
 use valued::Valued;
 
 pub fn word(bytes: &[u8]) {

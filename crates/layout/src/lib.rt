@@ -6,11 +6,11 @@ ghost use Prim.Native.Nat.{_+_, _≤_, _<_, _^_};
 ghost use lib.ListN.{length};
 ghost use lib.IntN.{natAbs};
 ghost use Rattle.lists.specs.Scan.{firstFailing, every};
-ghost use Rattle.layout.specs.Number.{unsignedAt, signedAt};
-ghost use Rattle.layout.specs.Section.{recordSize, recordCount, sectionStart, sectionLength, sectionEnd};
-ghost use Rattle.layout.specs.Directory.{expectedStart, pairAllowed, directoryCheck};
-ghost use Rattle.layout.specs.Length.{leastRecords, mostRecords, lengthAllowed, lengthCheck, sectionLengths};
-ghost use Rattle.layout.specs.Limit.{sizeLimit, numberPlace, numberCount, numberAllowed, limitCheckIn, limitCheck};
+ghost use Rattle.layout_rules.specs.Number.{unsignedAt, signedAt};
+ghost use Rattle.layout_rules.specs.Section.{recordSize, recordCount, sectionStart, sectionLength, sectionEnd};
+ghost use Rattle.layout_rules.specs.Directory.{expectedStart, pairAllowed, directoryCheck};
+ghost use Rattle.layout_rules.specs.Length.{leastRecords, mostRecords, lengthAllowed, lengthCheck, sectionLengths};
+ghost use Rattle.layout_rules.specs.Limit.{sizeLimit, numberPlace, numberCount, numberAllowed, limitCheckIn, limitCheck};
 use faults::Refusal;
 
 // The degree of the ring; every record size goes through it.

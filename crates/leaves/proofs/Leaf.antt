@@ -8,7 +8,7 @@ use lib.ListN.{length, getD, take, drop, length-take, length-drop}
 use lib.Seq.{getD-take, getD-drop}
 use borrow.Author.Tests.{lt-ltb, le-ltb, le-leb, lt-leb}
 use Rattle.ring.specs.Element.{zeros}
-use Rattle.layout.specs.Section.{degree}
+use Rattle.layout_rules.specs.Section.{degree}
 use Rattle.numeration.specs.Code.{largest, depth}
 use Rattle.leaves.specs.Leaf.{leafCount, wordStart, wordLength, wordEnd, weightOf, codeOf, wordGiven, weightGiven}
 

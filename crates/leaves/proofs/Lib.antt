@@ -1,11 +1,3 @@
 pub mod Leaf
-pub mod Place
 pub mod Comparison
-pub mod Coverage
-pub mod Successor
-pub mod Strings
 pub mod Search
-pub mod Stage
-pub mod Broken
-pub mod Formed
-pub mod Quick

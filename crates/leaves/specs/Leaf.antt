@@ -7,9 +7,9 @@ use lib.ListN.{length, getD, take, drop}
 use lib.IntN.{ℤ}
 use lib.Dec.{ltb, leb}
 use Rattle.ring.specs.Element.{zeros}
-use Rattle.layout.specs.Number.{unsignedAt}
-use Rattle.layout.specs.Section.{degree, leafSize}
-use Rattle.digits.specs.Record.{elementAt}
+use Rattle.layout_rules.specs.Number.{unsignedAt}
+use Rattle.layout_rules.specs.Section.{degree, leafSize}
+use Rattle.digit_rules.specs.Record.{elementAt}
 use Rattle.numeration.specs.Code.{Code}
 
 abbrev pub leafCount : List ℕ → ℕ

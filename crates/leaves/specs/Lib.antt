@@ -1,8 +1,2 @@
 pub mod Leaf
-pub mod Coverage
-pub mod Check
-pub mod Successor
-pub mod Kept
 pub mod Window
-pub mod Broken
-pub mod Formed

@@ -8,14 +8,14 @@ use lib.ListN.{set, length}
 use Rattle.ring.specs.Element.{product}
 use Rattle.ring.specs.Base.{expanding}
 use Rattle.faults.specs.Outcome.{Outcome, author, facts, refused}
-use Rattle.table.specs.declared.Facts.{Facts}
-use Rattle.table.specs.Check.{checkOutcome}
-use Rattle.adder.specs.declared.AddedFacts.{AddedFacts}
-use Rattle.adder.specs.Sum.{addOutcome, addSum}
-use Rattle.rows.specs.declared.Change.{Change}
-use Rattle.edits.specs.declared.EditedFacts.{EditedFacts}
-use Rattle.edits.specs.Edit.{State, state}
-use Rattle.edits.specs.Run.{run}
+use Rattle.table_rules.specs.declared.Facts.{Facts}
+use Rattle.table_rules.specs.Check.{checkOutcome}
+use Rattle.adder_rules.specs.declared.AddedFacts.{AddedFacts}
+use Rattle.adder_rules.specs.Sum.{addOutcome, addSum}
+use Rattle.row_rules.specs.declared.Change.{Change}
+use Rattle.edit_rules.specs.declared.EditedFacts.{EditedFacts}
+use Rattle.edit_rules.specs.Edit.{State, state}
+use Rattle.edit_rules.specs.Run.{run}
 use Rattle.carried.specs.Tables.{ternInputs, ternLeaves, ternFile, binFile, sections, fileOf}
 
 pub data Exercise : Type 0 where

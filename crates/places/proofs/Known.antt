@@ -6,7 +6,7 @@ use native.Mathlib.Decide.{ℕ-discrete}
 use native.Mathlib.Omega.{arith}
 use lib.ListN.{getD, set, length-set, length-replicate, getD-replicate}
 use lib.Seq.{getD-set-same, getD-set-other}
-use Rattle.digits.specs.Digits.{sumIndex}
+use Rattle.digit_rules.specs.Digits.{sumIndex}
 use Rattle.places.specs.Place.{Known}
 
 module _ (alphabet inputs : List ℕ) where

@@ -11,9 +11,9 @@ use lib.IntN.{ℤ}
 use borrow.Author.Tests.{lt-ltb, le-ltb}
 use Rattle.lists.specs.Span.{span}
 use Rattle.lists.proofs.Span.{getD-span}
-use Rattle.digits.specs.Record.{recordAt, elementCount}
-use Rattle.digits.specs.Digits.{sumIndex}
-use Rattle.digits.proofs.Index.{index-high}
+use Rattle.digit_rules.specs.Record.{recordAt, elementCount}
+use Rattle.digit_rules.specs.Digits.{sumIndex}
+use Rattle.digit_rules.proofs.Index.{index-high}
 use Rattle.numeration.specs.Group.{Operations}
 use Rattle.numeration.specs.Code.{Code, HasLeaf, leafOf}
 use Rattle.numeration.specs.Conversion.{window, outDigit, weightInto, weightAt, convert}
@@ -22,7 +22,7 @@ use Rattle.numeration.proofs.Windows.{window-by-place}
 use Rattle.leaves.specs.Leaf.{codeOf, weightGiven}
 use Rattle.leaves.specs.Window.{digits, LookedUp}
 use Rattle.leaves.proofs.Leaf.{weight-there}
-use Rattle.table.specs.Pairs.{inAlphabet}
+use Rattle.table_rules.specs.Pairs.{inAlphabet}
 use Rattle.places.specs.Place.{alphabetIndex, indexAt, digitAllowed, Begun}
 
 -- a sum's index is at most the count of input digits

@@ -7,14 +7,14 @@ use lib.ListN.{length, getD}
 use lib.IntN.{ℤ}
 use Rattle.lists.specs.Span.{span}
 use Rattle.lists.specs.Overwrite.{overwrite}
-use Rattle.digits.specs.Record.{recordAt, elementCount, indexIn}
-use Rattle.digits.specs.Digits.{sumIndex}
+use Rattle.digit_rules.specs.Record.{recordAt, elementCount, indexIn}
+use Rattle.digit_rules.specs.Digits.{sumIndex}
 use Rattle.numeration.specs.Group.{Operations}
 use Rattle.numeration.specs.Code.{HasLeaf}
 use Rattle.numeration.specs.Conversion.{window, convert}
 use Rattle.leaves.specs.Leaf.{codeOf}
 use Rattle.leaves.specs.Window.{Sorted}
-use Rattle.table.specs.Pairs.{inAlphabet}
+use Rattle.table_rules.specs.Pairs.{inAlphabet}
 
 -- "w(j) is the sum of the two digits at place j": its input index
 abbrev pub inputAt : List ℕ → List ℕ → List ℕ → List ℕ → ℕ → ℕ

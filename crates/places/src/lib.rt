@@ -7,15 +7,15 @@ ghost use Rattle.lists.specs.Scan.{firstFailing};
 ghost use Rattle.lists.specs.Overwrite.{overwrite};
 ghost use Rattle.ring.specs.Element.{Within};
 ghost use Rattle.ring.specs.Matrix.{RowsWithin};
-ghost use Rattle.layout.specs.Section.{degree};
-ghost use Rattle.digits.specs.Record.{recordAt, elementCount};
+ghost use Rattle.layout_rules.specs.Section.{degree};
+ghost use Rattle.digit_rules.specs.Record.{recordAt, elementCount};
 ghost use Rattle.numeration.specs.Code.{Inputs};
 ghost use Rattle.numeration.specs.Conversion.{window, outDigit, weightInto};
 ghost use Rattle.numeration.specs.Elements.{elements};
 ghost use Rattle.leaves.specs.Leaf.{codeOf};
-ghost use Rattle.rows.specs.Changed.{changed};
+ghost use Rattle.row_rules.specs.Changed.{changed};
 ghost use Rattle.places.specs.Place.{inputAt, Known, partRow, alphabetIndex, indexAt, digitAllowed, Begun};
-use rows::Change;
+use row_rules::Change;
 
 // The input index of the sum of two rows' digits at a place, the rows read with the change made. A sum is looked for once and then
 // stands in `known`.

@@ -1,33 +1,14 @@
 // The reader of a table: rules 1 to 13 of document 01, and the facts that addition, edit and value go by.
 ghost use mathlib.Core.Path.{_≡_};
 ghost use Prim.Native.Nat.{_<_};
-ghost use Rattle.layout.specs.Directory.{directoryCheck};
-ghost use Rattle.layout.specs.Section.{partOf};
-ghost use Rattle.reader.specs.Table.{layoutCheck, digitsOf, leavesOf, tableCheck, partFacts, tableFacts, readAs, readOutcome};
+ghost use Rattle.layout_rules.specs.Directory.{directoryCheck};
+ghost use Rattle.layout_rules.specs.Section.{partOf};
+ghost use Rattle.reader_rules.specs.Table.{layoutCheck, digitsOf, leavesOf, tableCheck, partFacts, tableFacts, readAs, readOutcome};
 use faults::Fault;
 use faults::Refusal;
-
-// Where a section lies in the file, and how many records it has.
-pub struct Part {
-    pub start: usize,
-    pub end: usize,
-    pub count: usize,
-}
-
-// The facts of a table that passes rules 1 to 13.
-pub struct Table {
-    pub base: Part,
-    pub alphabet: Part,
-    pub inputs: Part,
-    pub leaves: Part,
-    pub words: Part,
-    pub depth: usize,
-}
-
-pub enum Reading {
-    Facts(Table),
-    Refused(Fault),
-}
+use reader_rules::Part;
+use reader_rules::Reading;
+use reader_rules::Table;
 
 // A section as that part of the file.
 pub fn section(file: &[u8], number: usize) -> &[u8]
@@ -68,7 +49,7 @@ fn leaf_rules(file: &[u8]) -> Refusal
     ensures { λ r. ⌜ r ≡ leavesOf (now (file .entry)) ⌝ }
 {
     let inputs = layout::record_count(section(file, 2), 2);
-    leaves::prefix_code(section(file, 3), section(file, 4), inputs)
+    prefix_code::prefix_code(section(file, 3), section(file, 4), inputs)
 }
 
 // Rules 1 to 13.

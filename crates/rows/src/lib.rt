@@ -2,9 +2,10 @@
 ghost use mathlib.Core.Path.{_≡_};
 ghost use lib.ListN.{length, getD};
 ghost use Rattle.lists.specs.Scan.{firstFailing};
-ghost use Rattle.rows.specs.Check.{judgeOne, lengthsAllowed, indexAllowed, indexCheck, roomAllowed, rowCheck, oneRowCheck, editCheck};
-ghost use Rattle.rows.specs.Changed.{changed, noChange};
+ghost use Rattle.row_rules.specs.Check.{judgeOne, lengthsAllowed, indexAllowed, indexCheck, roomAllowed, rowCheck, oneRowCheck, editCheck};
+ghost use Rattle.row_rules.specs.Changed.{changed, noChange};
 use faults::Refusal;
+use row_rules::Change;
 
 // A rule that judges one thing, at place 0.
 fn judge_one(number: usize, allowed: bool) -> Refusal
@@ -114,13 +115,6 @@ pub fn edit_check(row: usize, place: usize, digit: usize, n: usize, digits: usiz
         return by_place;
     }
     judge_one(26, digit < digits)
-}
-
-// A digit to be stored: row number, place and alphabet index.
-pub struct Change {
-    pub row: usize,
-    pub place: usize,
-    pub digit: u8,
 }
 
 // The change that leaves both rows as they are.

@@ -4,13 +4,13 @@ use mathlib.Core.List.{List, []}
 use Prim.Native.Nat.{ℕ}
 use lib.ListN.{length}
 use Rattle.faults.specs.Outcome.{Group, Outcome, facts, refused}
-use Rattle.rows.specs.declared.Change.{Change}
-use Rattle.table.specs.declared.Facts.{Facts}
-use Rattle.table.specs.Check.{checkOutcome}
-use Rattle.adder.specs.declared.AddedFacts.{AddedFacts}
-use Rattle.adder.specs.Sum.{addOutcome, addSum}
-use Rattle.edits.specs.Edit.{State, state}
-use Rattle.edits.specs.Run.{editAll, editAnswers, run}
+use Rattle.row_rules.specs.declared.Change.{Change}
+use Rattle.table_rules.specs.declared.Facts.{Facts}
+use Rattle.table_rules.specs.Check.{checkOutcome}
+use Rattle.adder_rules.specs.declared.AddedFacts.{AddedFacts}
+use Rattle.adder_rules.specs.Sum.{addOutcome, addSum}
+use Rattle.edit_rules.specs.Edit.{State, state}
+use Rattle.edit_rules.specs.Run.{editAll, editAnswers, run}
 use Rattle.runner.specs.declared.RanFacts.{RanFacts}
 use Rattle.runner.specs.Run.{editList, after, runOutcome, ranBy, runAll}
 

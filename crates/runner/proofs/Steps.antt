@@ -11,10 +11,10 @@ use Rattle.lists.proofs.Span.{length-span, span-add}
 use Rattle.lists.proofs.Cons.{cons≡}
 use Rattle.lists.proofs.Overwrite.{overwrite-none, overwrite-snoc}
 use Rattle.faults.specs.Outcome.{Outcome}
-use Rattle.rows.specs.declared.Change.{Change}
-use Rattle.edits.specs.declared.EditedFacts.{EditedFacts}
-use Rattle.edits.specs.Edit.{State, editOutcome, editState}
-use Rattle.edits.specs.Run.{editAll, editAnswers}
+use Rattle.row_rules.specs.declared.Change.{Change}
+use Rattle.edit_rules.specs.declared.EditedFacts.{EditedFacts}
+use Rattle.edit_rules.specs.Edit.{State, editOutcome, editState}
+use Rattle.edit_rules.specs.Run.{editAll, editAnswers}
 use Rattle.runner.specs.declared.Told.{Told}
 use Rattle.runner.specs.Told.{toldOf}
 use Rattle.runner.specs.Run.{listed, editList}

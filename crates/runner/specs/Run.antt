@@ -5,11 +5,11 @@ use Prim.Native.Nat.{ℕ, min}
 use lib.ListN.{length, getD}
 use Rattle.lists.specs.Span.{span}
 use Rattle.faults.specs.Outcome.{Outcome, facts, refused}
-use Rattle.rows.specs.declared.Change.{Change}
-use Rattle.table.specs.Check.{checkOutcome}
-use Rattle.adder.specs.Sum.{addOutcome}
-use Rattle.edits.specs.Edit.{State}
-use Rattle.edits.specs.Run.{Ran, run}
+use Rattle.row_rules.specs.declared.Change.{Change}
+use Rattle.table_rules.specs.Check.{checkOutcome}
+use Rattle.adder_rules.specs.Sum.{addOutcome}
+use Rattle.edit_rules.specs.Edit.{State}
+use Rattle.edit_rules.specs.Run.{Ran, run}
 use Rattle.runner.specs.declared.RanFacts.{RanFacts}
 
 -- the edits that three slices list: "a row number (0 first, 1 second), a place p and a new alphabet index"

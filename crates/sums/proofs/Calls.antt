@@ -5,14 +5,14 @@ use Prim.Native.Nat.{ℕ, _≤_}
 use lib.ListN.{length, take}
 use lib.IntN.{ℤ}
 use Rattle.faults.specs.Outcome.{facts}
-use Rattle.reader.specs.Ready.{operationsOf}
-use Rattle.rows.specs.declared.Change.{Change}
-use Rattle.table.specs.Check.{checkFacts, checkOutcome}
-use Rattle.adder.specs.declared.AddedFacts.{AddedFacts}
-use Rattle.adder.specs.Sum.{placeCount, addOutcome}
-use Rattle.edits.specs.Edit.{State}
-use Rattle.edits.specs.Run.{run}
-use Rattle.edits.proofs.Follows.{demand-3}
+use Rattle.reader_rules.specs.Ready.{operationsOf}
+use Rattle.row_rules.specs.declared.Change.{Change}
+use Rattle.table_rules.specs.Check.{checkFacts, checkOutcome}
+use Rattle.adder_rules.specs.declared.AddedFacts.{AddedFacts}
+use Rattle.adder_rules.specs.Sum.{placeCount, addOutcome}
+use Rattle.edit_rules.specs.Edit.{State}
+use Rattle.edit_rules.specs.Run.{run}
+use Rattle.edit_rules.proofs.Follows.{demand-3}
 use Rattle.valued.specs.Value.{valueOutcome}
 use Rattle.valued.proofs.Demand.{element-is-value}
 

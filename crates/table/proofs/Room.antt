@@ -11,7 +11,7 @@ use Rattle.lists.specs.Overwrite.{overwrite}
 use Rattle.faults.specs.Outcome.{Outcome}
 use Rattle.text.specs.Decimal.{decimal}
 use Rattle.text.proofs.Decimal.{decimal-short}
-use Rattle.table.specs.declared.Facts.{Facts}
+use Rattle.table_rules.specs.declared.Facts.{Facts}
 use Rattle.table.specs.Line.{lineOf, lineInto, lineCount}
 
 -- a word and a number

@@ -15,9 +15,9 @@ use borrow.Author.Tests.{lt-ltb, le-ltb, ltb-true}
 use Rattle.lists.proofs.Test.{same-outcome}
 use Rattle.ring.specs.Element.{same}
 use Rattle.ring.proofs.Element.{same-refl, same→≡}
-use Rattle.digits.specs.Record.{recordAt, elementCount, indexIn}
-use Rattle.digits.proofs.Index.{index-is, index-first}
-use Rattle.table.specs.Pairs.{inAlphabet}
+use Rattle.digit_rules.specs.Record.{recordAt, elementCount, indexIn}
+use Rattle.digit_rules.proofs.Index.{index-is, index-first}
+use Rattle.table_rules.specs.Pairs.{inAlphabet}
 use Rattle.table.specs.Slots.{slotPlace, slotOf, SlottedBefore, Slotted}
 
 -- one more digit, in a slot that was empty

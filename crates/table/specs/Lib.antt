@@ -1,6 +1,3 @@
-pub mod Pairs
 pub mod Answer
 pub mod Line
-pub mod Check
-pub mod Broken
 pub mod Slots

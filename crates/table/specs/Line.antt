@@ -8,7 +8,7 @@ use lib.ListN.{length}
 use Rattle.lists.specs.Overwrite.{overwrite}
 use Rattle.faults.specs.Outcome.{Outcome, facts, refused}
 use Rattle.text.specs.Decimal.{decimal}
-use Rattle.table.specs.declared.Facts.{Facts}
+use Rattle.table_rules.specs.declared.Facts.{Facts}
 
 -- "accepted depth ", " leaves ", " digits "
 unfoldable pub acceptedWord : List ℕ

@@ -7,7 +7,7 @@ use lib.IntN.{ℤ, pos, natAbs, _+ℤ_, _*ℤ_}
 use lib.ListN.{getD}
 use lib.Signed.{ltZ}
 use Rattle.ring.specs.Element.{part}
-use Rattle.digits.specs.Record.{recordAt, elementCount}
+use Rattle.digit_rules.specs.Record.{recordAt, elementCount}
 
 abbrev pub slotPlace : List ℤ → ℤ
 slotPlace x = part x 0 +ℤ pos 16 *ℤ part x 1 +ℤ pos 32768

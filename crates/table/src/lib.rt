@@ -3,46 +3,35 @@ ghost use mathlib.Core.Path.{_≡_};
 ghost use lib.ListN.{length, getD};
 ghost use Rattle.ring.specs.Element.{plus, Within};
 ghost use Rattle.ring.specs.Matrix.{RowsWithin};
-ghost use Rattle.layout.specs.Section.{degree};
-ghost use Rattle.digits.specs.Base.{BasePart};
-ghost use Rattle.digits.specs.Record.{recordAt, elementCount};
+ghost use Rattle.layout_rules.specs.Section.{degree};
+ghost use Rattle.digit_rules.specs.Base.{BasePart};
+ghost use Rattle.digit_rules.specs.Record.{recordAt, elementCount};
 ghost use Rattle.numeration.specs.Code.{agree};
 ghost use Rattle.numeration.specs.Elements.{elements};
 ghost use Rattle.numeration.specs.Pairs.{pairPasses};
 ghost use Rattle.leaves.specs.Leaf.{leafCount, codeOf, wordGiven, weightGiven};
-ghost use Rattle.leaves.specs.Check.{leafCheck};
+ghost use Rattle.prefix_rules.specs.Check.{leafCheck};
 ghost use mathlib.Core.Bool.{true};
 ghost use Rattle.table.specs.Slots.{slotOf, Slotted};
-ghost use Rattle.table.specs.Pairs.{inAlphabet, upperPart, badPair, pairCheck};
+ghost use Rattle.table_rules.specs.Pairs.{inAlphabet, upperPart, badPair, pairCheck};
 ghost use Prim.Native.Nat.{ℕ, _+_, _≤_, _<_, _^_, min, pred};
 ghost use Rattle.lists.specs.Span.{span};
 ghost use Rattle.lists.specs.Scan.{firstFailing};
 ghost use Rattle.lists.specs.Overwrite.{overwrite};
-ghost use Rattle.reader.specs.Table.{tableCheck};
-ghost use Rattle.table.specs.Check.{pairsOf, checkOutcome};
+ghost use Rattle.reader_rules.specs.Table.{tableCheck};
+ghost use Rattle.table_rules.specs.Check.{pairsOf, checkOutcome};
 ghost use Rattle.table.specs.Answer.{outcomeOf};
 ghost use Rattle.table.specs.Line.{acceptedLine, refusedLine, lineCount, lineInto};
 use faults::Fault;
 use faults::Refusal;
-use reader::Reading;
-
-// The facts of the check: depth, leaf count and alphabet size.
-pub struct Facts {
-    pub depth: usize,
-    pub leaves: usize,
-    pub digits: usize,
-}
+use reader_rules::Reading;
+use table_rules::Facts;
+use table_rules::Pair;
 
 // The count of slots for alphabet digits, and the mark of an empty one.
 const SLOTS: usize = 256;
 
 const EMPTY: u8 = 255;
-
-// Two leaves, upper and lower.
-pub struct Pair {
-    pub upper: usize,
-    pub lower: usize,
-}
 
 // What an upper leaf gives: its lowest failing lower leaf, or the leaf count, and where the run of its lower leaves ended.
 struct Run {

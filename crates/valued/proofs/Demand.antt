@@ -13,15 +13,15 @@ use Rattle.faults.proofs.Unless.{unless-then}
 use Rattle.calls.specs.Answers.{StagesAnswer, stage}
 use Rattle.calls.proofs.Answers.{Told, told-end, told-unless, told-answers}
 use Rattle.ring.proofs.Matrix.{length-matrix}
-use Rattle.layout.specs.Section.{degree}
-use Rattle.digits.specs.Base.{baseMatrix}
-use Rattle.digits.specs.Record.{elementCount}
-use Rattle.digits.proofs.Base.{matrix-of-two}
-use Rattle.reader.specs.Table.{basePart, alphabetPart}
-use Rattle.reader.specs.Ready.{valueOf}
-use Rattle.reader.proofs.Broken.{table-decided}
-use Rattle.rows.specs.Check.{oneRowCheck}
-use Rattle.rows.proofs.Broken.{one-row-decided}
+use Rattle.layout_rules.specs.Section.{degree}
+use Rattle.digit_rules.specs.Base.{baseMatrix}
+use Rattle.digit_rules.specs.Record.{elementCount}
+use Rattle.digit_rules.proofs.Base.{matrix-of-two}
+use Rattle.reader_rules.specs.Table.{basePart, alphabetPart}
+use Rattle.reader_rules.specs.Ready.{valueOf}
+use Rattle.reader_rules.proofs.Broken.{table-decided}
+use Rattle.row_rules.specs.Check.{oneRowCheck}
+use Rattle.row_rules.proofs.Broken.{one-row-decided}
 use Rattle.worth.specs.Broken.{worthCheck}
 use Rattle.worth.proofs.Broken.{worth-decided, worth-outcome}
 use Rattle.valued.specs.Value.{rowOutcome, valueOutcome}

@@ -4,11 +4,11 @@ use Prim.Native.Nat.{ℕ}
 use Rattle.faults.specs.Rule.{Rule}
 use Rattle.faults.specs.Outcome.{author, rows}
 use Rattle.calls.specs.Answers.{Stage, stage}
-use Rattle.digits.specs.Base.{baseMatrix}
-use Rattle.digits.specs.Record.{elementCount}
-use Rattle.reader.specs.Table.{basePart, alphabetPart}
-use Rattle.reader.specs.Broken.{tableRules}
-use Rattle.rows.specs.Broken.{oneRowRules}
+use Rattle.digit_rules.specs.Base.{baseMatrix}
+use Rattle.digit_rules.specs.Record.{elementCount}
+use Rattle.reader_rules.specs.Table.{basePart, alphabetPart}
+use Rattle.reader_rules.specs.Broken.{tableRules}
+use Rattle.row_rules.specs.Broken.{oneRowRules}
 use Rattle.worth.specs.Broken.{valueRules}
 
 -- 20, 21 and 28 in their order

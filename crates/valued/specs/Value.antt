@@ -5,10 +5,10 @@ use lib.IntN.{ℤ}
 use Rattle.midpoint.specs.Midpoint.{parts}
 use Rattle.faults.specs.Outcome.{Outcome, facts, author, rows, refusedBy}
 use Rattle.faults.specs.Unless.{unless}
-use Rattle.digits.specs.Base.{baseMatrix}
-use Rattle.digits.specs.Record.{elementCount}
-use Rattle.reader.specs.Table.{basePart, alphabetPart, tableCheck}
-use Rattle.rows.specs.Check.{oneRowCheck}
+use Rattle.digit_rules.specs.Base.{baseMatrix}
+use Rattle.digit_rules.specs.Record.{elementCount}
+use Rattle.reader_rules.specs.Table.{basePart, alphabetPart, tableCheck}
+use Rattle.row_rules.specs.Check.{oneRowCheck}
 use Rattle.worth.specs.Total.{worthOf}
 use Rattle.valued.specs.declared.Valued.{Valued}
 use Rattle.valued.specs.declared.Valued.the-variants.{Value, Refused}

@@ -1,13 +1,13 @@
 // The value of a row: rules 1 to 13 of the table, 20 and 21 of the row, then 28.
 ghost use mathlib.Core.Path.{_≡_};
-ghost use Rattle.digits.specs.Base.{BasePart, baseMatrix};
-ghost use Rattle.digits.specs.Record.{elementCount};
+ghost use Rattle.digit_rules.specs.Base.{BasePart, baseMatrix};
+ghost use Rattle.digit_rules.specs.Record.{elementCount};
 ghost use Rattle.worth.specs.Total.{Indexed, worthOf};
-ghost use Rattle.reader.specs.Table.{alphabetPart, tableCheck};
+ghost use Rattle.reader_rules.specs.Table.{alphabetPart, tableCheck};
 ghost use Rattle.valued.specs.Value.{valuedAs, rowOutcome, valueOutcome};
 use faults::Fault;
 use midpoint::Element;
-use reader::Reading;
+use reader_rules::Reading;
 use worth::Worth;
 
 // The facts are the element.

@@ -23,9 +23,9 @@ use Rattle.faults.specs.Unless.{unless}
 use Rattle.faults.specs.Rule.{Exact}
 use Rattle.faults.proofs.Unless.{unless-found, unless-none}
 use Rattle.faults.proofs.Rule.{Decided, passes, refuses, exact}
-use Rattle.layout.specs.Section.{degree, elementSize}
-use Rattle.digits.specs.Record.{recordAt}
-use Rattle.digits.proofs.Record.{element-parts}
+use Rattle.layout_rules.specs.Section.{degree, elementSize}
+use Rattle.digit_rules.specs.Record.{recordAt}
+use Rattle.digit_rules.proofs.Record.{element-parts}
 use Rattle.worth.specs.Total.{largest, limited, digitAt, nextTotal, worthFrom, worthOf}
 use Rattle.worth.specs.Broken.{digitsOf, totalAt, OutsideAt, Broken28, valueRules, refusalOf, worthCheck}
 use Rattle.worth.proofs.Limit.{limited-within, limited-fails}

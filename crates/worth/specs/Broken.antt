@@ -10,8 +10,8 @@ use Rattle.faults.specs.declared.Refusal.{Refusal}
 use Rattle.faults.specs.Check.{refusal, none}
 use Rattle.faults.specs.Outcome.{Outcome, facts, refused}
 use Rattle.faults.specs.Rule.{Rule, rule}
-use Rattle.layout.specs.Section.{degree}
-use Rattle.digits.specs.Record.{recordAt}
+use Rattle.layout_rules.specs.Section.{degree}
+use Rattle.digit_rules.specs.Record.{recordAt}
 use Rattle.worth.specs.Total.{worthOf}
 
 -- the digits of a row

@@ -9,8 +9,8 @@ use Rattle.ring.specs.Element.{zeros, plus}
 use Rattle.ring.specs.Matrix.{times}
 use Rattle.midpoint.specs.Midpoint.{parts}
 use Rattle.faults.specs.Outcome.{Outcome, facts, refused, rows}
-use Rattle.layout.specs.Section.{degree}
-use Rattle.digits.specs.Record.{elementCount, recordAt}
+use Rattle.layout_rules.specs.Section.{degree}
+use Rattle.digit_rules.specs.Record.{elementCount, recordAt}
 use Rattle.worth.specs.declared.Worth.{Worth}
 use Rattle.worth.specs.declared.Worth.the-variants.{Whole, Over}
 

@@ -1,19 +1,19 @@
 -- Rules 1 to 13 by the reader, then 20 to 23, then the digits.
-use Rattle.reader.specs.declared.Table.{Table}
-use Rattle.rows.specs.Fit.{RowsFit}
-use Rattle.adder.proofs.Rows.{few-places}
+use Rattle.reader_rules.specs.declared.Table.{Table}
+use Rattle.row_rules.specs.Fit.{RowsFit}
+use Rattle.adder_rules.proofs.Rows.{few-places}
 use mathlib.Core.Path.{_≡_, sym, ap, _∙_}
 use Prim.Native.Nat.{_+_}
 use native.Mathlib.Omega.{arith}
 use lib.ListN.{length}
 use Rattle.faults.specs.Outcome.{rows, whose, numberOf, placeOf}
 use Rattle.faults.specs.declared.Refusal.{Refusal}
-use Rattle.rows.proofs.Fit.{rows-fit}
-use Rattle.rows.specs.Check.{rowCheck}
-use Rattle.reader.proofs.Answer.{read-facts}
-use Rattle.reader.specs.Table.{readAs, tableCheck, tableFacts}
-use Rattle.adder.specs.Sum.{digitCount}
-use Rattle.adder.proofs.Sum.{table-refused, rows-refused, rows-passed, sum-lent, sum-by}
+use Rattle.row_rules.proofs.Fit.{rows-fit}
+use Rattle.row_rules.specs.Check.{rowCheck}
+use Rattle.reader_rules.proofs.Answer.{read-facts}
+use Rattle.reader_rules.specs.Table.{readAs, tableCheck, tableFacts}
+use Rattle.adder_rules.specs.Sum.{digitCount}
+use Rattle.adder_rules.proofs.Sum.{table-refused, rows-refused, rows-passed, sum-lent, sum-by}
 use borrow.Author.Needs.{needs}
 use Rattle.adder.proofs.add.Statement.{statement}
 use Rattle.adder.proofs.add.Tie as tie

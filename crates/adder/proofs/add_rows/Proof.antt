@@ -1,8 +1,8 @@
 -- The digits are found in a local array, and written where none fails.
 use Rattle.faults.specs.Outcome.{author}
 use Rattle.numeration.specs.Code.{Inputs}
-use Rattle.reader.specs.Ready.{inputCount}
-use Rattle.adder.specs.Sum.{inputRow, placeCount, digitsOutcome, digitCount, sumRow}
+use Rattle.reader_rules.specs.Ready.{inputCount}
+use Rattle.adder_rules.specs.Sum.{inputRow, placeCount, digitsOutcome, digitCount, sumRow}
 use lib.ListN.{getD, length, take, length-replicate}
 use Prim.Native.Nat.{_≤_, ℕ}
 use mathlib.Core.Path.{_≡_, sym, ap, _∙_}
@@ -11,8 +11,8 @@ use native.Mathlib.Omega.{arith}
 use lib.Dec.{lit<}
 use lib.Seq.{length-take-le}
 use Rattle.lists.specs.Overwrite.{overwrite}
-use Rattle.adder.proofs.Sum.{exit-lent, exit-written, digits-refused, digits-given, digits-found, digits-room}
-use Rattle.adder.proofs.Rows.{read-unchanged, row-held, few-places}
+use Rattle.adder_rules.proofs.Sum.{exit-lent, exit-written, digits-refused, digits-given, digits-found, digits-room}
+use Rattle.adder_rules.proofs.Rows.{read-unchanged, row-held, few-places}
 use borrow.Author.Needs.{needs}
 use Rattle.adder.proofs.add_rows.Statement.{statement}
 use Rattle.adder.proofs.add_rows.Tie as tie

@@ -6,13 +6,13 @@ use lib.Dec.{lit<}
 use Rattle.lists.specs.Overwrite.{overwrite}
 use Rattle.lists.specs.Scan.{firstFailing}
 use Rattle.lists.specs.Span.{span}
-use Rattle.layout.specs.Section.{degree}
+use Rattle.layout_rules.specs.Section.{degree}
 use Rattle.numeration.specs.Elements.{elements}
-use Rattle.digits.specs.Base.{BasePart, baseMatrix}
+use Rattle.digit_rules.specs.Base.{BasePart, baseMatrix}
 use Rattle.places.specs.Place.{indexAt, digitAllowed}
-use Rattle.adder.specs.Sum.{rowPart}
-use Rattle.reader.proofs.Ready.{ready-passed}
-use Rattle.adder.proofs.Table.{directory-kept, few-digits, few-inputs, base-small, inputs-in, windows-begun}
+use Rattle.adder_rules.specs.Sum.{rowPart}
+use Rattle.reader_rules.proofs.Ready.{ready-passed}
+use Rattle.adder_rules.proofs.Table.{directory-kept, few-digits, few-inputs, base-small, inputs-in, windows-begun}
 use borrow.Author.Needs.{needs}
 use Rattle.adder.proofs.digits_of.Statement.{statement}
 use Rattle.adder.proofs.digits_of.Tie as tie

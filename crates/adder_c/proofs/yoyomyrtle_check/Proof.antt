@@ -4,7 +4,7 @@ use Rattle.lists.specs.Overwrite.{overwrite}
 use Rattle.adder_c.proofs.Bits.{kept}
 use mathlib.Core.Path.{sym, ap, refl, _∙_}
 use Rattle.table.specs.Answer.{outcomeOf}
-use Rattle.table.specs.Check.{checkOutcome}
+use Rattle.table_rules.specs.Check.{checkOutcome}
 use Rattle.adder_c.specs.Answer.{checkWords}
 use Rattle.adder_c.proofs.Answer.{short, with-facts, with-fault}
 use borrow.Author.Needs.{needs}

@@ -2,7 +2,7 @@
 use Rattle.adder_c.proofs.Answer.{no-room, some-room, short, with-facts, with-fault}
 use Rattle.adder_c.proofs.Bits.{kept}
 use Rattle.adder_c.specs.Answer.{editWords}
-use Rattle.edits.specs.Edit.{State, state, editOutcome, editState}
+use Rattle.edit_rules.specs.Edit.{State, state, editOutcome, editState}
 use Rattle.edits.specs.Answer.{outcomeOf}
 use Rattle.lists.specs.Overwrite.{overwrite}
 use Rattle.lists.proofs.Cons.{cons≡}

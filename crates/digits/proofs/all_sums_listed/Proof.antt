@@ -5,7 +5,7 @@ use borrow.Author.Tests.{not-true, not-false}
 use borrow.Author.Needs.{needs}
 use Rattle.lists.proofs.Scan.{scan-on, every-here, every-out}
 use Rattle.lists.specs.Scan.{firstFailing, every}
-use Rattle.digits.specs.Digits.{sumsListed, allSumsListed}
+use Rattle.digit_rules.specs.Digits.{sumsListed, allSumsListed}
 use Rattle.digits.proofs.all_sums_listed.Statement.{statement}
 use Rattle.digits.proofs.all_sums_listed.Tie as tie
 

@@ -7,7 +7,7 @@ use Rattle.lists.proofs.Scan.{scan-on}
 use Rattle.lists.specs.Scan.{firstFailing}
 use Rattle.faults.proofs.Check.{judge-here, judge-out}
 use Rattle.faults.specs.Check.{judge}
-use Rattle.digits.specs.Digits.{recordAllowed, alphabetCheck}
+use Rattle.digit_rules.specs.Digits.{recordAllowed, alphabetCheck}
 use Rattle.digits.proofs.alphabet_rule.Statement.{statement}
 use Rattle.digits.proofs.alphabet_rule.Tie as tie
 

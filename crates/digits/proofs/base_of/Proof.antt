@@ -1,7 +1,7 @@
 use mathlib.Core.Path.{sym, _∙_}
 use borrow.Author.Needs.{needs}
-use Rattle.digits.proofs.Base.{base-limits, matrix-of-two}
-use Rattle.digits.proofs.Record.{passed-on}
+use Rattle.digit_rules.proofs.Base.{base-limits, matrix-of-two}
+use Rattle.digit_rules.proofs.Record.{passed-on}
 use Rattle.digits.proofs.base_of.Statement.{statement}
 use Rattle.digits.proofs.base_of.Tie as tie
 

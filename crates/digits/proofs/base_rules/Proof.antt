@@ -4,9 +4,9 @@ use Prim.Native.Nat.{ℕ}
 use borrow.Author.Tests.{not-true, not-false}
 use borrow.Author.Needs.{needs}
 use Rattle.ring.specs.Base.{perfectSquare, discriminant, expanding}
-use Rattle.digits.specs.Base.{sOf, tOf, uOf, vOf}
-use Rattle.digits.proofs.Base.{base-limits, square-refused, not-expanding, base-kept}
-use Rattle.digits.proofs.Record.{passed-on}
+use Rattle.digit_rules.specs.Base.{sOf, tOf, uOf, vOf}
+use Rattle.digit_rules.proofs.Base.{base-limits, square-refused, not-expanding, base-kept}
+use Rattle.digit_rules.proofs.Record.{passed-on}
 use Rattle.digits.proofs.base_rules.Statement.{statement}
 use Rattle.digits.proofs.base_rules.Tie as tie
 

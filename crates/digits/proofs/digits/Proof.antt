@@ -1,6 +1,6 @@
 use borrow.Author.Needs.{needs}
 use Rattle.faults.proofs.Check.{found-first, found-next}
-use Rattle.digits.specs.Digits.{digitCheck}
+use Rattle.digit_rules.specs.Digits.{digitCheck}
 use Rattle.digits.proofs.digits.Statement.{statement}
 use Rattle.digits.proofs.digits.Tie as tie
 

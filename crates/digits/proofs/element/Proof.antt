@@ -6,7 +6,7 @@ use mir.ValLaws.{toZ-ofZ}
 use Rattle.lists.proofs.Cons.{cons≡}
 use Rattle.ring.specs.Element.{Within}
 use Rattle.ring.proofs.Parts.{within-two}
-use Rattle.digits.proofs.Record.{element-two}
+use Rattle.digit_rules.proofs.Record.{element-two}
 use Rattle.digits.proofs.element.Statement.{statement}
 use Rattle.digits.proofs.element.Tie as tie
 

@@ -4,8 +4,8 @@ use native.Mathlib.Nat.{sub-zero}
 use borrow.Author.Needs.{needs}
 use Rattle.lists.proofs.Scan.{scan-on, scan-here, scan-out}
 use Rattle.lists.specs.Scan.{firstFailing}
-use Rattle.digits.specs.Record.{indexIn}
-use Rattle.digits.proofs.Index.{differs, found-here, not-here}
+use Rattle.digit_rules.specs.Record.{indexIn}
+use Rattle.digit_rules.proofs.Index.{differs, found-here, not-here}
 use Rattle.digits.proofs.find.Statement.{statement}
 use Rattle.digits.proofs.find.Tie as tie
 

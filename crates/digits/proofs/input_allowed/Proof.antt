@@ -1,6 +1,6 @@
 use mathlib.Core.Path.{sym, ap, _∙_}
 use borrow.Author.Needs.{needs}
-use Rattle.digits.specs.Digits.{isSum, inputAllowed}
+use Rattle.digit_rules.specs.Digits.{isSum, inputAllowed}
 use Rattle.digits.proofs.input_allowed.Statement.{statement}
 use Rattle.digits.proofs.input_allowed.Tie as tie
 

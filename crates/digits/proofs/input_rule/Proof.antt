@@ -1,4 +1,4 @@
-use Rattle.digits.proofs.Allowed.{Passed, input-broken, input-on, only-missing, inputs-kept}
+use Rattle.digit_rules.proofs.Allowed.{Passed, input-broken, input-on, only-missing, inputs-kept}
 use borrow.Author.Needs.{needs}
 use borrow.Author.Tests.{not-true, not-false}
 use native.Mathlib.Nat.{sub-zero}

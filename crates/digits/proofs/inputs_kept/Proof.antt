@@ -1,6 +1,6 @@
 use Rattle.digits.proofs.Marks.{located-finds, none-marked, all-kept}
 use Rattle.digits.specs.Marks.{located, Marked}
-use Rattle.digits.specs.Digits.{sumsListed, allSumsListed}
+use Rattle.digit_rules.specs.Digits.{sumsListed, allSumsListed}
 use Rattle.lists.specs.Scan.{firstFailing, every}
 use Rattle.lists.proofs.Test.{clash}
 use Rattle.lists.proofs.Scan.{scan-on, every-out}

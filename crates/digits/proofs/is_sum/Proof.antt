@@ -7,8 +7,8 @@ use borrow.Author.Needs.{needs}
 use Rattle.lists.proofs.Scan.{scan-on, every-here, every-out}
 use Rattle.lists.specs.Scan.{firstFailing, every}
 use Rattle.ring.proofs.Element.{within-le}
-use Rattle.digits.specs.Digits.{noSumWith, isSum}
-use Rattle.digits.proofs.Allowed.{sum-found, sum-not-found}
+use Rattle.digit_rules.specs.Digits.{noSumWith, isSum}
+use Rattle.digit_rules.proofs.Allowed.{sum-found, sum-not-found}
 use Rattle.digits.proofs.is_sum.Statement.{statement}
 use Rattle.digits.proofs.is_sum.Tie as tie
 

@@ -1,6 +1,6 @@
 use Rattle.digits.proofs.Marks.{located-finds, found-listed, one-marked}
 use Rattle.digits.specs.Marks.{located, Marked}
-use Rattle.digits.specs.Digits.{sumListed, sumsListed}
+use Rattle.digit_rules.specs.Digits.{sumListed, sumsListed}
 use Rattle.lists.specs.Scan.{firstFailing}
 use Rattle.lists.proofs.Test.{clash}
 use Rattle.lists.proofs.Scan.{scan-on, every-out}

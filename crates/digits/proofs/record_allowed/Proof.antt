@@ -1,5 +1,5 @@
 use borrow.Author.Needs.{needs}
-use Rattle.digits.proofs.Allowed.{allowed-first, allowed-later}
+use Rattle.digit_rules.proofs.Allowed.{allowed-first, allowed-later}
 use Rattle.digits.proofs.record_allowed.Statement.{statement}
 use Rattle.digits.proofs.record_allowed.Tie as tie
 

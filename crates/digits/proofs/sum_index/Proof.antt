@@ -3,7 +3,7 @@ use Prim.Native.Nat.{_^_}
 use native.Mathlib.Omega.{arith}
 use borrow.Author.Needs.{needs}
 use Rattle.ring.proofs.Element.{within-le}
-use Rattle.digits.specs.Digits.{sumIndex}
+use Rattle.digit_rules.specs.Digits.{sumIndex}
 use Rattle.digits.proofs.sum_index.Statement.{statement}
 use Rattle.digits.proofs.sum_index.Tie as tie
 

@@ -5,8 +5,8 @@ use native.Mathlib.Nat.{sub-zero}
 use borrow.Author.Needs.{needs}
 use Rattle.lists.proofs.Scan.{scan-on, every-here, every-out}
 use Rattle.lists.specs.Scan.{firstFailing}
-use Rattle.digits.specs.Digits.{sumListed, sumsListed}
-use Rattle.digits.proofs.Allowed.{sum-missing, sum-listed}
+use Rattle.digit_rules.specs.Digits.{sumListed, sumsListed}
+use Rattle.digit_rules.proofs.Allowed.{sum-missing, sum-listed}
 use Rattle.digits.proofs.sums_listed.Statement.{statement}
 use Rattle.digits.proofs.sums_listed.Tie as tie
 

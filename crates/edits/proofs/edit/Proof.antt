@@ -4,16 +4,16 @@ use native.Mathlib.Omega.{arith}
 use lib.ListN.{length}
 use Rattle.faults.specs.Outcome.{rows, editor, whose, numberOf, placeOf}
 use Rattle.faults.specs.declared.Refusal.{Refusal}
-use Rattle.rows.specs.declared.Change.{Change}
-use Rattle.rows.specs.Check.{rowCheck, editCheck}
-use Rattle.rows.specs.Fit.{EditFits}
-use Rattle.rows.proofs.Fit.{rows-fit, edit-fits}
-use Rattle.reader.specs.Table.{readAs, tableCheck, tableFacts}
-use Rattle.reader.proofs.Answer.{read-facts}
-use Rattle.reader.proofs.Ready.{ready-passed}
-use Rattle.adder.specs.Sum.{digitCount}
-use Rattle.edits.specs.Edit.{State, state}
-use Rattle.edits.proofs.Stages.{rowsFound, askedFound, table-refused, rows-refused, edit-refused, edit-passed, state-lent, state-by}
+use Rattle.row_rules.specs.declared.Change.{Change}
+use Rattle.row_rules.specs.Check.{rowCheck, editCheck}
+use Rattle.row_rules.specs.Fit.{EditFits}
+use Rattle.row_rules.proofs.Fit.{rows-fit, edit-fits}
+use Rattle.reader_rules.specs.Table.{readAs, tableCheck, tableFacts}
+use Rattle.reader_rules.proofs.Answer.{read-facts}
+use Rattle.reader_rules.proofs.Ready.{ready-passed}
+use Rattle.adder_rules.specs.Sum.{digitCount}
+use Rattle.edit_rules.specs.Edit.{State, state}
+use Rattle.edit_rules.proofs.Stages.{rowsFound, askedFound, table-refused, rows-refused, edit-refused, edit-passed, state-lent, state-by}
 use borrow.Author.Needs.{needs}
 use Rattle.edits.proofs.edit.Statement.{statement}
 use Rattle.edits.proofs.edit.Tie as tie

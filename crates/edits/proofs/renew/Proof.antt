@@ -1,5 +1,5 @@
-use Rattle.edits.proofs.Written.{next-written, all-written, count-more, count-on, count-start, count-end}
-use Rattle.edits.specs.Count.{differing}
+use Rattle.edit_rules.proofs.Written.{next-written, all-written, count-more, count-on, count-start, count-end}
+use Rattle.edit_rules.specs.Count.{differing}
 use Rattle.lists.proofs.Overwrite.{overwrite-none}
 use Rattle.lists.specs.Overwrite.{overwrite}
 use lib.ListN.{length, take, getD, length-set}

@@ -1,4 +1,4 @@
-use Rattle.rows.proofs.Changed.{changed-own, changed-other}
+use Rattle.row_rules.proofs.Changed.{changed-own, changed-other}
 use native.Mathlib.Omega.{arith}
 use mathlib.Core.Path.{sym}
 use borrow.Author.Needs.{needs}

@@ -1,4 +1,4 @@
-use Rattle.layout.proofs.Pair.{too-short, too-long, pair-broken, pairs-kept}
+use Rattle.layout_rules.proofs.Pair.{too-short, too-long, pair-broken, pairs-kept}
 use borrow.Author.Needs.{needs}
 use Rattle.layout.proofs.directory.Statement.{statement}
 use Rattle.layout.proofs.directory.Tie as tie

@@ -1,5 +1,5 @@
-use Rattle.layout.proofs.Pair.{expected-next}
-use Rattle.layout.specs.Directory.{expectedStart}
+use Rattle.layout_rules.proofs.Pair.{expected-next}
+use Rattle.layout_rules.specs.Directory.{expectedStart}
 use mathlib.Core.Path.{sym, _∙_}
 use borrow.Author.Needs.{needs}
 use Rattle.layout.proofs.expected_start.Statement.{statement}

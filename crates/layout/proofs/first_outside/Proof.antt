@@ -1,7 +1,7 @@
 use mathlib.Core.Path.{_≡_, sym, _∙_}
 use native.Mathlib.Nat.{sub-zero}
-use Rattle.layout.proofs.Limit.{number-inside, number-outside, number-within}
-use Rattle.layout.specs.Limit.{numberAllowed}
+use Rattle.layout_rules.proofs.Limit.{number-inside, number-outside, number-within}
+use Rattle.layout_rules.specs.Limit.{numberAllowed}
 use Rattle.lists.proofs.Scan.{scan-on, scan-here, scan-out}
 use Rattle.lists.specs.Scan.{firstFailing}
 use native.Mathlib.Omega.{arith}

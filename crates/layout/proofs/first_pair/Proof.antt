@@ -1,5 +1,5 @@
 use native.Mathlib.Omega.{arith}
-use Rattle.layout.specs.Directory.{pairAllowed}
+use Rattle.layout_rules.specs.Directory.{pairAllowed}
 use Rattle.lists.proofs.Scan.{scan-on, scan-here, scan-out}
 use Rattle.lists.specs.Scan.{firstFailing}
 use borrow.Author.Tests.{not-true, not-false}

@@ -1,4 +1,4 @@
-use Rattle.layout.proofs.Length.{sized, length-uneven, length-low, length-high}
+use Rattle.layout_rules.proofs.Length.{sized, length-uneven, length-low, length-high}
 use native.Mathlib.Omega.{arith}
 use Rattle.layout.proofs.length_allowed.Statement.{statement}
 use Rattle.layout.proofs.length_allowed.Tie as tie

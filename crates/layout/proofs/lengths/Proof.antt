@@ -1,5 +1,5 @@
 use native.Mathlib.Omega.{arith}
-use Rattle.layout.specs.Length.{sectionAllowed, lengthCheck}
+use Rattle.layout_rules.specs.Length.{sectionAllowed, lengthCheck}
 use Rattle.faults.proofs.Check.{judge-here, judge-out}
 use Rattle.lists.proofs.Scan.{scan-on}
 use Rattle.lists.specs.Scan.{firstFailing}

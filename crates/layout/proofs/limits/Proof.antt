@@ -1,6 +1,6 @@
-use Rattle.layout.proofs.Limit.{handed-on}
-use Rattle.layout.proofs.Laid.{laid}
-use Rattle.layout.specs.Limit.{limitCheckOf, limitCheck}
+use Rattle.layout_rules.proofs.Limit.{handed-on}
+use Rattle.layout_rules.proofs.Laid.{laid}
+use Rattle.layout_rules.specs.Limit.{limitCheckOf, limitCheck}
 use Rattle.faults.proofs.Check.{turn-on, turn-here, turn-out}
 use Rattle.faults.specs.Check.{inTurn}
 use native.Mathlib.Omega.{arith}

@@ -3,8 +3,8 @@ use lib.ListN.{length}
 use mathlib.Core.Path.{refl}
 use native.Mathlib.Omega.{arith}
 use native.Mathlib.Nat.{div-le-self}
-use Rattle.layout.specs.Limit.{numberCount}
-use Rattle.layout.proofs.Limit.{size-held, section-inside, limit-small, limit-none, limit-broken, limit-kept}
+use Rattle.layout_rules.specs.Limit.{numberCount}
+use Rattle.layout_rules.proofs.Limit.{size-held, section-inside, limit-small, limit-none, limit-broken, limit-kept}
 use borrow.Author.Needs.{needs}
 use Rattle.layout.proofs.limits_in.Statement.{statement}
 use Rattle.layout.proofs.limits_in.Tie as tie

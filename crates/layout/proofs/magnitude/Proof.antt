@@ -1,5 +1,5 @@
-use Rattle.layout.proofs.Number.{size-low, size-high}
-use Rattle.layout.specs.Number.{toSigned}
+use Rattle.layout_rules.proofs.Number.{size-low, size-high}
+use Rattle.layout_rules.specs.Number.{toSigned}
 use lib.IntN.{natAbs}
 use mathlib.Core.Path.{sym, ap, _∙_}
 use borrow.Author.Needs.{needs}

@@ -1,6 +1,6 @@
 use native.Mathlib.Nat.{div-le-self}
 use mathlib.Core.Path.{refl}
-use Rattle.layout.proofs.Limit.{record-ends, AllowedBefore, allowed-next, allowed-all}
+use Rattle.layout_rules.proofs.Limit.{record-ends, AllowedBefore, allowed-next, allowed-all}
 use borrow.Author.Tests.{ltb-true}
 use borrow.Author.Needs.{needs}
 use native.Mathlib.Omega.{arith}

@@ -1,4 +1,4 @@
-use Rattle.layout.specs.Limit.{numberPlace}
+use Rattle.layout_rules.specs.Limit.{numberPlace}
 use native.Mathlib.Omega.{arith}
 use mathlib.Core.Path.{refl}
 use borrow.Author.Needs.{needs}

@@ -1,4 +1,4 @@
-use Rattle.layout.proofs.Pair.{pair-elsewhere, pair-past, pair-inner, pair-last}
+use Rattle.layout_rules.proofs.Pair.{pair-elsewhere, pair-past, pair-inner, pair-last}
 use borrow.Author.Needs.{needs}
 use Rattle.layout.proofs.pair_allowed.Statement.{statement}
 use Rattle.layout.proofs.pair_allowed.Tie as tie

@@ -1,6 +1,6 @@
 use native.Mathlib.Omega.{arith}
-use Rattle.layout.specs.Number.{unsignedAt}
-use Rattle.layout.proofs.Limit.{raised-within}
+use Rattle.layout_rules.specs.Number.{unsignedAt}
+use Rattle.layout_rules.proofs.Limit.{raised-within}
 use borrow.Author.Needs.{needs}
 use Rattle.layout.proofs.raised.Statement.{statement}
 use Rattle.layout.proofs.raised.Tie as tie

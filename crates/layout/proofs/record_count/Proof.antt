@@ -1,4 +1,4 @@
-use Rattle.layout.proofs.Length.{sized}
+use Rattle.layout_rules.proofs.Length.{sized}
 use native.Mathlib.Omega.{arith}
 use borrow.Author.Needs.{needs}
 use Rattle.layout.proofs.record_count.Statement.{statement}

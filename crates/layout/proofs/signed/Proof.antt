@@ -1,4 +1,4 @@
-use Rattle.layout.proofs.Number.{read-fits, read}
+use Rattle.layout_rules.proofs.Number.{read-fits, read}
 use borrow.Author.Needs.{needs}
 use Rattle.layout.proofs.signed.Statement.{statement}
 use Rattle.layout.proofs.signed.Tie as tie

@@ -1,5 +1,5 @@
 use native.Mathlib.Omega.{arith}
-use Rattle.layout.specs.Number.{unsignedAt}
+use Rattle.layout_rules.specs.Number.{unsignedAt}
 use borrow.Author.Needs.{needs}
 use Rattle.layout.proofs.unsigned.Statement.{statement}
 use Rattle.layout.proofs.unsigned.Tie as tie

@@ -4,8 +4,8 @@ use mathlib.Core.Path.{_≡_, sym, subst}
 use Prim.Native.Nat.{ℕ, _≤_, _<_, _-_, _+_}
 use native.Mathlib.Omega.{arith}
 use lib.Dec.{lit<}
-use Rattle.layout.specs.Section.{degree}
-use Rattle.digits.specs.Record.{elementCount}
+use Rattle.layout_rules.specs.Section.{degree}
+use Rattle.digit_rules.specs.Record.{elementCount}
 use Rattle.numeration.specs.Elements.{elements}
 use Rattle.numeration.proofs.Leaves.{getD-inputs}
 use Rattle.places.specs.Place.{indexAt}

@@ -1,7 +1,7 @@
 use Rattle.places.proofs.Known.{looked-for, stood-there}
 use Rattle.places.proofs.Place.{sum-index-high}
 use Rattle.places.specs.Place.{Known}
-use Rattle.digits.specs.Digits.{sumIndex}
+use Rattle.digit_rules.specs.Digits.{sumIndex}
 use lib.ListN.{getD}
 use native.Mathlib.Omega.{arith}
 use Prim.Native.Nat.{_*_, _+_, _<_}

@@ -1,7 +1,7 @@
 use Rattle.places.proofs.Filled.{row-start, row-next}
 use Rattle.places.proofs.Known.{known-none}
 use Rattle.places.specs.Place.{inputAt, Known, partRow}
-use Rattle.rows.specs.Changed.{changed}
+use Rattle.row_rules.specs.Changed.{changed}
 use native.Mathlib.Omega.{arith}
 use native.Mathlib.Nat.{le-antisymm}
 use Prim.Native.Nat.{_≤_, _-_}

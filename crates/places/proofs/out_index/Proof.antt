@@ -1,8 +1,8 @@
 use mathlib.Core.Path.{_∙_}
-use Rattle.layout.specs.Section.{degree}
+use Rattle.layout_rules.specs.Section.{degree}
 use Rattle.numeration.specs.Conversion.{outDigit}
 use Rattle.numeration.specs.Elements.{elements}
-use Rattle.digits.specs.Record.{indexIn}
+use Rattle.digit_rules.specs.Record.{indexIn}
 use borrow.Author.Needs.{needs}
 use Rattle.places.proofs.out_index.Statement.{statement}
 use Rattle.places.proofs.out_index.Tie as tie

@@ -1,8 +1,8 @@
-use Rattle.reader.proofs.Kept.{layout-kept}
-use Rattle.reader.specs.Table.{digitsOf, basePart, alphabetPart, inputPart}
-use Rattle.digits.proofs.Passed.{base-ready}
-use Rattle.digits.specs.Digits.{digitCheck}
-use Rattle.digits.specs.Base.{BasePart}
+use Rattle.reader_rules.proofs.Kept.{layout-kept}
+use Rattle.reader_rules.specs.Table.{digitsOf, basePart, alphabetPart, inputPart}
+use Rattle.digit_rules.proofs.Passed.{base-ready}
+use Rattle.digit_rules.specs.Digits.{digitCheck}
+use Rattle.digit_rules.specs.Base.{BasePart}
 use lib.Dec.{lit<}
 use Prim.Native.Nat.{ℕ}
 use mathlib.Core.Path.{_≡_, sym, ap, subst, _∙_}

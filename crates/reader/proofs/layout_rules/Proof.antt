@@ -1,9 +1,9 @@
-use Rattle.reader.proofs.Kept.{stage-nothing, directory-room}
-use Rattle.reader.specs.Table.{layoutCheck}
-use Rattle.layout.specs.Limit.{limitCheck}
-use Rattle.layout.specs.Length.{lengthCheck, sectionLengths}
+use Rattle.reader_rules.proofs.Kept.{stage-nothing, directory-room}
+use Rattle.reader_rules.specs.Table.{layoutCheck}
+use Rattle.layout_rules.specs.Limit.{limitCheck}
+use Rattle.layout_rules.specs.Length.{lengthCheck, sectionLengths}
 use Rattle.faults.proofs.Check.{found-first, found-next}
-use Rattle.layout.specs.Directory.{directoryCheck}
+use Rattle.layout_rules.specs.Directory.{directoryCheck}
 use Rattle.faults.specs.Check.{_then_}
 use mathlib.Core.Path.{_≡_, ap, _∙_}
 use borrow.Author.Needs.{needs}

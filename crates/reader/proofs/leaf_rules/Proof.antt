@@ -1,7 +1,7 @@
-use Rattle.layout.specs.Section.{recordCount}
-use Rattle.reader.proofs.Kept.{layout-kept}
-use Rattle.reader.specs.Table.{leavesOf}
-use Rattle.leaves.specs.Check.{leafCheck}
+use Rattle.layout_rules.specs.Section.{recordCount}
+use Rattle.reader_rules.proofs.Kept.{layout-kept}
+use Rattle.reader_rules.specs.Table.{leavesOf}
+use Rattle.prefix_rules.specs.Check.{leafCheck}
 use lib.Dec.{lit<}
 use mathlib.Core.Path.{_≡_, ap, _∙_}
 use borrow.Author.Needs.{needs}

@@ -1,4 +1,4 @@
-use Rattle.reader.proofs.Kept.{directory-room, section-room}
+use Rattle.reader_rules.proofs.Kept.{directory-room, section-room}
 use lib.ListN.{take, drop}
 use native.Mathlib.Omega.{arith}
 use Prim.Native.Nat.{ℕ, _-_}

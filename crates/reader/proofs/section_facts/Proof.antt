@@ -1,7 +1,7 @@
-use Rattle.reader.specs.Table.{partFacts}
-use Rattle.layout.specs.Section.{recordCount}
+use Rattle.reader_rules.specs.Table.{partFacts}
+use Rattle.layout_rules.specs.Section.{recordCount}
 use mathlib.Core.Path.{_≡_, ap, _∙_}
-use Rattle.reader.proofs.Kept.{layout-kept, directory-room}
+use Rattle.reader_rules.proofs.Kept.{layout-kept, directory-room}
 use borrow.Author.Needs.{needs}
 use Rattle.reader.proofs.section_facts.Statement.{statement}
 use Rattle.reader.proofs.section_facts.Tie as tie

@@ -1,8 +1,8 @@
-use Rattle.reader.specs.Table.{wordPart, tableFacts}
+use Rattle.reader_rules.specs.Table.{wordPart, tableFacts}
 use Rattle.leaves.specs.Leaf.{codeOf}
 use Rattle.numeration.specs.Code.{depth}
 use mathlib.Core.Path.{_≡_, ap, _∙_}
-use Rattle.reader.proofs.Kept.{layout-kept}
+use Rattle.reader_rules.proofs.Kept.{layout-kept}
 use lib.Dec.{lit<}
 use borrow.Author.Needs.{needs}
 use Rattle.reader.proofs.table_facts.Statement.{statement}

@@ -4,7 +4,7 @@ use mathlib.Core.Path.{sym, ap}
 use Prim.Native.Nat.{ℕ}
 use lib.ListN.{getD}
 use borrow.Author.Needs.{needs}
-use Rattle.rows.proofs.Changed.{changed-other, changed-outside, changed-elsewhere, changed-here}
+use Rattle.row_rules.proofs.Changed.{changed-other, changed-outside, changed-elsewhere, changed-here}
 use Rattle.rows.proofs.byte_at.Statement.{statement}
 use Rattle.rows.proofs.byte_at.Tie as tie
 

@@ -2,7 +2,7 @@
 use mathlib.Core.Path.{_∙_}
 use borrow.Author.Needs.{needs}
 use Rattle.faults.proofs.Check.{found-first, found-next}
-use Rattle.rows.specs.Check.{editCheck}
+use Rattle.row_rules.specs.Check.{editCheck}
 use Rattle.rows.proofs.edit_check.Statement.{statement}
 use Rattle.rows.proofs.edit_check.Tie as tie
 

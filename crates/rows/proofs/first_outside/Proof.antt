@@ -7,8 +7,8 @@ use lib.ListN.{length}
 use denote.Ref.{now}
 use Rattle.lists.proofs.Scan.{scan-on, scan-here, scan-out}
 use Rattle.lists.specs.Scan.{firstFailing}
-use Rattle.rows.specs.Check.{indexAllowed}
-use Rattle.rows.proofs.Allowed.{outside, inside}
+use Rattle.row_rules.specs.Check.{indexAllowed}
+use Rattle.row_rules.proofs.Allowed.{outside, inside}
 use Rattle.rows.proofs.first_outside.Statement.{statement}
 use Rattle.rows.proofs.first_outside.Tie as tie
 

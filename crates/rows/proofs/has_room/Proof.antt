@@ -1,5 +1,5 @@
 -- What is left of the buffer above n places.
-use Rattle.rows.proofs.Allowed.{no-room, some-room}
+use Rattle.row_rules.proofs.Allowed.{no-room, some-room}
 use Rattle.rows.proofs.has_room.Statement.{statement}
 use Rattle.rows.proofs.has_room.Tie as tie
 

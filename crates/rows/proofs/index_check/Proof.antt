@@ -1,7 +1,7 @@
 use mathlib.Core.Path.{sym}
 use borrow.Author.Needs.{needs}
 use Rattle.faults.proofs.Check.{judge-broken, judge-kept}
-use Rattle.rows.specs.Check.{indexCheck}
+use Rattle.row_rules.specs.Check.{indexCheck}
 use Rattle.rows.proofs.index_check.Statement.{statement}
 use Rattle.rows.proofs.index_check.Tie as tie
 

@@ -1,4 +1,4 @@
-use Rattle.rows.proofs.Allowed.{over, not-over}
+use Rattle.row_rules.proofs.Allowed.{over, not-over}
 use Rattle.rows.proofs.lengths_allowed.Statement.{statement}
 use Rattle.rows.proofs.lengths_allowed.Tie as tie
 

@@ -2,7 +2,7 @@
 use mathlib.Core.Path.{_∙_}
 use borrow.Author.Needs.{needs}
 use Rattle.faults.proofs.Check.{found-first, found-next}
-use Rattle.rows.specs.Check.{oneRowCheck}
+use Rattle.row_rules.specs.Check.{oneRowCheck}
 use Rattle.rows.proofs.one_row_check.Statement.{statement}
 use Rattle.rows.proofs.one_row_check.Tie as tie
 

@@ -3,7 +3,7 @@ use mathlib.Core.Path.{_≡_, _∙_, ap}
 use lib.ListN.{length}
 use borrow.Author.Needs.{needs}
 use Rattle.faults.proofs.Check.{found-first, found-next}
-use Rattle.rows.specs.Check.{judgeOne, lengthsAllowed, rowCheck}
+use Rattle.row_rules.specs.Check.{judgeOne, lengthsAllowed, rowCheck}
 use Rattle.rows.proofs.row_check.Statement.{statement}
 use Rattle.rows.proofs.row_check.Tie as tie
 

@@ -4,7 +4,7 @@ use mathlib.Core.Path.{_≡_, refl, ap, subst, _∙_}
 use Prim.Native.Nat.{ℕ, _-_, _≤_}
 use native.Mathlib.Omega.{arith}
 use lib.ListN.{length, length-set}
-use Rattle.edits.specs.Edit.{state}
+use Rattle.edit_rules.specs.Edit.{state}
 use Rattle.runner.proofs.Steps.{AfterEdits, after-none, after-next}
 use borrow.Author.Needs.{needs}
 use Rattle.runner.proofs.edit_each.Statement.{statement}

@@ -4,9 +4,9 @@ use Rattle.runner.proofs.Steps.{length-edits}
 use Rattle.runner.specs.Run.{editCount, askedEdits, runOutcome}
 use Rattle.runner.specs.Told.{groupsOf, numbersOf, valuesOf}
 use Rattle.runner.specs.Answer.{outcomeOf}
-use Rattle.edits.specs.Run.{Ran}
-use Rattle.edits.specs.Edit.{state}
-use Rattle.adder.proofs.Sum.{exit-lent, exit-written}
+use Rattle.edit_rules.specs.Run.{Ran}
+use Rattle.edit_rules.specs.Edit.{state}
+use Rattle.adder_rules.proofs.Sum.{exit-lent, exit-written}
 use Rattle.faults.specs.Outcome.{whose, numberOf, placeOf}
 use Rattle.lists.proofs.Overwrite.{overwrite-none}
 use Rattle.lists.specs.Overwrite.{overwrite}

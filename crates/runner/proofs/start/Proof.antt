@@ -1,8 +1,8 @@
 -- The check's fault, or the addition's, or the number of edits.
 use Rattle.runner.proofs.Outcome.{check-refused, add-refused, both-passed}
-use Rattle.edits.specs.Edit.{state}
-use Rattle.adder.proofs.Sum.{sum-lent}
-use Rattle.adder.specs.Sum.{atExit}
+use Rattle.edit_rules.specs.Edit.{state}
+use Rattle.adder_rules.proofs.Sum.{sum-lent}
+use Rattle.adder_rules.specs.Sum.{atExit}
 use Rattle.faults.specs.Outcome.{whose, numberOf, placeOf}
 use Rattle.table.specs.Answer.{outcomeOf as checkedAs}
 use Rattle.adder.specs.Answer.{outcomeOf as addedAs}

@@ -11,18 +11,18 @@ use borrow.Author.Needs.{needs}
 use borrow.Author.Tests.{not-true, not-false}
 use Rattle.lists.specs.Span.{span}
 use Rattle.ring.specs.Element.{plus}
-use Rattle.layout.specs.Section.{degree}
-use Rattle.digits.specs.Record.{recordAt, elementCount}
+use Rattle.layout_rules.specs.Section.{degree}
+use Rattle.digit_rules.specs.Record.{recordAt, elementCount}
 use Rattle.numeration.specs.Code.{agree}
 use Rattle.numeration.specs.Elements.{elements}
 use Rattle.numeration.specs.Pairs.{fits, pairPasses}
 use Rattle.numeration.specs.Runs.{lowestFit}
 use Rattle.leaves.specs.Leaf.{leafCount, codeOf, wordGiven, weightGiven}
 use Rattle.leaves.specs.Window.{LookedUp}
-use Rattle.leaves.specs.Formed.{Formed}
-use Rattle.leaves.proofs.Formed.{formed}
-use Rattle.table.specs.Pairs.{inAlphabet, upperPart}
-use Rattle.table.proofs.Fitting.{first-input, lowest-found, fit-is, pair-is, upto-lowest, ends-unfit, ends-all, ends-bad}
+use Rattle.prefix_rules.specs.Formed.{Formed}
+use Rattle.prefix_rules.proofs.Formed.{formed}
+use Rattle.table_rules.specs.Pairs.{inAlphabet, upperPart}
+use Rattle.table_rules.proofs.Fitting.{first-input, lowest-found, fit-is, pair-is, upto-lowest, ends-unfit, ends-all, ends-bad}
 use Rattle.table.proofs.bad_lower.Statement.{statement}
 use Rattle.table.proofs.bad_lower.Tie as tie
 

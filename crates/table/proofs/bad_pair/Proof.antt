@@ -7,14 +7,14 @@ use borrow.Author.Count.{below-more}
 use borrow.Author.Needs.{needs}
 use Rattle.lists.specs.Scan.{firstFailing}
 use Rattle.ring.specs.Matrix.{RowsWithin}
-use Rattle.layout.specs.Section.{degree}
-use Rattle.digits.specs.Record.{recordAt}
-use Rattle.digits.proofs.Base.{base-within}
+use Rattle.layout_rules.specs.Section.{degree}
+use Rattle.digit_rules.specs.Record.{recordAt}
+use Rattle.digit_rules.proofs.Base.{base-within}
 use Rattle.numeration.specs.Elements.{elements}
 use Rattle.numeration.specs.Pairs.{pairPasses}
 use Rattle.leaves.specs.Leaf.{leafCount, codeOf}
-use Rattle.table.specs.Pairs.{inAlphabet, badLower}
-use Rattle.table.proofs.Bad.{UppersPass, upper-passes, pair-found, pair-none}
+use Rattle.table_rules.specs.Pairs.{inAlphabet, badLower}
+use Rattle.table_rules.proofs.Bad.{UppersPass, upper-passes, pair-found, pair-none}
 use Rattle.table.proofs.bad_pair.Statement.{statement}
 use Rattle.table.proofs.bad_pair.Tie as tie
 

@@ -1,10 +1,10 @@
 -- Rules 1 to 13 by the reader, then rule 14.
-use Rattle.table.specs.Check.{pairsOf, checkFacts, checkOutcome}
-use Rattle.table.specs.declared.Facts.{Facts}
-use Rattle.reader.proofs.Answer.{read-facts, read-fault}
-use Rattle.reader.proofs.Kept.{stage-nothing}
-use Rattle.reader.specs.Table.{readAs, tableCheck, tableFacts}
-use Rattle.reader.specs.declared.Table.{Table}
+use Rattle.table_rules.specs.Check.{pairsOf, checkFacts, checkOutcome}
+use Rattle.table_rules.specs.declared.Facts.{Facts}
+use Rattle.reader_rules.proofs.Answer.{read-facts, read-fault}
+use Rattle.reader_rules.proofs.Kept.{stage-nothing}
+use Rattle.reader_rules.specs.Table.{readAs, tableCheck, tableFacts}
+use Rattle.reader_rules.specs.declared.Table.{Table}
 use Rattle.faults.proofs.Unless.{unless-found, unless-none}
 use Rattle.faults.specs.Unless.{unless}
 use Rattle.faults.specs.Outcome.{Outcome, facts, author, refused, whose, numberOf, placeOf}

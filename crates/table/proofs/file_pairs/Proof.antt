@@ -1,10 +1,10 @@
 -- The five sections, each as its part of the file.
-use Rattle.table.specs.Check.{pairsOf}
-use Rattle.table.specs.Pairs.{pairCheck}
-use Rattle.reader.proofs.Kept.{layout-kept, table-kept, sections}
-use Rattle.leaves.specs.Check.{leafCheck}
-use Rattle.digits.specs.Record.{elementCount}
-use Rattle.digits.specs.Base.{BasePart}
+use Rattle.table_rules.specs.Check.{pairsOf}
+use Rattle.table_rules.specs.Pairs.{pairCheck}
+use Rattle.reader_rules.proofs.Kept.{layout-kept, table-kept, sections}
+use Rattle.prefix_rules.specs.Check.{leafCheck}
+use Rattle.digit_rules.specs.Record.{elementCount}
+use Rattle.digit_rules.specs.Base.{BasePart}
 use Prim.Native.Nat.{ℕ, _<_}
 use lib.Dec.{lit<}
 use mathlib.Core.Path.{_≡_, sym, subst, _∙_}

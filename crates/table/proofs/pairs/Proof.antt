@@ -1,5 +1,5 @@
 -- The failing pair says whether rule 14 is broken, and where.
-use Rattle.table.proofs.Bad.{pairs-broken, pairs-kept}
+use Rattle.table_rules.proofs.Bad.{pairs-broken, pairs-kept}
 use Prim.Native.Nat.{ℕ, _<_, _≤_}
 use mathlib.Core.Path.{_≡_, sym, subst}
 use borrow.Author.Needs.{needs}

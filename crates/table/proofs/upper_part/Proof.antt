@@ -1,4 +1,4 @@
-use Rattle.digits.specs.Record.{recordAt, elementCount}
+use Rattle.digit_rules.specs.Record.{recordAt, elementCount}
 use Rattle.ring.proofs.Element.{within-minus, within-le}
 use Rattle.ring.specs.Matrix.{times}
 use Rattle.ring.specs.Element.{minus, Within}

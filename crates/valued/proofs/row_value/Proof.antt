@@ -4,12 +4,12 @@ use lib.Dec.{lit<}
 use Rattle.faults.proofs.Unless.{unless-found, unless-none}
 use Rattle.faults.specs.Outcome.{refused, rows}
 use Rattle.faults.specs.declared.Refusal.{Refusal}
-use Rattle.digits.specs.Base.{BasePart, baseMatrix}
-use Rattle.digits.specs.Record.{elementCount}
-use Rattle.reader.proofs.Kept.{stage-nothing, layout-kept, table-kept, sections}
-use Rattle.reader.specs.Table.{alphabetPart}
-use Rattle.rows.proofs.Fit.{row-fits}
-use Rattle.rows.specs.Check.{oneRowCheck}
+use Rattle.digit_rules.specs.Base.{BasePart, baseMatrix}
+use Rattle.digit_rules.specs.Record.{elementCount}
+use Rattle.reader_rules.proofs.Kept.{stage-nothing, layout-kept, table-kept, sections}
+use Rattle.reader_rules.specs.Table.{alphabetPart}
+use Rattle.row_rules.proofs.Fit.{row-fits}
+use Rattle.row_rules.specs.Check.{oneRowCheck}
 use Rattle.worth.specs.Total.{Indexed, worthOf}
 use Rattle.valued.specs.Value.{rowOutcome}
 use borrow.Author.Needs.{needs}

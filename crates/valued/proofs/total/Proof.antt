@@ -2,7 +2,7 @@
 use mathlib.Core.Path.{sym, ap, subst, _∙_}
 use Prim.Native.Nat.{_^_}
 use Rattle.ring.specs.Matrix.{RowsWithin}
-use Rattle.digits.proofs.Base.{base-within}
+use Rattle.digit_rules.proofs.Base.{base-within}
 use Rattle.worth.specs.Total.{outcomeOf, worthOf}
 use borrow.Author.Needs.{needs}
 use Rattle.valued.proofs.total.Statement.{statement}

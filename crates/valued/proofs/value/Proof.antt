@@ -4,9 +4,9 @@ use mathlib.Core.List.{List}
 use lib.IntN.{ℤ}
 use Rattle.faults.proofs.Unless.{unless-none}
 use Rattle.faults.specs.Outcome.{author, whose, numberOf, placeOf}
-use Rattle.reader.proofs.Answer.{read-facts, read-fault}
-use Rattle.reader.specs.Table.{readAs, tableCheck, tableFacts, partFacts}
-use Rattle.reader.specs.declared.Table.{Table}
+use Rattle.reader_rules.proofs.Answer.{read-facts, read-fault}
+use Rattle.reader_rules.specs.Table.{readAs, tableCheck, tableFacts, partFacts}
+use Rattle.reader_rules.specs.declared.Table.{Table}
 use Rattle.valued.specs.Value.{rowOutcome, valueOutcome}
 use borrow.Author.Needs.{needs}
 use Rattle.valued.proofs.value.Statement.{statement}

@@ -1,0 +1,87 @@
+-- The outcome of addition and the sum buffer at exit, as its functions come to them.
+use mathlib.Core.Path.{_≡_, refl, sym, ap, _∙_}
+use mathlib.Core.List.{List}
+use Prim.Native.Nat.{ℕ, _+_, _<_, _≤_}
+use native.Mathlib.Nat.{zero-add}
+use native.Mathlib.Omega.{arith}
+use lib.ListN.{length, getD, take}
+use Rattle.lists.specs.Scan.{firstFailing}
+use Rattle.lists.specs.Overwrite.{overwrite}
+use Rattle.faults.specs.declared.Refusal.{Refusal}
+use Rattle.faults.specs.Outcome.{Group, Outcome, facts, refused, author, rows}
+use Rattle.faults.specs.Unless.{unless}
+use Rattle.faults.specs.Check.{refusal, none}
+use Rattle.faults.proofs.Unless.{unless-found, unless-none}
+use Rattle.reader_rules.specs.Table.{tableCheck, tableFacts, readOutcome}
+use Rattle.reader_rules.proofs.Answer.{read-fault}
+use Rattle.row_rules.specs.Check.{rowCheck}
+use Rattle.adder_rules.specs.declared.AddedFacts.{AddedFacts}
+use Rattle.adder_rules.specs.Sum.{inputRow, digitCount, placeCount, rowAllowed, rowPart, sumRow, digitsOutcome, addOutcome, atExit, addSum}
+use Rattle.adder_rules.proofs.Part.{check-refused, check-kept, part-found, part-room}
+
+-- a call that refuses leaves the buffer as lent, one that gives facts has written it
+pub exit-lent : {F : Type 0} (o : Outcome F) (g : Group) (n p : ℕ) (lent written : List ℕ) → refused g n p ≡ o → lent ≡ atExit o lent written
+unfolding atExit
+exit-lent o g n p lent written e = ap (λ x. atExit x lent written) e
+
+pub exit-written : {F : Type 0} (o : Outcome F) (f : F) (lent written : List ℕ) → facts f ≡ o → written ≡ atExit o lent written
+unfolding atExit
+exit-written o f lent written e = ap (λ x. atExit x lent written) e
+
+module _ (file first second : List ℕ) where
+  -- by a row with the entries of the row of input indexes
+  module _ (row : List ℕ) (same : (k : ℕ) → getD row k 0 ≡ getD (inputRow file first second) k 0) (places : ℕ) (all : places ≡ placeCount file first)
+      (found : ℕ) (first-outside : found ≡ firstFailing (λ k. rowAllowed file row (0 + k)) 0 places) where
+    abbrev given : Outcome AddedFacts
+    given = facts (record { places = placeCount file first })
+
+    at : found ≡ firstFailing (λ k. rowAllowed file row (0 + k)) 0 (placeCount file first)
+    at = first-outside ∙ ap (firstFailing (λ k. rowAllowed file row (0 + k)) 0) all
+
+    -- 27 at the first place whose digit isn't in the alphabet
+    pub digits-refused : found < places → refused author 27 found ≡ digitsOutcome file first second
+    unfolding digitsOutcome
+    digits-refused h =
+        let is = check-refused file row (inputRow file first second) 0 (placeCount file first) (λ k low high. same k) found at (omega arith) in
+        ap (refused author 27) (sym (zero-add found)) ∙ sym (ap (λ (r : Refusal). unless author r given) is ∙ unless-found author (refusal 27 (0 + found)) given (λ z. omega (arith, z)))
+
+    pub digits-given : places ≤ found → facts (record { places = places }) ≡ digitsOutcome file first second
+    unfolding digitsOutcome
+    digits-given h =
+        let is = check-kept file row (inputRow file first second) 0 (placeCount file first) (λ k low high. same k) found at (omega arith) in
+        (λ i. facts (record { places = all i })) ∙ sym (ap (λ (r : Refusal). unless author r given) is ∙ unless-none author none given refl)
+
+    -- the digits found, as a buffer's first bytes hold them
+    pub digits-found : (s : List ℕ) → places ≤ found → take places (overwrite s 0 (rowPart file row 0 found)) ≡ sumRow file first second
+    unfolding sumRow
+    digits-found s h =
+        ap (λ (n : ℕ). take n (overwrite s 0 (rowPart file row 0 found))) all ∙ part-found file row (inputRow file first second) 0 (placeCount file first) (λ k low high. same k) found at s (omega arith)
+
+    pub digits-room : (s : List ℕ) → places ≤ length s → length (overwrite s 0 (rowPart file row 0 found)) ≡ length s
+    digits-room s h = part-room file row (inputRow file first second) 0 (placeCount file first) (λ k low high. same k) found at s (omega arith)
+
+  -- a faulty table's fault is passed on
+  pub table-refused : (room : ℕ) (g : Group) (n p : ℕ) → refused g n p ≡ readOutcome file → refused g n p ≡ addOutcome file first second room
+  unfolding addOutcome
+  table-refused room g n p e = read-fault AddedFacts file g n p _ e
+
+  -- 20 to 23, and what follows
+  pub rows-refused : (room : ℕ) (found : Refusal) → tableCheck file .number ≡ 0 → found ≡ rowCheck first second room (digitCount file) (tableFacts file .depth) → (found .number ≡ 0 → ⊥)
+      → refused rows (found .number) (found .place) ≡ addOutcome file first second room
+  unfolding addOutcome
+  rows-refused room found passes e some =
+      sym (unless-none author (tableCheck file) _ passes ∙ ap (λ (r : Refusal). unless rows r (digitsOutcome file first second)) (sym e) ∙ unless-found rows found (digitsOutcome file first second) some)
+
+  pub rows-passed : (room : ℕ) → tableCheck file .number ≡ 0 → rowCheck first second room (digitCount file) (tableFacts file .depth) .number ≡ 0 → digitsOutcome file first second ≡ addOutcome file first second room
+  unfolding addOutcome
+  rows-passed room passes none = sym (unless-none author (tableCheck file) _ passes ∙ unless-none rows _ (digitsOutcome file first second) none)
+
+  -- the buffer by the outcome
+  pub sum-lent : (sum : List ℕ) (g : Group) (n p : ℕ) → refused g n p ≡ addOutcome file first second (length sum) → sum ≡ addSum file first second sum
+  unfolding addSum
+  sum-lent sum g n p e = exit-lent (addOutcome file first second (length sum)) g n p sum _ e
+
+  pub sum-by : (sum : List ℕ) → digitsOutcome file first second ≡ addOutcome file first second (length sum)
+      → atExit (digitsOutcome file first second) sum (overwrite sum 0 (sumRow file first second)) ≡ addSum file first second sum
+  unfolding addSum
+  sum-by sum e = ap (λ o. atExit o sum (overwrite sum 0 (sumRow file first second))) e

@@ -1,0 +1,131 @@
+-- Addition that isn't refused: the bytes of the sum, and its value.
+use mathlib.Core.Path.{_≡_, sym, ap, subst, _∙_}
+use mathlib.Core.List.{List, map}
+use Prim.Native.Nat.{ℕ, _+_, _<_, _≤_, _-_}
+use native.Mathlib.Nat.{zero-add}
+use native.Mathlib.Omega.{arith}
+use lib.ListN.{length, getD, take}
+use lib.IntN.{ℤ}
+use borrow.Author.Tests.{ltb-true}
+use Rattle.lists.specs.Span.{span}
+use Rattle.lists.specs.Overwrite.{overwrite}
+use Rattle.lists.proofs.Span.{length-span, getD-span, span-ext, span-getD, map-span}
+use Rattle.lists.proofs.Overwrite.{length-overwrite}
+use Rattle.faults.specs.Outcome.{facts, author, rows}
+use Rattle.faults.proofs.Check.{judge-passed}
+use Rattle.calls.proofs.Answers.{unless-given}
+use Rattle.layout_rules.specs.Section.{degree}
+use Rattle.ring.specs.Element.{plus}
+use Rattle.digit_rules.specs.Record.{recordAt, elementCount}
+use Rattle.digit_rules.proofs.Record.{element-parts}
+use Rattle.digit_rules.proofs.Index.{index-is}
+use Rattle.digit_rules.proofs.Formed.{sum-index-is}
+use Rattle.numeration.specs.Conversion.{convertRow}
+use Rattle.numeration.specs.Elements.{elements, HasParts}
+use Rattle.numeration.specs.Value.{value}
+use Rattle.numeration.proofs.Laws.{same-value}
+use Rattle.numeration.proofs.Sums.{value-sum}
+use Rattle.reader_rules.specs.Table.{basePart, alphabetPart, inputPart, tableCheck, tableFacts}
+use Rattle.reader_rules.specs.Ready.{operationsOf, inputCount, leavesIn, valueOf}
+use Rattle.reader_rules.proofs.Formed.{well-formed}
+use Rattle.reader_rules.proofs.Ready.{ready-passed}
+use Rattle.row_rules.specs.Check.{rowCheck}
+use Rattle.row_rules.specs.Fit.{RowsFit}
+use Rattle.row_rules.proofs.Fit.{rows-fit}
+use Rattle.table_rules.specs.Pairs.{inAlphabet}
+use Rattle.places.specs.Place.{indexAt}
+use Rattle.places.proofs.Filled.{overwrite-in, overwrite-behind}
+use Rattle.adder_rules.specs.declared.AddedFacts.{AddedFacts}
+use Rattle.adder_rules.specs.Sum.{inputOf, inputRow, digitCount, placeCount, rowDigit, rowIndex, rowAllowed, rowPart, digitCheck, sumRow, digitsOutcome, addOutcome, addSum}
+use Rattle.adder_rules.specs.Summed.{Summed}
+use Rattle.adder_rules.proofs.Table.{digits-counted}
+use Rattle.adder_rules.proofs.Part.{written-first}
+use Rattle.adder_rules.proofs.Sum.{exit-written}
+
+-- byte j of the sum row
+pub sum-row-at : (file first second : List ℕ) (j : ℕ) → j < placeCount file first → getD (sumRow file first second) j 0 ≡ rowIndex file (inputRow file first second) j
+unfolding sumRow rowPart
+sum-row-at file first second j h =
+    getD-span (λ k. rowIndex file (inputRow file first second) (0 + k)) 0 (placeCount file first) j 0 h ∙ ap (rowIndex file (inputRow file first second)) (zero-add (0 + j) ∙ zero-add j)
+
+pub sum-row-long : (file first second : List ℕ) → length (sumRow file first second) ≡ placeCount file first
+unfolding sumRow rowPart
+sum-row-long file first second = length-span (λ k. rowIndex file (inputRow file first second) (0 + k)) 0 (placeCount file first)
+
+-- what facts say of the three stages
+pub record Passed (file first second : List ℕ) (room : ℕ) : Type 0 where
+  pub table : tableCheck file .number ≡ 0
+  pub fit : RowsFit first second room (digitCount file) (tableFacts file .depth)
+  pub digits : (j : ℕ) → j < placeCount file first → rowIndex file (inputRow file first second) j < elementCount (alphabetPart file)
+
+pub passed : (file first second : List ℕ) (room : ℕ) (f : AddedFacts) → addOutcome file first second room ≡ facts f → Passed file first second room
+unfolding addOutcome digitsOutcome digitCheck indexAt inAlphabet
+passed file first second room f e =
+    let a = unless-given author (tableCheck file) _ f e in
+    let b = unless-given rows (rowCheck first second room (digitCount file) (tableFacts file .depth)) _ f (a .1) in
+    let d = unless-given author (digitCheck file (inputRow file first second) 0 (placeCount file first)) _ f (b .1) in
+    record {
+      table = a .0;
+      fit = rows-fit first second room (digitCount file) (tableFacts file .depth) (b .0);
+      digits = λ j h. subst (λ (k : ℕ). rowIndex file (inputRow file first second) k < elementCount (alphabetPart file)) (zero-add j) (ltb-true _ _ (judge-passed 27 (λ k. 0 + k) (λ k. rowAllowed file (inputRow file first second) (0 + k)) (placeCount file first) (omega arith) (d .0) j h));
+    }
+
+module _ (file first second : List ℕ) (room : ℕ) (is : Passed file first second room) where
+  -- the digit of the sum row is z(j)
+  pub digit-is : (j : ℕ) → j < placeCount file first → recordAt (alphabetPart file) (rowIndex file (inputRow file first second) j) ≡ rowDigit file (inputRow file first second) j
+  unfolding indexAt
+  digit-is j h = index-is (alphabetPart file) (elementCount (alphabetPart file)) (rowDigit file (inputRow file first second) j) (is .digits j h)
+
+  -- the sum row has the value of the row of input digits
+  converted : map (recordAt (alphabetPart file)) (sumRow file first second) ≡ convertRow (operationsOf file) (recordAt (inputPart file)) (leavesIn file) (inputRow file first second)
+  unfolding sumRow rowPart convertRow inputRow tableFacts
+  converted =
+      let row = inputRow file first second in
+      let a : ℕ → List ℤ = recordAt (alphabetPart file) in
+      map-span a (λ k. rowIndex file row (0 + k)) 0 (placeCount file first)
+      ∙ span-ext (λ k. a (rowIndex file row (0 + k))) (rowDigit file row) 0 0 (placeCount file first) (λ k h. ap (λ (n : ℕ). a (rowIndex file row n)) (zero-add (0 + k)) ∙ digit-is (0 + k) (omega arith))
+      ∙ ap (λ (n : ℕ). span (rowDigit file row) 0 (n + tableFacts file .depth)) (sym (length-span (inputOf file first second) 0 (length first)))
+
+  summands : map (recordAt (inputPart file)) (inputRow file first second) ≡ span (λ k. operationsOf file .sum (recordAt (alphabetPart file) (getD first k 0)) (recordAt (alphabetPart file) (getD second k 0))) 0 (length first)
+  unfolding inputRow elements
+  summands =
+      let size = digits-counted file (is .table) (alphabetPart file) (λ i. alphabetPart file) in
+      let a : ℕ → List ℤ = recordAt (alphabetPart file) in
+      map-span (recordAt (inputPart file)) (inputOf file first second) 0 (length first)
+      ∙ span-ext (λ k. recordAt (inputPart file) (inputOf file first second k)) (λ k. plus (a (getD first k 0)) (a (getD second k 0))) 0 0 (length first) (λ k h. sum-index-is (basePart file) (alphabetPart file) (inputPart file) (well-formed file .1 (is .table) .digits) (getD first (0 + k) 0) (getD second (0 + k) 0) (omega (arith, size, is .fit .first-indexes (0 + k) (omega arith))) (omega (arith, size, is .fit .second-indexes (0 + k) (omega (arith, is .fit .same-length)))))
+
+  row-digits : (row : List ℕ) → length row ≡ length first → span (λ k. recordAt (alphabetPart file) (getD row k 0)) 0 (length first) ≡ map (recordAt (alphabetPart file)) row
+  row-digits row l =
+      sym (map-span (recordAt (alphabetPart file)) (λ k. getD row k 0) 0 (length first)) ∙ ap (map (recordAt (alphabetPart file))) (ap (span (λ k. getD row k 0) 0) (sym l) ∙ span-getD row 0)
+
+  pub value-of-sum : valueOf file (sumRow file first second) ≡ operationsOf file .sum (valueOf file first) (valueOf file second)
+  value-of-sum =
+      let r = ready-passed file (is .table) in
+      let o = operationsOf file in
+      let a : ℕ → List ℤ = recordAt (alphabetPart file) in
+      ap (value o) converted
+      ∙ same-value o (HasParts degree) (r .group) (recordAt (inputPart file)) (leavesIn file) (inputCount file) (r .code) (r .in-group) .0 (inputRow file first second)
+      ∙ ap (value o) summands
+      ∙ value-sum o (HasParts degree) (r .group) (λ k. a (getD first k 0)) (λ k. a (getD second k 0)) (λ k. element-parts (alphabetPart file) _) (λ k. element-parts (alphabetPart file) _) (length first)
+      ∙ (λ i. o .sum (value o (row-digits first (λ j. length first) i)) (value o (row-digits second (is .fit .same-length) i)))
+
+-- Addition that isn't refused. Byte j of the sum is the alphabet index of z(j), for every j below n + h, further bytes are kept, and the
+-- value of the sum is the sum of the values.
+pub summed : (file first second sum : List ℕ) (f : AddedFacts) → addOutcome file first second (length sum) ≡ facts f → Summed file first second sum
+unfolding addSum
+summed file first second sum f e =
+    let is = passed file first second (length sum) f e in
+    let row = sumRow file first second in
+    let n = placeCount file first in
+    let long : length row ≡ n = sum-row-long file first second in
+    let room : n ≤ length sum = is .fit .room in
+    let written : addSum file first second sum ≡ overwrite sum 0 row = sym (exit-written (addOutcome file first second (length sum)) f sum (overwrite sum 0 row) (sym e)) in
+    let at : (j : ℕ) → j < n → getD (addSum file first second sum) j 0 ≡ rowIndex file (inputRow file first second) j = λ j h. ap (λ (s : List ℕ). getD s j 0) written ∙ ap (λ (k : ℕ). getD (overwrite sum 0 row) k 0) (sym (zero-add j)) ∙ overwrite-in sum row 0 (omega arith) j (omega arith) ∙ sum-row-at file first second j h in
+    record {
+      index = at;
+      in-alphabet = λ j h. omega (arith, at j h, is .digits j h, digits-counted file (is .table) (alphabetPart file) (λ i. alphabetPart file));
+      digit = λ j h. ap (recordAt (alphabetPart file)) (at j h) ∙ digit-is file first second (length sum) is j h;
+      further = λ j h. let k : j ≡ 0 + length row + (j - n) = omega arith in ap (λ (s : List ℕ). getD s j 0) written ∙ ap (λ (m : ℕ). getD (overwrite sum 0 row) m 0) k ∙ overwrite-behind sum row 0 (omega arith) (j - n) ∙ ap (λ (m : ℕ). getD sum m 0) (sym k);
+      long = ap length written ∙ length-overwrite sum 0 row (omega arith);
+      value-is = ap (valueOf file) (ap (take n) written ∙ written-first sum row n long) ∙ value-of-sum file first second (length sum) is;
+    }

@@ -1,0 +1,26 @@
+-- What it means that rule 27 of document 01 is broken at a place, with no test and no search; the rules of addition in their order.
+use mathlib.Core.List.{List, [], _∷_}
+use Prim.Native.Nat.{ℕ, _+_, _<_, _≤_}
+use Rattle.faults.specs.Outcome.{author, rows}
+use Rattle.faults.specs.Rule.{Rule, rule}
+use Rattle.calls.specs.Answers.{Stage, stage}
+use Rattle.digit_rules.specs.Broken.{Listed}
+use Rattle.reader_rules.specs.Table.{alphabetPart, tableFacts}
+use Rattle.reader_rules.specs.Broken.{tableRules}
+use Rattle.row_rules.specs.Broken.{rowRules}
+use Rattle.adder_rules.specs.Sum.{inputRow, digitCount, placeCount, rowDigit}
+
+-- 27: a sum digit isn't in the alphabet (place), of `count` places from `from` on
+abbrev pub Broken27 : List ℕ → List ℕ → ℕ → ℕ → ℕ → Type 0
+Broken27 file row from count p = (from ≤ p) × (p < from + count) × ¬ (Listed (alphabetPart file) (rowDigit file row p))
+
+abbrev pub digitRules : List ℕ → List ℕ → ℕ → ℕ → List Rule
+digitRules file row from count = rule 27 (Broken27 file row from count) ∷ []
+
+-- 1 to 13, 20 to 23, and "Last, in addition over all places": 27
+abbrev pub addStages : List ℕ → List ℕ → List ℕ → ℕ → List Stage
+addStages file first second room =
+    stage author (tableRules file)
+    ∷ stage rows (rowRules first second room (digitCount file) (tableFacts file .depth))
+    ∷ stage author (digitRules file (inputRow file first second) 0 (placeCount file first))
+    ∷ []

@@ -1,0 +1,3 @@
+pub mod Sum
+pub mod Broken
+pub mod Summed

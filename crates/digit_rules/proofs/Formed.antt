@@ -1,0 +1,100 @@
+-- The stage of rules 5 to 8 finds nothing exactly where base, alphabet and input digits are as document 01 asks; what its
+-- readers then know of indexes.
+use mathlib.Core.Path.{_≡_, refl, sym, ap₂, subst, _∙_}
+use mathlib.Core.Bool.{true}
+use mathlib.Core.List.{List}
+use mathlib.Core.Logic.{inl, inr, ⊎-elim}
+use Prim.Native.Nat.{ℕ, _+_, _<_}
+use native.Mathlib.Decide.{decLt}
+use native.Mathlib.Nat.{le-antisymm}
+use native.Mathlib.Omega.{arith}
+use borrow.Author.Tests.{not-true}
+use Rattle.lists.proofs.Test.{clash}
+use Rattle.faults.specs.Check.{none}
+use Rattle.faults.specs.Rule.{Kept, rule}
+use Rattle.faults.proofs.Check.{then-kept, judge-passed}
+use Rattle.layout_rules.specs.Section.{degree}
+use Rattle.ring.specs.Element.{zeros, plus}
+use Rattle.ring.proofs.Element.{same→≡, zeros-plus}
+use Rattle.ring.proofs.Base.{expanding-test, square-test}
+use Rattle.digit_rules.specs.Record.{recordAt, elementCount, indexIn}
+use Rattle.digit_rules.specs.Base.{discriminantAllowed, expandingBase, baseCheck}
+use Rattle.digit_rules.specs.Digits.{recordAllowed, alphabetCheck, sumIndex, inputsAllowed, inputCheck, digitCheck}
+use Rattle.digit_rules.specs.Broken.{Broken7, Broken8}
+use Rattle.digit_rules.specs.Formed.{DigitList, Formed}
+use Rattle.digit_rules.proofs.Record.{element-parts}
+use Rattle.digit_rules.proofs.Index.{index-is, index-first}
+use Rattle.digit_rules.proofs.Allowed.{after-records}
+use Rattle.digit_rules.proofs.Sums.{record-says, sum-says, sum-listed-in}
+use Rattle.digit_rules.proofs.Broken.{allowed-parts, digits-exact}
+
+digit-list : (part : List ℕ) → ((k : ℕ) → k < elementCount part → recordAllowed part k ≡ true) → DigitList part
+unfolding recordAllowed
+digit-list part allowed = record { zero-first = λ h. same→≡ _ _ (allowed 0 h); distinct = distinct }
+  where
+    apart : (i j : ℕ) → i < j → j < elementCount part → recordAt part j ≡ recordAt part i → ⊥
+    apart i j h l e = record-says part j (allowed j l) (l, inr (i, h, e))
+
+    distinct : (i j : ℕ) → i < elementCount part → j < elementCount part → recordAt part i ≡ recordAt part j → i ≡ j
+    distinct i j l m e =
+        elim (decLt i j) [
+          | yes h ↦ absurd (apart i j h m (sym e))
+          | no h ↦ elim (decLt j i) [ yes k ↦ absurd (apart j i k l e) | no k ↦ le-antisymm (omega arith) (omega arith) ]
+        ]
+
+digits-kept : (part : List ℕ) → DigitList part → Kept (rule 7 (Broken7 part))
+digits-kept part list p b =
+    ⊎-elim (λ z. z .1 (subst (λ k. recordAt part k ≡ zeros degree) (sym (z .0)) (list .zero-first (omega (arith, b .0)))))
+    (λ r. omega (arith, r .1, list .distinct p (r .0) (b .0) (omega (arith, b .0, r .1)) (r .2))) (b .1)
+
+module _ (base alphabet inputs : List ℕ) where
+  pub formed : digitCheck base alphabet inputs .number ≡ 0 → Formed base alphabet inputs
+  unfolding digitCheck baseCheck alphabetCheck inputCheck discriminantAllowed expandingBase
+  formed h =
+      let a = then-kept (baseCheck base) _ h in
+      let b = then-kept _ _ (a .0) in
+      let d = then-kept (alphabetCheck alphabet) (inputCheck alphabet inputs) (a .1) in
+      let input = judge-passed 8 (λ k. k) (inputsAllowed alphabet inputs) (elementCount inputs + 1) (omega arith) (d .1) in
+      record {
+        no-square = λ s. clash (square-test _ .1 s) (not-true _ (judge-passed 5 _ _ 1 (omega arith) (b .0) 0 (omega arith)));
+        expands = expanding-test _ _ _ _ .0 (judge-passed 6 _ _ 1 (omega arith) (b .1) 0 (omega arith));
+        alphabet-digits = digit-list alphabet (judge-passed 7 (λ k. k) (recordAllowed alphabet) (elementCount alphabet) (omega arith) (d .0));
+        input-digits = digit-list inputs (λ k l. allowed-parts alphabet inputs k l (input k (omega arith)) .0);
+        only-sums = λ k l. sum-says alphabet _ (element-parts inputs _) (allowed-parts alphabet inputs k l (input k (omega arith)) .1);
+        all-sums = sum-listed-in alphabet inputs (sym (after-records alphabet inputs (elementCount inputs) (omega arith)) ∙ input (elementCount inputs) (omega arith));
+      }
+
+  pub formed-passes : Formed base alphabet inputs → digitCheck base alphabet inputs ≡ none
+  formed-passes is = digits-exact base alphabet inputs .passed .1 (λ p b. is .no-square (b .1), (λ p b. b .1 (is .expands), (digits-kept alphabet (is .alphabet-digits), (inputs-are, tt))))
+    where
+      inputs-are : (p : ℕ) → Broken8 alphabet inputs p → ⊥
+      inputs-are p (inl b) = digits-kept inputs (is .input-digits) p b
+      inputs-are p (inr (inl b)) = b .1 (is .only-sums p (b .0))
+      inputs-are p (inr (inr b)) = b .1 .2 (is .all-sums (b .1 .0) (b .1 .1))
+
+-- the index of a digit is found
+pub index-unique : (part : List ℕ) → DigitList part → (k : ℕ) → k < elementCount part → indexIn part (elementCount part) (recordAt part k) ≡ k
+index-unique part list k l =
+    let first = index-first part (elementCount part) (recordAt part k) k refl in
+    list .distinct _ k (omega arith) l (index-is part (elementCount part) (recordAt part k) (omega arith))
+
+-- the input index of a sum is that of an input digit, and that digit is the sum
+module _ (base alphabet inputs : List ℕ) (is : Formed base alphabet inputs) where
+  module _ (i j : ℕ) (l : i < elementCount alphabet) (m : j < elementCount alphabet) where
+    pub sum-index-below : sumIndex alphabet inputs i j < elementCount inputs
+    unfolding sumIndex
+    sum-index-below =
+        let w = is .all-sums (plus (recordAt alphabet i) (recordAt alphabet j)) (i, j, l, m, refl) in
+        omega (arith, w .1, index-first inputs (elementCount inputs) (plus (recordAt alphabet i) (recordAt alphabet j)) (w .0) (w .2))
+
+    pub sum-index-is : recordAt inputs (sumIndex alphabet inputs i j) ≡ plus (recordAt alphabet i) (recordAt alphabet j)
+    unfolding sumIndex
+    sum-index-is = index-is inputs (elementCount inputs) _ sum-index-below
+
+  -- twice the digit zero is the input digit zero
+  pub sum-index-zero : 0 < elementCount alphabet → 0 < elementCount inputs → sumIndex alphabet inputs 0 0 ≡ 0
+  sum-index-zero l m =
+      is .input-digits .distinct _ 0 (sum-index-below 0 0 l l) m (sum-index-is 0 0 l l ∙ ap₂ plus zero zero ∙ zeros-plus (zeros degree) degree (omega arith) ∙ sym (is .input-digits .zero-first m))
+    where
+      zero : recordAt alphabet 0 ≡ zeros degree
+      zero = is .alphabet-digits .zero-first l

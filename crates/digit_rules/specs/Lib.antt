@@ -1,0 +1,5 @@
+pub mod Record
+pub mod Base
+pub mod Digits
+pub mod Broken
+pub mod Formed

@@ -1,0 +1,66 @@
+-- The digit edit (document 01) as a function of the table file, the edit and the three buffers.
+use mathlib.Core.List.{List}
+use Prim.Native.Nat.{ℕ, _+_}
+use lib.ListN.{length}
+use Rattle.lists.specs.Overwrite.{overwrite}
+use Rattle.faults.specs.Outcome.{Outcome, facts, refused, author, rows, editor}
+use Rattle.faults.specs.Unless.{unless}
+use Rattle.reader_rules.specs.Table.{tableCheck, tableFacts}
+use Rattle.row_rules.specs.declared.Change.{Change}
+use Rattle.row_rules.specs.Changed.{changed}
+use Rattle.row_rules.specs.Check.{rowCheck, editCheck}
+use Rattle.adder_rules.specs.Sum.{inputRow, digitCount, rowPart, digitCheck}
+use Rattle.edit_rules.specs.declared.EditedFacts.{EditedFacts}
+use Rattle.edit_rules.specs.Count.{differing}
+
+-- "both rows, the sum": the buffers that an edit is given and may write
+pub record State : Type 0 where
+  pub first : List ℕ
+  pub second : List ℕ
+  pub sum : List ℕ
+
+abbrev pub state : List ℕ → List ℕ → List ℕ → State
+state first second sum = record { first = first; second = second; sum = sum }
+
+-- how many places there are from p to p + h
+abbrev pub reach : List ℕ → ℕ
+reach file = tableFacts file .depth + 1
+
+-- the buffers at exit: what the call writes, and where it refuses the buffers as lent
+unfoldable pub leftBy : {F : Type 0} → Outcome F → State → State → State
+leftBy (facts f) lent written = written
+leftBy (refused whose number place) lent written = lent
+
+-- an edit is a row number, a place p and a new alphabet index
+module _ (file : List ℕ) (e : Change) (s : State) where
+  -- the input digits of "the new rows"
+  abbrev pub newInputs : List ℕ
+  newInputs = inputRow file (changed e 0 (s .first)) (changed e 1 (s .second))
+
+  -- "The digit is stored and sum places p to p + h become those of a whole addition of the new rows"
+  unfoldable pub newSum : List ℕ
+  newSum = overwrite (s .sum) (e .place) (rowPart file newInputs (e .place) (reach file))
+
+  abbrev pub written : State
+  written = state (changed e 0 (s .first)) (changed e 1 (s .second)) newSum
+
+  -- "the count of sum bytes in p to p + h that differ from before"
+  unfoldable pub count : ℕ
+  count = differing (s .sum) newSum (e .place) (reach file)
+
+  -- 27 over p to p + h, then the count
+  unfoldable pub renewOutcome : Outcome EditedFacts
+  renewOutcome = unless author (digitCheck file newInputs (e .place) (reach file)) (facts (record { count = count }))
+
+  unfoldable pub renewState : State
+  renewState = leftBy renewOutcome s written
+
+  -- 1 to 13, then 20 to 23, then 24 to 26, then 27
+  unfoldable pub editOutcome : Outcome EditedFacts
+  editOutcome =
+      unless author (tableCheck file)
+      (unless rows (rowCheck (s .first) (s .second) (length (s .sum)) (digitCount file) (tableFacts file .depth))
+      (unless editor (editCheck (e .row) (e .place) (e .digit) (length (s .first)) (digitCount file)) renewOutcome))
+
+  unfoldable pub editState : State
+  editState = leftBy editOutcome s written

@@ -1,0 +1,72 @@
+-- Demand 3 of document 01: what holds after every part of a list of edits, and of each edit in it.
+use mathlib.Core.Path.{_≡_}
+use mathlib.Core.Bool.{_&&_}
+use mathlib.Core.List.{List, [], _∷_}
+use mathlib.Core.Logic.{_↔_}
+use Prim.Native.Nat.{ℕ, _+_, _<_, _≤_}
+use lib.ListN.{length, getD, take}
+use lib.Dec.{ltb, leb}
+use Rattle.faults.specs.Outcome.{Group, Outcome, facts, refused, editor}
+use Rattle.calls.specs.Answers.{stage, StagesAnswer}
+use Rattle.digit_rules.specs.Record.{recordAt}
+use Rattle.numeration.specs.Changes.{Changes, storeAll}
+use Rattle.reader_rules.specs.Table.{alphabetPart, tableFacts}
+use Rattle.reader_rules.specs.Ready.{operationsOf, valueOf}
+use Rattle.row_rules.specs.declared.Change.{Change}
+use Rattle.row_rules.specs.Changed.{changed, noChange}
+use Rattle.row_rules.specs.Broken.{editRules}
+use Rattle.row_rules.specs.Fit.{EditFits}
+use Rattle.adder_rules.specs.Sum.{inputRow, digitCount, placeCount, rowDigit, rowIndex, addOutcome, addSum}
+use Rattle.edit_rules.specs.declared.EditedFacts.{EditedFacts}
+use Rattle.edit_rules.specs.Count.{differing}
+use Rattle.edit_rules.specs.Edit.{State}
+use Rattle.edit_rules.specs.Run.{run}
+
+-- two rows of n digits, their sum digits by index, and edits of them. Taken are "exactly those with row number 0 or 1, p below n and an
+-- alphabet index as the new digit"
+unfoldable pub rowEdits : List ℕ → ℕ → Changes (List ℕ × List ℕ) Change ℕ
+rowEdits file n =
+    record {
+      reach = tableFacts file .depth;
+      places = n + tableFacts file .depth;
+      digit = λ r j. rowIndex file (inputRow file (r .0) (r .1)) j;
+      alphabet = λ d. ltb d (digitCount file);
+      place = λ e. e .place;
+      taken = λ e. leb (e .row) 1 && (ltb (e .place) n && ltb (e .digit) (digitCount file));
+      store = λ e r. (changed e 0 (r .0), changed e 1 (r .1));
+    }
+
+-- after the edits es of rows and sum that an addition was given
+pub record Follows (file : List ℕ) (s : State) (es : List Change) (now : State) : Type 0 where
+  -- the rows are those of the addition with the digits of the edits taken stored in turn
+  pub rows-stored : (now .first, now .second) ≡ storeAll (rowEdits file (length (s .first))) es (s .first, s .second)
+  -- the sum's byte j is the index of z(j) for the rows as they then stand, for every j below n + h
+  pub index : (j : ℕ) → j < placeCount file (s .first) → getD (now .sum) j 0 ≡ rowIndex file (inputRow file (now .first) (now .second)) j
+  pub digit : (j : ℕ) → j < placeCount file (s .first) → recordAt (alphabetPart file) (getD (now .sum) j 0) ≡ rowDigit file (inputRow file (now .first) (now .second)) j
+  -- which is what a whole addition writes
+  pub adds : addOutcome file (now .first) (now .second) (length (s .sum)) ≡ facts (record { places = placeCount file (s .first) })
+  pub whole : now .sum ≡ addSum file (now .first) (now .second) (s .sum)
+  -- the bytes beyond are the buffer's own
+  pub further : (j : ℕ) → placeCount file (s .first) ≤ j → getD (now .sum) j 0 ≡ getD (s .sum) j 0
+  pub long : length (now .sum) ≡ length (s .sum)
+  -- the value of the sum row is the sum of the rows' values
+  pub value-is : valueOf file (take (placeCount file (s .first)) (now .sum)) ≡ operationsOf file .sum (valueOf file (now .first)) (valueOf file (now .second))
+
+-- one edit of rows of n digits: the buffers before and after it, and its answer
+pub record Step (file : List ℕ) (n : ℕ) (e : Change) (before after : State) (answer : Outcome EditedFacts) : Type 0 where
+  -- 24, 25, 26, the first that holds, and else the number of sum digits that it changed, over the whole row
+  pub answers : StagesAnswer (stage editor (editRules (e .row) (e .place) (e .digit) n (digitCount file)) ∷ []) (record { count = differing (before .sum) (after .sum) 0 (n + tableFacts file .depth) }) answer
+  -- it is taken exactly so
+  pub taken : (answer ≡ facts (record { count = differing (before .sum) (after .sum) 0 (n + tableFacts file .depth) })) ↔ EditFits (e .row) (e .place) (e .digit) n (digitCount file)
+  -- a taken edit changed nothing but its place in its row and sum places p to p + h
+  pub stored : EditFits (e .row) (e .place) (e .digit) n (digitCount file) → (after .first ≡ changed e 0 (before .first)) × (after .second ≡ changed e 1 (before .second))
+  pub elsewhere : (j : ℕ) → (e .place ≤ j → j ≤ e .place + tableFacts file .depth → ⊥) → getD (after .sum) j 0 ≡ getD (before .sum) j 0
+  pub long : length (after .sum) ≡ length (before .sum)
+  -- a refused edit changed nothing
+  pub refused-lent : (g : Group) (m p : ℕ) → answer ≡ refused g m p → after ≡ before
+
+-- the list as a whole
+pub record ListFollows (file : List ℕ) (s : State) (es : List Change) : Type 0 where
+  pub after : (k : ℕ) → k ≤ length es → Follows file s (take k es) (run file s (take k es) .buffers)
+  pub each : (k : ℕ) → k < length es → Step file (length (s .first)) (getD es k noChange) (run file s (take k es) .buffers) (run file s (take (k + 1) es) .buffers) (getD (run file s es .answers) k (facts (record { count = 0 })))
+  pub all-answered : length (run file s es .answers) ≡ length es

@@ -1,0 +1,5 @@
+pub mod Count
+pub mod Edit
+pub mod Broken
+pub mod Run
+pub mod Follows

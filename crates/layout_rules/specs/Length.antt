@@ -1,0 +1,33 @@
+-- Rule 3 of document 01: the lengths of the five sections, which need not come from a file.
+use mathlib.Core.List.{List, [], _∷_}
+use mathlib.Core.Bool.{Bool, _&&_}
+use Prim.Native.Nat.{ℕ, _*_, _%_}
+use lib.ListN.{getD}
+use lib.Dec.{leb, eqb}
+use Rattle.lists.specs.Span.{span}
+use Rattle.faults.specs.declared.Refusal.{Refusal}
+use Rattle.faults.specs.Check.{judge}
+use Rattle.layout_rules.specs.Section.{recordSize, sectionLength}
+
+-- the least and the most records of each section; the base section is two elements
+abbrev pub leastRecords : ℕ → ℕ
+leastRecords section = getD (2 ∷ 2 ∷ 1 ∷ 1 ∷ 1 ∷ []) section 0
+
+abbrev pub mostRecords : ℕ → ℕ
+mostRecords section = getD (2 ∷ 16 ∷ 136 ∷ 4000 ∷ 32000 ∷ []) section 0
+
+-- 3: a section's length isn't allowed
+unfoldable pub lengthAllowed : ℕ → ℕ → Bool
+lengthAllowed section n =
+    eqb (n % recordSize section) 0
+    && (leb (leastRecords section * recordSize section) n && leb n (mostRecords section * recordSize section))
+
+abbrev pub sectionAllowed : List ℕ → ℕ → Bool
+sectionAllowed lengths section = lengthAllowed section (getD lengths section 0)
+
+unfoldable pub lengthCheck : List ℕ → Refusal
+lengthCheck lengths = judge 3 (λ k. k) (sectionAllowed lengths) 5
+
+-- the five lengths that a file's directory names
+abbrev pub sectionLengths : List ℕ → List ℕ
+sectionLengths file = span (sectionLength file) 0 5

@@ -1,0 +1,2 @@
+pub mod Successor
+pub mod Quick

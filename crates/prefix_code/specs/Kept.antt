@@ -1,0 +1,13 @@
+-- What the quick look in front of the scans finds: no rule of 9 to 12 is broken.
+use mathlib.Core.Path.{_≡_}
+use mathlib.Core.List.{List}
+use Prim.Native.Nat.{ℕ, _<_}
+use Rattle.leaves.specs.Leaf.{leafCount}
+use Rattle.prefix_rules.specs.Check.{placeCheck, indexCheck, orderCheck, coverCheck}
+
+pub record CodeKept (leaves words : List ℕ) (m : ℕ) : Type 0 where
+  pub some : 0 < leafCount leaves
+  pub nine : placeCheck leaves words .number ≡ 0
+  pub ten : indexCheck words m .number ≡ 0
+  pub eleven : orderCheck leaves words .number ≡ 0
+  pub twelve : coverCheck leaves words m .number ≡ 0

@@ -1,0 +1,4 @@
+pub mod Coverage
+pub mod Check
+pub mod Broken
+pub mod Formed

@@ -1,0 +1,67 @@
+use mathlib.Core.Path.{_≡_, refl, sym, _∙_}
+use Prim.Native.Nat.{_-_, _≤_}
+use lib.Dec.{eqb}
+use borrow.Author.Tests.{eq-eqb, ne-eqb}
+use borrow.Author.Needs.{needs}
+use Rattle.lists.proofs.Scan.{scan-on, scan-here, scan-out}
+use Rattle.lists.specs.Scan.{firstFailing}
+use Rattle.prefix_rules.specs.Coverage.{runEnd}
+use Rattle.leaves.specs.Leaf.{codeOf}
+use Rattle.prefix_rules.proofs.Coverage.{digit-read}
+use Rattle.prefix_scan.proofs.run_end.Statement.{statement}
+use Rattle.prefix_scan.proofs.run_end.Tie as tie
+
+abbrev Inv-loop : tie.InvT-loop
+Inv-loop leaves words place digit low high leaf₀ leaf = (low ≤ leaf) × (firstFailing (λ k. eqb (codeOf leaves words .digit k place) digit) leaf (high - leaf) ≡ firstFailing (λ k. eqb (codeOf leaves words .digit k place) digit) low (high - low))
+
+abbrev μ-loop : tie.MeasureT-loop
+μ-loop leaves words place digit low high leaf₀ leaf = high - leaf
+
+loop-holds : tie.Need-loop-holds Inv-loop μ-loop
+loop-holds c = (search needs, refl)
+
+word-start-requires : tie.Need-word-start-requires Inv-loop μ-loop
+word-start-requires c κs = search needs
+
+add-byte-at : tie.Need-add-byte-at Inv-loop μ-loop
+add-byte-at c = search needs
+
+byte-at-requires : tie.Need-byte-at-requires Inv-loop μ-loop
+byte-at-requires c κs = search needs
+
+wide-requires : tie.Need-wide-requires Inv-loop μ-loop
+wide-requires c κs = search needs
+
+returns : tie.Need-returns Inv-loop μ-loop
+unfolding runEnd
+returns c = sym (scan-here _ _ (c .before .before .before .before .before .before .before .before .args .high) (c .before .before .before .before .loop-test .taken) (ne-eqb _ _ (λ q. c .if1 .taken (c .before .wide .ensures ∙ digit-read (c .before .before .before .before .before .before .before .before .args .leaves .now) (c .before .before .before .before .before .before .before .before .args .words .now) (c .before .before .before .before .before .loop .leaf) (c .before .before .before .before .before .before .before .before .args .place) _ _ (c .before .before .before .word-start .ensures .0) (c .before .before .byte-at .ensures) ∙ q)))) ∙ c .before .before .before .before .before .loop .inv .1
+
+add-leaf : tie.Need-add-leaf Inv-loop μ-loop
+add-leaf c = search needs
+
+loop-less : tie.Need-loop-less Inv-loop μ-loop
+loop-less c = search needs
+
+loop-again : tie.Need-loop-again Inv-loop μ-loop
+loop-again c = (search needs, sym (scan-on _ _ (c .before .before .before .before .before .before .before .before .args .high) (c .before .before .before .before .loop-test .taken) (eq-eqb _ _ (sym (c .before .wide .ensures ∙ digit-read (c .before .before .before .before .before .before .before .before .args .leaves .now) (c .before .before .before .before .before .before .before .before .args .words .now) (c .before .before .before .before .before .loop .leaf) (c .before .before .before .before .before .before .before .before .args .place) _ _ (c .before .before .before .word-start .ensures .0) (c .before .before .byte-at .ensures)) ∙ c .if1 .left))) ∙ c .before .before .before .before .before .loop .inv .1)
+
+returns-2 : tie.Need-returns-2 Inv-loop μ-loop
+unfolding runEnd
+returns-2 c = sym (scan-out _ _ (c .before .before .before .before .args .high) (c .loop-test .left)) ∙ c .before .loop .inv .1
+
+pub run-end-spec : {M : Type 1} → statement M
+run-end-spec =
+    tie.close
+    (tie.spec
+    Inv-loop
+    μ-loop
+    loop-holds
+    word-start-requires
+    add-byte-at
+    byte-at-requires
+    wide-requires
+    returns
+    add-leaf
+    loop-less
+    loop-again
+    returns-2)

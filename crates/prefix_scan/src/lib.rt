@@ -1,0 +1,240 @@
+// Rules 9 to 13 of document 01, each by a scan that names the place. Sections 3 and 4 come as two parts, of a file or not.
+ghost use mathlib.Core.Path.{_≡_};
+ghost use Prim.Native.Nat.{_+_, _-_, _≤_, _<_};
+ghost use mathlib.Core.Bool.{true};
+ghost use lib.ListN.{length};
+ghost use Rattle.numeration.specs.Code as code;
+ghost use Rattle.leaves.specs.Leaf.{leafCount, codeOf};
+ghost use Rattle.prefix_rules.specs.Coverage as coverage;
+ghost use Rattle.prefix_rules.specs.Check.{expectedStart, leafAllowed, placeCheck, indexCheck, orderCheck, coverCheck, zeroCheck, leafCheck};
+use faults::Refusal;
+
+// The most digits of a word.
+const LONGEST: usize = 8;
+
+// Where a leaf's word must start: at 0, or where the one before ends.
+fn expected_start(leaves: &[u8], leaf: usize) -> usize
+    requires { ⌜ leaf < leafCount (now leaves) ⌝ }
+    ensures { λ r. ⌜ r ≡ expectedStart (now (leaves .entry)) leaf ⌝ }
+{
+    if leaf == 0 {
+        0
+    } else {
+        leaves::word_start(leaves, leaf - 1) + leaves::word_length(leaves, leaf - 1)
+    }
+}
+
+// Rule 9 at a leaf, with the length of section 4.
+fn leaf_allowed(leaves: &[u8], all: usize, leaf: usize) -> bool
+    requires { ⌜ leaf < leafCount (now leaves) ⌝ }
+    ensures { λ r. ⌜ r ≡ leafAllowed (now (leaves .entry)) all leaf ⌝ }
+{
+    let start = leaves::word_start(leaves, leaf);
+    let length = leaves::word_length(leaves, leaf);
+    if length < 1 {
+        return false;
+    }
+    if LONGEST < length {
+        return false;
+    }
+    if start != expected_start(leaves, leaf) {
+        return false;
+    }
+    if all < start + length {
+        return false;
+    }
+    if leaf + 1 < leaves::leaf_count(leaves) {
+        return true;
+    }
+    start + length == all
+}
+
+// Rule 9: the words lie one after the other.
+fn places(leaves: &[u8], words: &[u8]) -> Refusal
+    ensures { λ r. ⌜ r ≡ placeCheck (now (leaves .entry)) (now (words .entry)) ⌝ }
+{
+    let count = leaves::leaf_count(leaves);
+    let mut leaf = 0;
+    while leaf < count {
+        if !leaf_allowed(leaves, words.len(), leaf) {
+            return Refusal {
+                number: 9,
+                place: leaf,
+            };
+        }
+        leaf += 1;
+    }
+    Refusal {
+        number: 0,
+        place: 0,
+    }
+}
+
+// Rule 10: every word byte is an input index.
+fn indexes(words: &[u8], inputs: usize) -> Refusal
+    ensures { λ r. ⌜ r ≡ indexCheck (now (words .entry)) inputs ⌝ }
+{
+    let mut i = 0;
+    while i < words.len() {
+        if inputs <= leaves::wide(words[i]) {
+            return Refusal {
+                number: 10,
+                place: i,
+            };
+        }
+        i += 1;
+    }
+    Refusal {
+        number: 0,
+        place: 0,
+    }
+}
+
+// Rule 11 at a leaf and the next one: the later word is above, and neither begins the other.
+fn precedes(leaves: &[u8], words: &[u8], leaf: usize) -> bool
+    requires { ⌜ leaf + 1 < leafCount (now leaves) ⌝ }
+    ensures { λ r. ⌜ r ≡ code.precedes (codeOf (now (leaves .entry)) (now (words .entry))) leaf (leaf + 1) ⌝ }
+{
+    let a = leaves::word_start(leaves, leaf);
+    let b = leaves::word_start(leaves, leaf + 1);
+    let n = leaves::least(
+        leaves::word_length(leaves, leaf),
+        leaves::word_length(leaves, leaf + 1),
+    );
+    leaves::lower(words, a, words, b, n)
+}
+
+// Rule 11: the words rise, and none begins another.
+fn order(leaves: &[u8], words: &[u8]) -> Refusal
+    ensures { λ r. ⌜ r ≡ orderCheck (now (leaves .entry)) (now (words .entry)) ⌝ }
+{
+    let count = leaves::leaf_count(leaves);
+    let mut leaf = 0;
+    while leaf + 1 < count {
+        if !precedes(leaves, words, leaf) {
+            return Refusal {
+                number: 11,
+                place: leaf + 1,
+            };
+        }
+        leaf += 1;
+    }
+    Refusal {
+        number: 0,
+        place: 0,
+    }
+}
+
+// Of the leaves from low up to high, the first whose digit at a place isn't this one.
+fn run_end(
+    leaves: &[u8],
+    words: &[u8],
+    place: usize,
+    digit: usize,
+    low: usize,
+    high: usize,
+) -> usize
+    requires { ⌜ (place ≤ 8) × (low ≤ high) × (high ≤ leafCount (now leaves)) ⌝ }
+    ensures { λ r. ⌜ r ≡ coverage.runEnd (codeOf (now (leaves .entry)) (now (words .entry))) place digit low high ⌝ }
+{
+    let mut leaf = low;
+    while leaf < high {
+        if leaves::wide(leaves::byte_at(words, leaves::word_start(leaves, leaf) + place)) != digit {
+            return leaf;
+        }
+        leaf += 1;
+    }
+    leaf
+}
+
+// Rule 12 among the leaves from low up to high, which share their first digits: strings without a leaf are looked for one digit
+// deeper at a time, with so many digits left of eight.
+fn covered(leaves: &[u8], words: &[u8], inputs: usize, left: usize, low: usize, high: usize) -> bool
+    requires { ⌜ (left ≤ 8) × (high ≤ leafCount (now leaves)) ⌝ }
+    ensures { λ r. ⌜ r ≡ coverage.covered (codeOf (now (leaves .entry)) (now (words .entry))) inputs left (8 - left) low high ⌝ }
+{
+    let place = LONGEST - left;
+    if high <= low {
+        return false;
+    }
+    if leaves::word_length(leaves, low) <= place {
+        return true;
+    }
+    if left == 0 {
+        return false;
+    }
+    let mut from = low;
+    let mut digit = 0;
+    while digit < inputs {
+        let end = run_end(leaves, words, place, digit, from, high);
+        if !covered(leaves, words, inputs, left - 1, from, end) {
+            return false;
+        }
+        from = end;
+        digit += 1;
+    }
+    true
+}
+
+// Rule 12: every string of eight begins with a leaf.
+fn cover(leaves: &[u8], words: &[u8], inputs: usize) -> Refusal
+    ensures { λ r. ⌜ r ≡ coverCheck (now (leaves .entry)) (now (words .entry)) inputs ⌝ }
+{
+    if covered(
+        leaves,
+        words,
+        inputs,
+        LONGEST,
+        0,
+        leaves::leaf_count(leaves),
+    ) {
+        return Refusal {
+            number: 0,
+            place: 0,
+        };
+    }
+    Refusal {
+        number: 12,
+        place: 0,
+    }
+}
+
+// Rule 13: leaf 0 has the weight zero.
+pub fn zero_weight(leaves: &[u8]) -> Refusal
+    requires { ⌜ 0 < leafCount (now leaves) ⌝ }
+    ensures { λ r. ⌜ r ≡ zeroCheck (now (leaves .entry)) ⌝ }
+{
+    if ring::equal(digits::element(leaves, 4), [0, 0]) {
+        return Refusal {
+            number: 0,
+            place: 0,
+        };
+    }
+    Refusal {
+        number: 13,
+        place: 0,
+    }
+}
+
+// Rules 9 to 13, each by a scan that names the place.
+pub fn first_broken(leaves: &[u8], words: &[u8], inputs: usize) -> Refusal
+    ensures { λ r. ⌜ r ≡ leafCheck (now (leaves .entry)) (now (words .entry)) inputs ⌝ }
+{
+    let nine = places(leaves, words);
+    if nine.number != 0 {
+        return nine;
+    }
+    let ten = indexes(words, inputs);
+    if ten.number != 0 {
+        return ten;
+    }
+    let eleven = order(leaves, words);
+    if eleven.number != 0 {
+        return eleven;
+    }
+    let twelve = cover(leaves, words, inputs);
+    if twelve.number != 0 {
+        return twelve;
+    }
+    zero_weight(leaves)
+}

@@ -1,0 +1,64 @@
+-- Demand 1 for the reader: it finds the first broken rule of 1 to 13, as the plain statements have it, and nothing else.
+use mathlib.Core.Path.{_≡_}
+use mathlib.Core.List.{List, [], _∷_}
+use mathlib.Core.Logic.{inl, inr}
+use Prim.Native.Nat.{ℕ, _<_, _≤_}
+use native.Mathlib.Omega.{arith}
+use Rattle.faults.specs.Outcome.{Group, author, refused}
+use Rattle.faults.specs.Rule.{Rule, AllKept, FirstBroken, Exact}
+use Rattle.faults.specs.Unless.{Answers}
+use Rattle.faults.proofs.Rule.{Decided, exact, then-decided}
+use Rattle.faults.proofs.Unless.{unless-answers}
+use Rattle.layout_rules.proofs.Passed.{whole-records}
+use Rattle.layout_rules.proofs.Broken.{layout-decided}
+use Rattle.digit_rules.specs.Record.{elementCount}
+use Rattle.digit_rules.proofs.Broken.{digits-decided}
+use Rattle.prefix_rules.proofs.Broken.{leaves-decided}
+use Rattle.reader_rules.specs.Table.{basePart, alphabetPart, inputPart, leafPart, wordPart, layoutCheck, digitsOf, leavesOf, tableCheck, tableFacts, readOutcome}
+use Rattle.reader_rules.specs.Broken.{layoutRules, tableRules}
+use Rattle.reader_rules.proofs.Kept.{no-number, layout-kept}
+
+-- a file that passes rules 1 to 4 has an input digit
+pub some-input : (file : List ℕ) → layoutCheck file .number ≡ 0 → 0 < elementCount (inputPart file)
+some-input file h = let kept = layout-kept file h in whole-records file (kept .0) (kept .1) 2 (omega arith) .least
+
+-- Rules 1 to 4
+pub layout-found : (file : List ℕ) → Decided (layoutRules file) (layoutCheck file)
+unfolding layoutCheck
+layout-found file = layout-decided file
+
+pub table-decided : (file : List ℕ) → Decided (tableRules file) (tableCheck file)
+unfolding tableCheck digitsOf leavesOf
+table-decided file =
+    then-decided _ _ _ _ (layout-found file)
+    (λ kept. then-decided _ _ _ _ (digits-decided (basePart file) (alphabetPart file) (inputPart file))
+    (λ _. leaves-decided (leafPart file) (wordPart file) (elementCount (inputPart file)) (input kept)))
+  where
+    input : AllKept (layoutRules file) → 0 < elementCount (inputPart file)
+    input kept = some-input file (no-number _ (exact _ _ (layout-found file) .passed .1 kept))
+
+-- Rules 1 to 13, in their order
+pub table-exact : (file : List ℕ) → Exact (tableRules file) (tableCheck file)
+table-exact file = exact _ _ (table-decided file)
+
+-- Demand 1 for the reader's outcome, for every list of bytes
+pub reader-exact : (file : List ℕ) → Answers author (tableRules file) (tableFacts file) (readOutcome file)
+unfolding readOutcome
+reader-exact file = unless-answers author (tableRules file) (tableCheck file) (tableFacts file) (table-decided file)
+
+-- the number of a broken rule is that of a rule of the list
+abbrev Numbers : (ℕ → Type 0) → List Rule → Type 0
+Numbers P [] = Unit
+Numbers P (r ∷ rest) = P (r .number) × Numbers P rest
+
+number-of : (P : ℕ → Type 0) (rules : List Rule) → Numbers P rules → (n p : ℕ) → FirstBroken rules n p → P n
+number-of P [] all n p f = absurd f
+number-of P (r ∷ rest) all n p (inl f) = rw (f .0) (all .0)
+number-of P (r ∷ rest) all n p (inr f) = number-of P rest (all .1) n p (f .1)
+
+-- The reader refuses in the author's name only, and with 1 to 13
+pub reader-numbers : (file : List ℕ) (whose : Group) (n p : ℕ) → readOutcome file ≡ refused whose n p → (whose ≡ author) × (1 ≤ n) × (n ≤ 13)
+reader-numbers file whose n p e =
+    let (own, some) = reader-exact file .only-group whose n p e in
+    let first : FirstBroken (tableRules file) n p = reader-exact file .first n p some .0 (rw (← own) e) in
+    (own, some, number-of (λ n. n ≤ 13) (tableRules file) (omega arith) n p first)

@@ -1,0 +1,72 @@
+-- The table of the bytes: what addition, edit, value and check go by on a file that is well formed.
+use mathlib.Core.Path.{_≡_}
+use mathlib.Core.List.{List, map}
+use Prim.Native.Nat.{ℕ, _-_, _<_, _≤_}
+use lib.ListN.{length, take, drop}
+use lib.IntN.{ℤ}
+use Rattle.layout_rules.specs.Section.{degree}
+use Rattle.ring.specs.Element.{zeros}
+use Rattle.digit_rules.specs.Record.{recordAt, elementCount}
+use Rattle.digit_rules.specs.Base.{BasePart, baseMatrix}
+use Rattle.numeration.specs.Group.{Operations, Group}
+use Rattle.numeration.specs.Elements.{elements, HasParts}
+use Rattle.numeration.specs.Code.{Code, Agree, Inputs, OrderedCode, PrefixCode, leafOf}
+use Rattle.numeration.specs.Conversion.{InGroup}
+use Rattle.numeration.specs.Value.{value}
+use Rattle.leaves.specs.Leaf.{leafCount, wordLength, weightOf, codeOf}
+use Rattle.leaves.specs.Window.{digits, LookedUp}
+use Rattle.reader_rules.specs.declared.Part.{Part}
+use Rattle.reader_rules.specs.Table.{basePart, alphabetPart, inputPart, leafPart, wordPart, tableFacts}
+
+-- the elements with multiplication by the file's base, its count of input digits, and its leaves
+abbrev pub operationsOf : List ℕ → Operations (List ℤ)
+operationsOf file = elements degree (baseMatrix (basePart file))
+
+abbrev pub inputCount : List ℕ → ℕ
+inputCount file = elementCount (inputPart file)
+
+abbrev pub leavesIn : List ℕ → Code (List ℤ)
+leavesIn file = codeOf (leafPart file) (wordPart file)
+
+-- "The value of a row is the sum of its digits, each times β to the power of its place"
+abbrev pub valueOf : List ℕ → List ℕ → List ℤ
+valueOf file row = value (operationsOf file) (map (recordAt (alphabetPart file)) row)
+
+-- where a section lies in the file: its bytes, and its count of records
+pub record Lies (file : List ℕ) (fact : Part) (bytes : List ℕ) (count : ℕ) : Type 0 where
+  pub in-order : fact .start ≤ fact .end
+  pub inside : fact .end ≤ length file
+  pub handed-on : take (fact .end - fact .start) (drop (fact .start) file) ≡ bytes
+  pub counts : fact .count ≡ count
+
+pub record Ready (file : List ℕ) : Type 0 where
+  -- what the numeration laws ask: a complete prefix code, its words of 1 to 8 input digits each above the previous one, over a
+  -- group with an additive map
+  pub code : PrefixCode (leavesIn file) (inputCount file)
+  pub ordered-code : OrderedCode (leavesIn file) 8 (inputCount file)
+  pub group : Group (operationsOf file) (HasParts degree)
+  pub in-group : InGroup (operationsOf file) (HasParts degree) (recordAt (inputPart file)) (leavesIn file)
+  -- "Record 0 of sections 1 and 2 is the digit zero", "Leaf 0 has the weight zero"
+  pub alphabet-zero : recordAt (alphabetPart file) 0 ≡ zeros degree
+  pub input-zero : recordAt (inputPart file) 0 ≡ zeros degree
+  pub weight-zero : weightOf (leafPart file) 0 ≡ zeros degree
+  -- "The depth h is the longest word length": some leaf has it and none is longer; it is 1 to 8
+  pub deepest : (k : ℕ) × (k < leafCount (leafPart file)) × (wordLength (leafPart file) k ≡ tableFacts file .depth)
+  pub none-deeper : (k : ℕ) → k < leafCount (leafPart file) → wordLength (leafPart file) k ≤ tableFacts file .depth
+  pub depth-low : 1 ≤ tableFacts file .depth
+  pub depth-high : tableFacts file .depth ≤ 8
+  -- where the facts say that the sections lie
+  pub base-lies : Lies file (tableFacts file .base) (basePart file) 2
+  pub alphabet-lies : Lies file (tableFacts file .alphabet) (alphabetPart file) (elementCount (alphabetPart file))
+  pub input-lies : Lies file (tableFacts file .inputs) (inputPart file) (inputCount file)
+  pub leaf-lies : Lies file (tableFacts file .leaves) (leafPart file) (leafCount (leafPart file))
+  pub word-lies : Lies file (tableFacts file .words) (wordPart file) (length (wordPart file))
+  -- "2 to 16 records", "1 to 136 records", "1 to 4,000 records"
+  pub alphabet-count : (2 ≤ elementCount (alphabetPart file)) × (elementCount (alphabetPart file) ≤ 16)
+  pub input-count : (1 ≤ inputCount file) × (inputCount file ≤ 136)
+  pub leaf-count : (1 ≤ leafCount (leafPart file)) × (leafCount (leafPart file) ≤ 4000)
+  -- the base section as its readers ask for it
+  pub base : BasePart (basePart file)
+  -- the look-up's answer on a window of input indexes is the one leaf of every string that starts so
+  pub look-up : (window : List ℕ) (r : ℕ) → Inputs (inputCount file) window → LookedUp (leavesIn file) window r → (w : ℕ → ℕ) → Agree (digits window) w 8
+      → (r < leafCount (leafPart file)) × (r ≡ leafOf (leavesIn file) w)

@@ -1,0 +1,26 @@
+-- The check of a table file: rules 1 to 14, and its facts ("Who sends a fault" of document 01).
+use mathlib.Core.List.{List}
+use Prim.Native.Nat.{ℕ}
+use Rattle.faults.specs.declared.Refusal.{Refusal}
+use Rattle.faults.specs.Outcome.{Outcome, facts, author}
+use Rattle.faults.specs.Unless.{unless}
+use Rattle.reader_rules.specs.Table.{basePart, alphabetPart, inputPart, leafPart, wordPart, tableCheck, tableFacts}
+use Rattle.table_rules.specs.declared.Facts.{Facts}
+use Rattle.table_rules.specs.Pairs.{pairCheck}
+
+-- rule 14 of a file
+unfoldable pub pairsOf : List ℕ → Refusal
+pairsOf file = pairCheck (basePart file) (alphabetPart file) (inputPart file) (leafPart file) (wordPart file)
+
+-- h, leaf count and alphabet size
+unfoldable pub checkFacts : List ℕ → Facts
+checkFacts file =
+    record {
+      depth = tableFacts file .depth;
+      leaves = tableFacts file .leaves .count;
+      digits = tableFacts file .alphabet .count;
+    }
+
+-- for every list of bytes: refused by 1 to 13, refused by 14, or accepted
+unfoldable pub checkOutcome : List ℕ → Outcome Facts
+checkOutcome file = unless author (tableCheck file) (unless author (pairsOf file) (facts (checkFacts file)))

@@ -1,0 +1,14 @@
+// No function: the check of a table as a definition, with demands 1 and 2 as theorems.
+
+// The facts of the check: depth, leaf count and alphabet size.
+pub struct Facts {
+    pub depth: usize,
+    pub leaves: usize,
+    pub digits: usize,
+}
+
+// Two leaves, upper and lower.
+pub struct Pair {
+    pub upper: usize,
+    pub lower: usize,
+}
