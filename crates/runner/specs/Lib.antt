@@ -1,3 +1,1 @@
 pub mod Answer
-pub mod Told
-pub mod Run

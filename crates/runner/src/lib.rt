@@ -7,30 +7,19 @@ ghost use Rattle.edit_rules.specs.Edit.{state};
 ghost use Rattle.edit_rules.specs.Run.{editAll, editAnswers};
 ghost use Rattle.edits.specs.Answer.{outcomeOf as editedAs};
 ghost use Rattle.adder_rules.specs.Sum.{atExit, addSum};
-ghost use Rattle.runner.specs.Told.{toldOf, groupsOf, numbersOf, valuesOf};
-ghost use Rattle.runner.specs.Run.{editList, askedEdits, runOutcome, runAll};
+ghost use Rattle.runner_rules.specs.Told.{toldOf, groupsOf, numbersOf, valuesOf};
+ghost use Rattle.runner_rules.specs.Run.{editList, askedEdits, runOutcome, runAll};
 ghost use Rattle.runner.specs.Answer.{outcomeOf};
 use adder::Added;
 use edits::Edited;
 use faults::Fault;
+use runner_rules::RanFacts;
+use runner_rules::Told;
 use table::Checked;
-
-// The facts of a run: how many edits were called.
-pub struct RanFacts {
-    pub edits: usize,
-}
 
 pub enum Ran {
     Edits(RanFacts),
     Refused(Fault),
-}
-
-// The answer of an edit in three numbers: whose (0 facts, 1 author, 2 rows, 3 editor), the fault's number (0 of facts), its place or
-// the count.
-struct Told {
-    whose: usize,
-    number: usize,
-    value: usize,
 }
 
 fn told_of(answer: Edited) -> Told

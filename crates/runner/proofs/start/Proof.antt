@@ -1,5 +1,5 @@
 -- The check's fault, or the addition's, or the number of edits.
-use Rattle.runner.proofs.Outcome.{check-refused, add-refused, both-passed}
+use Rattle.runner_rules.proofs.Outcome.{check-refused, add-refused, both-passed}
 use Rattle.edit_rules.specs.Edit.{state}
 use Rattle.adder_rules.proofs.Sum.{sum-lent}
 use Rattle.adder_rules.specs.Sum.{atExit}

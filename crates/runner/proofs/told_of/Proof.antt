@@ -1,5 +1,5 @@
 -- Each case of an edit's answer.
-use Rattle.runner.specs.Told.{toldOf}
+use Rattle.runner_rules.specs.Told.{toldOf}
 use Rattle.edits.specs.Answer.{outcomeOf}
 use Rattle.edits.specs.declared.Edited.the-variants.{Refused}
 use Rattle.edits.specs.declared.Edited.{Edited}

@@ -10,7 +10,7 @@ use Rattle.table_rules.specs.Check.{checkOutcome}
 use Rattle.adder_rules.specs.Sum.{addOutcome}
 use Rattle.edit_rules.specs.Edit.{State}
 use Rattle.edit_rules.specs.Run.{Ran, run}
-use Rattle.runner.specs.declared.RanFacts.{RanFacts}
+use Rattle.runner_rules.specs.declared.RanFacts.{RanFacts}
 
 -- the edits that three slices list: "a row number (0 first, 1 second), a place p and a new alphabet index"
 module _ (rows places digits : List ℕ) where
