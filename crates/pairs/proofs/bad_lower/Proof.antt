@@ -23,8 +23,8 @@ use Rattle.prefix_rules.specs.Formed.{Formed}
 use Rattle.prefix_rules.proofs.Formed.{formed}
 use Rattle.table_rules.specs.Pairs.{inAlphabet, upperPart}
 use Rattle.table_rules.proofs.Fitting.{first-input, lowest-found, fit-is, pair-is, upto-lowest, ends-unfit, ends-all, ends-bad}
-use Rattle.table.proofs.bad_lower.Statement.{statement}
-use Rattle.table.proofs.bad_lower.Tie as tie
+use Rattle.pairs.proofs.bad_lower.Statement.{statement}
+use Rattle.pairs.proofs.bad_lower.Tie as tie
 
 abbrev Inv-loop : tie.InvT-loop
 Inv-loop alphabet known slots inputs leaves words upper guess count top part lower₀ lower =

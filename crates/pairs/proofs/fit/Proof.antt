@@ -7,8 +7,8 @@ use lib.ListN.{length, getD}
 use borrow.Author.Count.{below-more}
 use Rattle.numeration.specs.Code.{agree}
 use Rattle.numeration.proofs.Agreement.{agree-sound, agree-complete}
-use Rattle.table.proofs.fit.Statement.{statement}
-use Rattle.table.proofs.fit.Tie as tie
+use Rattle.pairs.proofs.fit.Statement.{statement}
+use Rattle.pairs.proofs.fit.Tie as tie
 
 abbrev Inv-loop : tie.InvT-loop
 Inv-loop upper lower i₀ i = (i ≤ length lower) × ((k : ℕ) → k < i → getD upper (k + 1) 0 ≡ getD lower k 0)

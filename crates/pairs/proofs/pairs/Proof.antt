@@ -3,8 +3,8 @@ use Rattle.table_rules.proofs.Bad.{pairs-broken, pairs-kept}
 use Prim.Native.Nat.{ℕ, _<_, _≤_}
 use mathlib.Core.Path.{_≡_, sym, subst}
 use borrow.Author.Needs.{needs}
-use Rattle.table.proofs.pairs.Statement.{statement}
-use Rattle.table.proofs.pairs.Tie as tie
+use Rattle.pairs.proofs.pairs.Statement.{statement}
+use Rattle.pairs.proofs.pairs.Tie as tie
 
 bad-pair-requires : tie.Need-bad-pair-requires
 bad-pair-requires c κs = search needs

@@ -1,8 +1,8 @@
 use Rattle.lists.specs.Span.{span}
 use mathlib.Core.List.{[], _∷_}
 use borrow.Author.Needs.{needs}
-use Rattle.table.proofs.tail_window.Statement.{statement}
-use Rattle.table.proofs.tail_window.Tie as tie
+use Rattle.pairs.proofs.tail_window.Statement.{statement}
+use Rattle.pairs.proofs.tail_window.Tie as tie
 
 byte-at-requires : tie.Need-byte-at-requires
 byte-at-requires c κs = search needs

@@ -15,8 +15,8 @@ use Rattle.numeration.specs.Pairs.{pairPasses}
 use Rattle.leaves.specs.Leaf.{leafCount, codeOf}
 use Rattle.table_rules.specs.Pairs.{inAlphabet, badLower}
 use Rattle.table_rules.proofs.Bad.{UppersPass, upper-passes, pair-found, pair-none}
-use Rattle.table.proofs.bad_pair.Statement.{statement}
-use Rattle.table.proofs.bad_pair.Tie as tie
+use Rattle.pairs.proofs.bad_pair.Statement.{statement}
+use Rattle.pairs.proofs.bad_pair.Tie as tie
 
 abbrev Inv-loop : tie.InvT-loop
 Inv-loop base alphabet inputs leaves words matrix slots known count guess₀ upper₀ guess upper = UppersPass base alphabet inputs leaves words upper
