@@ -12,7 +12,7 @@ ghost use Rattle.midpoint.specs.Midpoint.{parts, midpointOf};
 ghost use Rattle.table_rules.specs.Check.{checkOutcome};
 ghost use Rattle.adder_rules.specs.Sum.{addOutcome, addSum};
 ghost use Rattle.edit_rules.specs.Edit.{state, editOutcome, editState};
-ghost use Rattle.valued.specs.Value.{valueOutcome};
+ghost use Rattle.valued_rules.specs.Value.{valueOutcome};
 ghost use Rattle.carried.specs.Tables.{ternFile, binFile};
 ghost use Rattle.adder_c.specs.Word.{wordOf};
 ghost use Rattle.adder_c.specs.Answer.{faultWords, ifRoom, returned, answered, checkWords, addWords, editWords, elementWords};

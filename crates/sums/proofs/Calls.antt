@@ -13,8 +13,8 @@ use Rattle.adder_rules.specs.Sum.{placeCount, addOutcome}
 use Rattle.edit_rules.specs.Edit.{State}
 use Rattle.edit_rules.specs.Run.{run}
 use Rattle.edit_rules.proofs.Follows.{demand-3}
-use Rattle.valued.specs.Value.{valueOutcome}
-use Rattle.valued.proofs.Demand.{element-is-value}
+use Rattle.valued_rules.specs.Value.{valueOutcome}
+use Rattle.valued_rules.proofs.Demand.{element-is-value}
 
 -- After a fresh addition with an accepted table and every part of any list of edits.
 pub value-of-sum : (file : List ℕ) → checkOutcome file ≡ facts (checkFacts file) → (s : State) (f : AddedFacts)

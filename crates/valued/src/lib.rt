@@ -2,9 +2,10 @@
 ghost use mathlib.Core.Path.{_≡_};
 ghost use Rattle.digit_rules.specs.Base.{BasePart, baseMatrix};
 ghost use Rattle.digit_rules.specs.Record.{elementCount};
-ghost use Rattle.worth.specs.Total.{Indexed, worthOf};
+ghost use Rattle.worth_rules.specs.Total.{Indexed, worthOf};
 ghost use Rattle.reader_rules.specs.Table.{alphabetPart, tableCheck};
-ghost use Rattle.valued.specs.Value.{valuedAs, rowOutcome, valueOutcome};
+ghost use Rattle.valued_rules.specs.Value.{rowOutcome, valueOutcome};
+ghost use Rattle.valued.specs.Answer.{valuedAs};
 use faults::Fault;
 use midpoint::Element;
 use reader_rules::Reading;

@@ -1,2 +1,1 @@
-pub mod Total
-pub mod Broken
+pub mod Answer

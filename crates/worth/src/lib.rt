@@ -7,7 +7,8 @@ ghost use lib.Dec.{leb};
 ghost use Rattle.ring.specs.Element.{Within};
 ghost use Rattle.ring.specs.Matrix.{RowsWithin};
 ghost use Rattle.midpoint.specs.Midpoint.{parts};
-ghost use Rattle.worth.specs.Total.{largest, limited, Indexed, digitAt, outcomeOf, worthOf};
+ghost use Rattle.worth_rules.specs.Total.{largest, limited, Indexed, digitAt, worthOf};
+ghost use Rattle.worth.specs.Answer.{outcomeOf};
 use midpoint::Element;
 
 // The value, or the place of the digit with which a part passed its limit.

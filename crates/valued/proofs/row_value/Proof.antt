@@ -10,8 +10,8 @@ use Rattle.reader_rules.proofs.Kept.{stage-nothing, layout-kept, table-kept, se
 use Rattle.reader_rules.specs.Table.{alphabetPart}
 use Rattle.row_rules.proofs.Fit.{row-fits}
 use Rattle.row_rules.specs.Check.{oneRowCheck}
-use Rattle.worth.specs.Total.{Indexed, worthOf}
-use Rattle.valued.specs.Value.{rowOutcome}
+use Rattle.worth_rules.specs.Total.{Indexed, worthOf}
+use Rattle.valued_rules.specs.Value.{rowOutcome}
 use borrow.Author.Needs.{needs}
 use Rattle.valued.proofs.row_value.Statement.{statement}
 use Rattle.valued.proofs.row_value.Tie as tie

@@ -3,7 +3,8 @@ use mathlib.Core.Path.{sym, ap, subst, _∙_}
 use Prim.Native.Nat.{_^_}
 use Rattle.ring.specs.Matrix.{RowsWithin}
 use Rattle.digit_rules.proofs.Base.{base-within}
-use Rattle.worth.specs.Total.{outcomeOf, worthOf}
+use Rattle.worth_rules.specs.Total.{worthOf}
+use Rattle.worth.specs.Answer.{outcomeOf}
 use borrow.Author.Needs.{needs}
 use Rattle.valued.proofs.total.Statement.{statement}
 use Rattle.valued.proofs.total.Tie as tie

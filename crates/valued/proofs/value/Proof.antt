@@ -7,7 +7,7 @@ use Rattle.faults.specs.Outcome.{author, whose, numberOf, placeOf}
 use Rattle.reader_rules.proofs.Answer.{read-facts, read-fault}
 use Rattle.reader_rules.specs.Table.{readAs, tableCheck, tableFacts, partFacts}
 use Rattle.reader_rules.specs.declared.Table.{Table}
-use Rattle.valued.specs.Value.{rowOutcome, valueOutcome}
+use Rattle.valued_rules.specs.Value.{rowOutcome, valueOutcome}
 use borrow.Author.Needs.{needs}
 use Rattle.valued.proofs.value.Statement.{statement}
 use Rattle.valued.proofs.value.Tie as tie

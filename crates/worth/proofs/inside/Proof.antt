@@ -1,7 +1,7 @@
 -- A test below and a test above.
 use mir.Syntax.{w64}
 use mir.ValLaws.{toZ-ofZ}
-use Rattle.worth.proofs.Limit.{too-low, not-too-low}
+use Rattle.worth_rules.proofs.Limit.{too-low, not-too-low}
 use Rattle.worth.proofs.inside.Statement.{statement}
 use Rattle.worth.proofs.inside.Tie as tie
 

@@ -8,8 +8,8 @@ use mir.Syntax.{w64}
 use mir.ValLaws.{toZ-ofZ}
 use borrow.Author.Needs.{needs}
 use Rattle.ring.specs.Element.{part}
-use Rattle.worth.specs.Total.{largest}
-use Rattle.worth.proofs.Limit.{limited-two}
+use Rattle.worth_rules.specs.Total.{largest}
+use Rattle.worth_rules.proofs.Limit.{limited-two}
 use Rattle.worth.proofs.is_limited.Statement.{statement}
 use Rattle.worth.proofs.is_limited.Tie as tie
 

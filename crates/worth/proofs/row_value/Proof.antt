@@ -10,9 +10,9 @@ use Rattle.faults.specs.Outcome.{facts}
 use Rattle.ring.proofs.Element.{within-le}
 use Rattle.ring.proofs.Parts.{within-two}
 use Rattle.ring.specs.Element.{Within, plus}
-use Rattle.worth.specs.Total.{largest, digitAt, nextTotal, worthFrom, worthOf}
-use Rattle.worth.proofs.Limit.{limited-within}
-use Rattle.worth.proofs.Total.{turn, stop, end}
+use Rattle.worth_rules.specs.Total.{largest, digitAt, nextTotal, worthFrom, worthOf}
+use Rattle.worth_rules.proofs.Limit.{limited-within}
+use Rattle.worth_rules.proofs.Total.{turn, stop, end}
 use Rattle.worth.proofs.row_value.Statement.{statement}
 use Rattle.worth.proofs.row_value.Tie as tie
 

@@ -9,7 +9,7 @@ use Rattle.integers.proofs.Machine.{Term, plain-fits, stored-is}
 use Rattle.lists.proofs.Cons.{cons≡}
 use Rattle.ring.proofs.Parts.{entry, two-parts}
 use Rattle.ring.specs.Element.{part}
-use Rattle.worth.specs.Total.{largest}
+use Rattle.worth_rules.specs.Total.{largest}
 use Rattle.worth.proofs.shown.Statement.{statement}
 use Rattle.worth.proofs.shown.Tie as tie
 

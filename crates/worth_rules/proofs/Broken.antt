@@ -26,10 +26,10 @@ use Rattle.faults.proofs.Rule.{Decided, passes, refuses, exact}
 use Rattle.layout_rules.specs.Section.{degree, elementSize}
 use Rattle.digit_rules.specs.Record.{recordAt}
 use Rattle.digit_rules.proofs.Record.{element-parts}
-use Rattle.worth.specs.Total.{largest, limited, digitAt, nextTotal, worthFrom, worthOf}
-use Rattle.worth.specs.Broken.{digitsOf, totalAt, OutsideAt, Broken28, valueRules, refusalOf, worthCheck}
-use Rattle.worth.proofs.Limit.{limited-within, limited-fails}
-use Rattle.worth.proofs.Total.{worth-end, worth-next, worth-stops}
+use Rattle.worth_rules.specs.Total.{largest, limited, digitAt, nextTotal, worthFrom, worthOf}
+use Rattle.worth_rules.specs.Broken.{digitsOf, totalAt, OutsideAt, Broken28, valueRules, refusalOf, worthCheck}
+use Rattle.worth_rules.proofs.Limit.{limited-within, limited-fails}
+use Rattle.worth_rules.proofs.Total.{worth-end, worth-next, worth-stops}
 
 -- the totals at places a to i − 1 are within the limit
 Limited : (ℕ → List ℤ) → ℕ → ℕ → Type 0

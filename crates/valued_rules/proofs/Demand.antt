@@ -22,10 +22,10 @@ use Rattle.reader_rules.specs.Ready.{valueOf}
 use Rattle.reader_rules.proofs.Broken.{table-decided}
 use Rattle.row_rules.specs.Check.{oneRowCheck}
 use Rattle.row_rules.proofs.Broken.{one-row-decided}
-use Rattle.worth.specs.Broken.{worthCheck}
-use Rattle.worth.proofs.Broken.{worth-decided, worth-outcome}
-use Rattle.valued.specs.Value.{rowOutcome, valueOutcome}
-use Rattle.valued.specs.Broken.{lenderRules, valueStages}
+use Rattle.worth_rules.specs.Broken.{worthCheck}
+use Rattle.worth_rules.proofs.Broken.{worth-decided, worth-outcome}
+use Rattle.valued_rules.specs.Value.{rowOutcome, valueOutcome}
+use Rattle.valued_rules.specs.Broken.{lenderRules, valueStages}
 
 rows-of-base : (base : List ℕ) → length (baseMatrix base) ≡ degree
 rows-of-base base = rw (matrix-of-two base) (length-matrix _ _)

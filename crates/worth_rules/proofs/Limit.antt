@@ -13,7 +13,7 @@ use borrow.Author.Tests.{ltb-true, ltb-false, leb-true, leb-false, le-leb, lt-le
 use Rattle.lists.proofs.Test.{clash, both, not-both}
 use Rattle.ring.specs.Element.{part, Within}
 use Rattle.ring.proofs.Parts.{two-parts}
-use Rattle.worth.specs.Total.{largest, limited}
+use Rattle.worth_rules.specs.Total.{largest, limited}
 
 -- a number within ±(n + 1), from two tests on it
 pub too-low : (z : ℤ) (n : ℕ) → ltZ z (negsuc n) ≡ true → false ≡ leb (natAbs z) (suc n)

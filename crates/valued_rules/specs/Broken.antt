@@ -9,7 +9,7 @@ use Rattle.digit_rules.specs.Record.{elementCount}
 use Rattle.reader_rules.specs.Table.{basePart, alphabetPart}
 use Rattle.reader_rules.specs.Broken.{tableRules}
 use Rattle.row_rules.specs.Broken.{oneRowRules}
-use Rattle.worth.specs.Broken.{valueRules}
+use Rattle.worth_rules.specs.Broken.{valueRules}
 
 -- 20, 21 and 28 in their order
 abbrev pub lenderRules : List ℕ → List ℕ → List Rule

@@ -7,12 +7,9 @@ use lib.IntN.{ℤ, natAbs}
 use lib.Dec.{leb}
 use Rattle.ring.specs.Element.{zeros, plus}
 use Rattle.ring.specs.Matrix.{times}
-use Rattle.midpoint.specs.Midpoint.{parts}
 use Rattle.faults.specs.Outcome.{Outcome, facts, refused, rows}
 use Rattle.layout_rules.specs.Section.{degree}
 use Rattle.digit_rules.specs.Record.{elementCount, recordAt}
-use Rattle.worth.specs.declared.Worth.{Worth}
-use Rattle.worth.specs.declared.Worth.the-variants.{Whole, Over}
 
 -- a part of a total is within ±2,147,483,647
 abbrev pub largest : ℕ
@@ -46,8 +43,3 @@ worthFrom base digit (suc p) total =
 -- "starting from zero and from the top place down"
 unfoldable pub worthOf : List (List ℤ) → List ℕ → List ℕ → Outcome (List ℤ)
 worthOf base alphabet row = worthFrom base (digitAt alphabet row) (length row) (zeros degree)
-
--- the outcome that an answer states
-abbrev pub outcomeOf : Worth → Outcome (List ℤ)
-outcomeOf (Whole e) = facts (parts e)
-outcomeOf (Over p) = refused rows 28 p

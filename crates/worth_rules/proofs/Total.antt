@@ -6,7 +6,7 @@ use Prim.Native.Nat.{ℕ, suc, _-_, _<_, _≤_}
 use native.Mathlib.Omega.{arith}
 use lib.IntN.{ℤ}
 use Rattle.faults.specs.Outcome.{facts, refused, rows}
-use Rattle.worth.specs.Total.{limited, nextTotal, worthFrom}
+use Rattle.worth_rules.specs.Total.{limited, nextTotal, worthFrom}
 
 counted : (left : ℕ) → 0 < left → left ≡ suc (left - 1)
 counted left some = omega arith

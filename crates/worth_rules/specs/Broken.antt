@@ -12,7 +12,7 @@ use Rattle.faults.specs.Outcome.{Outcome, facts, refused}
 use Rattle.faults.specs.Rule.{Rule, rule}
 use Rattle.layout_rules.specs.Section.{degree}
 use Rattle.digit_rules.specs.Record.{recordAt}
-use Rattle.worth.specs.Total.{worthOf}
+use Rattle.worth_rules.specs.Total.{worthOf}
 
 -- the digits of a row
 abbrev pub digitsOf : List ℕ → List ℕ → List (List ℤ)

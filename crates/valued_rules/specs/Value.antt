@@ -2,21 +2,13 @@
 use mathlib.Core.List.{List}
 use Prim.Native.Nat.{ℕ}
 use lib.IntN.{ℤ}
-use Rattle.midpoint.specs.Midpoint.{parts}
-use Rattle.faults.specs.Outcome.{Outcome, facts, author, rows, refusedBy}
+use Rattle.faults.specs.Outcome.{Outcome, author, rows}
 use Rattle.faults.specs.Unless.{unless}
 use Rattle.digit_rules.specs.Base.{baseMatrix}
 use Rattle.digit_rules.specs.Record.{elementCount}
 use Rattle.reader_rules.specs.Table.{basePart, alphabetPart, tableCheck}
 use Rattle.row_rules.specs.Check.{oneRowCheck}
-use Rattle.worth.specs.Total.{worthOf}
-use Rattle.valued.specs.declared.Valued.{Valued}
-use Rattle.valued.specs.declared.Valued.the-variants.{Value, Refused}
-
--- the outcome that an answer states: "of the value call, the element"
-abbrev pub valuedAs : Valued → Outcome (List ℤ)
-valuedAs (Value e) = facts (parts e)
-valuedAs (Refused fault) = refusedBy fault
+use Rattle.worth_rules.specs.Total.{worthOf}
 
 -- 20, 21, then 28
 unfoldable pub rowOutcome : List ℕ → List ℕ → Outcome (List ℤ)
