@@ -1,16 +1,20 @@
 -- Laws of the comparison of strings, for the functions that run rule 11 and the look-up.
-use mathlib.Core.Path.{_≡_, sym, ap, _∙_}
-use mathlib.Core.Bool.{false}
+use mathlib.Core.Path.{_≡_, refl, sym, ap, ap₂, subst, _∙_}
+use mathlib.Core.Bool.{Bool, true, false}
 use mathlib.Core.List.{List}
 use Prim.Native.Nat.{ℕ, _+_, _<_, _≤_, min}
-use native.Mathlib.Nat.{zero-add}
+use native.Mathlib.Decide.{decLt}
+use native.Mathlib.Nat.{zero-add, pow-zero}
 use native.Mathlib.Omega.{arith}
 use lib.ListN.{getD}
 use lib.Dec.{eqb, ltb}
 use borrow.Author.Tests.{lt-ltb, le-ltb, eqb-true}
 use Rattle.lists.specs.Scan.{firstFailing}
 use Rattle.lists.proofs.Scan.{scan-passed}
-use Rattle.numeration.specs.Code.{lower, precedes, Begins}
+use Rattle.numeration.specs.Code.{lower, Lower, precedes, Begins}
+use Rattle.numeration.proofs.Agreement.{lower-sound, lower-complete}
+use Rattle.radix.specs.Number.{number, aligned, Digits}
+use Rattle.radix.proofs.Order.{aligned-eight, unit-some, aligned-lower, lower-aligned}
 use Rattle.leaves.specs.Leaf.{wordStart, wordLength, codeOf}
 use Rattle.leaves.specs.Window.{digits, above}
 
@@ -34,6 +38,28 @@ pub window-read : (leaves words window : List ℕ) (k start n : ℕ) → start �
     → lower (λ i. getD window (0 + i) 0) (λ i. getD words (start + i) 0) n ≡ above (codeOf leaves words) window k
 unfolding above
 window-read leaves words window k start n starts reach = rw (starts, reach) (simp zero-add)
+
+-- a string of eight digits below another's first n, by their numbers
+module _ (v w : ℕ → ℕ) (n : ℕ) (short : n ≤ 8) (dv : Digits 256 v 8) (dw : Digits 256 w n) where
+  not-lower : aligned 256 w n ≤ number 256 v 8 → (b : Bool) → lower v w (min n 8) ≡ b → b ≡ false
+  not-lower h false e = refl
+  not-lower h true e =
+      let same : min n 8 ≡ min 8 n = omega arith in
+      absurd (omega (arith, lower-aligned 256 (omega arith) v w 8 n (omega arith) short dv dw (subst (Lower v w) same (lower-sound v w (min n 8) e)), aligned-eight 256 v, unit-some 256 (omega arith) 8))
+
+  numbers-lower : ltb (number 256 v 8) (aligned 256 w n) ≡ lower v w (min n 8)
+  numbers-lower =
+      elim (decLt (number 256 v 8) (aligned 256 w n)) [
+        | yes h ↦ let same : min 8 n ≡ min n 8 = omega arith in
+            lt-ltb _ _ h ∙ sym (lower-complete v w (min n 8) (subst (Lower v w) same (aligned-lower 256 (omega arith) v w 8 n (omega arith) short dv dw (omega (arith, aligned-eight 256 v, pow-zero 256)))))
+        | no h ↦ le-ltb (number 256 v 8) (aligned 256 w n) (omega arith) ∙ sym (not-lower (omega arith) _ refl)
+      ]
+
+pub numbers-read : (leaves words window : List ℕ) (k start n x y : ℕ) → start ≡ wordStart leaves k → n ≡ wordLength leaves k → n ≤ 8 → ((i : ℕ) → getD window i 0 < 256) → ((i : ℕ) → getD words i 0 < 256)
+    → x ≡ number 256 (λ i. getD window (0 + i) 0) 8 → y ≡ aligned 256 (λ i. getD words (start + i) 0) n → ltb x y ≡ above (codeOf leaves words) window k
+numbers-read leaves words window k start n x y starts long short bytes others wx wy =
+    ap₂ ltb wx wy ∙ numbers-lower (λ i. getD window (0 + i) 0) (λ i. getD words (start + i) 0) n short (λ i _. bytes (0 + i)) (λ i _. others (start + i))
+    ∙ window-read leaves words window k start (min n 8) starts (ap (λ (l : ℕ). min l 8) long)
 
 -- a word that differs from the window nowhere begins it
 pub begins-read : (leaves words window : List ℕ) (k start n i : ℕ) → start ≡ wordStart leaves k → n ≡ wordLength leaves k → i ≡ firstFailing (λ j. eqb (getD words (start + j) 0) (getD window (0 + j) 0)) 0 n → n ≤ i

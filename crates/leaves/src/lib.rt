@@ -1,7 +1,7 @@
 // The leaves of a table: their words and weights, the depth, and the look-up. Sections 3 and 4 come as two parts, of a file or not.
 ghost use mathlib.Core.Path.{_≡_};
 ghost use mathlib.Core.List.{List};
-ghost use Prim.Native.Nat.{ℕ, _+_, _-_, _<_, min};
+ghost use Prim.Native.Nat.{ℕ, _+_, _-_, _<_, _≤_, min};
 ghost use mathlib.Core.Bool.{true};
 ghost use lib.ListN.{length, getD};
 ghost use lib.Dec.{eqb};
@@ -126,14 +126,31 @@ pub fn lower(bytes: &[u8], a: usize, other: &[u8], b: usize, n: usize) -> bool
     byte_at(bytes, a + i) < byte_at(other, b + i)
 }
 
+// Whether a word of one to eight digits lies inside section 4, so that it can be read as a number.
+fn is_inside(words: &[u8], start: usize, length: usize) -> bool
+    requires { ⌜ (start < 65536) × (length < 65536) ⌝ }
+    ensures { λ r. ⌜ (r ≡ true → (1 ≤ length) × (length ≤ 8) × (start + length ≤ lib.ListN.length (now (words .entry)))) ⌝ }
+{
+    if length < 1 {
+        return false;
+    }
+    if LONGEST < length {
+        return false;
+    }
+    start + length <= words.len()
+}
+
 // Whether a leaf's word is above the window at the first place where they differ.
 fn above(leaves: &[u8], words: &[u8], window: &[u8; 8], leaf: usize) -> bool
     requires { ⌜ leaf < leafCount (now leaves) ⌝ }
     ensures { λ r. ⌜ r ≡ windows.above (codeOf (now (leaves .entry)) (now (words .entry))) (now (window .entry)) leaf ⌝ }
 {
     let start = word_start(leaves, leaf);
-    let n = least(word_length(leaves, leaf), LONGEST);
-    lower(window, 0, words, start, n)
+    let length = word_length(leaves, leaf);
+    if is_inside(words, start, length) {
+        return word_numbers::eight(window, 0) < word_numbers::word_number(words, start, length);
+    }
+    lower(window, 0, words, start, least(length, LONGEST))
 }
 
 // The number of the leaf whose word begins the window, by binary search of the ordered words.

@@ -1,6 +1,6 @@
 // Words and windows as 64-bit numbers, a byte to a digit, so that two are compared at once.
 ghost use mathlib.Core.Path.{_≡_};
-ghost use Prim.Native.Nat.{_+_, _≤_, _<_};
+ghost use Prim.Native.Nat.{ℕ, _+_, _≤_, _<_};
 ghost use lib.ListN.{length, getD};
 ghost use Rattle.radix.specs.Number.{number, aligned};
 
@@ -24,10 +24,10 @@ fn four(bytes: &[u8], at: usize) -> u64
         + wide(bytes[at + 3])
 }
 
-// The eight bytes from a place on.
+// The eight bytes from a place on. That they are bytes is said for a caller whose bytes are an array, which doesn't tell it.
 pub fn eight(bytes: &[u8], at: usize) -> u64
     requires { ⌜ at + 8 ≤ length (now bytes) ⌝ }
-    ensures { λ r. ⌜ r ≡ number 256 (λ i. getD (now (bytes .entry)) (at + i) 0) 8 ⌝ }
+    ensures { λ r. ⌜ (r ≡ number 256 (λ i. getD (now (bytes .entry)) (at + i) 0) 8) × ((i : ℕ) → getD (now (bytes .entry)) i 0 < 256) ⌝ }
 {
     four(bytes, at) * 4294967296 + four(bytes, at + 4)
 }

@@ -26,7 +26,7 @@ add-result c = search needs
 
 -- src/lib.rt:25:1
 returns : tie.Need-returns
-returns c = omega (arith, eight-bytes (c .before .before .before .args .bytes .now) (c .before .before .before .args .at), c .before .four .ensures .0, c .four2 .ensures .0)
+returns c = (omega (arith, eight-bytes (c .before .before .before .args .bytes .now) (c .before .before .before .args .at), c .before .four .ensures .0, c .four2 .ensures .0), λ i. omega (arith, c .before .before .shared-slice-known .given i))
 
 pub eight-spec : {M : Type 1} → statement M
 eight-spec =

@@ -48,7 +48,7 @@ shl-result-2 c = search needs
 
 -- src/lib.rt:48:1
 returns-2 : tie.Need-returns-2
-returns-2 c = ap (λ (x : ℕ). (x * 2 ^ (8 * (8 - c .before .before .before .args .length))) % 2 ^ 64) (c .eight .ensures) ∙ eight-shifted (c .before .before .before .args .words .now) (c .before .before .before .args .start) (c .before .before .before .args .length) (c .before .before .before .pre .1) (λ i. omega (arith, c .before .before .shared-slice-known .given i)) (omega arith)
+returns-2 c = ap (λ (x : ℕ). (x * 2 ^ (8 * (8 - c .before .before .before .args .length))) % 2 ^ 64) (c .eight .ensures .0) ∙ eight-shifted (c .before .before .before .args .words .now) (c .before .before .before .args .start) (c .before .before .before .args .length) (c .before .before .before .pre .1) (λ i. omega (arith, c .before .before .shared-slice-known .given i)) (omega arith)
 
 pub word-number-spec : {M : Type 1} → statement M
 word-number-spec =
