@@ -1,12 +1,13 @@
 -- Bytes as a number, and a number shifted to the high end of 64 bits.
-use mathlib.Core.Path.{_≡_, refl, sym, ap, subst, _∙_}
+use mathlib.Core.Path.{_≡_, refl, sym, ap, ap₂, subst, _∙_}
 use mathlib.Core.List.{List}
-use Prim.Native.Nat.{ℕ, zero, suc, _+_, _-_, _*_, _%_, _^_, _<_, _≤_}
+use Prim.Native.Nat.{ℕ, zero, suc, _+_, _-_, _*_, _/_, _%_, _^_, _<_, _≤_}
 use native.Mathlib.Omega.{arith}
 use native.Mathlib.Numerals.{add-one}
-use native.Mathlib.Nat.{add-zero, add-assoc, add-mul, mul-assoc, pow-suc, pow-le-pow-right, one-le-pow, mul-lt-mul-of-pos-right, zero-add, zero-mul}
+use native.Mathlib.Nat.{add-zero, add-assoc, add-mul, mul-assoc, pow-suc, pow-le-pow-right, one-le-pow, mul-lt-mul-of-pos-right, zero-add, zero-mul, mod-eq-of-lt}
 use lib.ListN.{getD}
-use lib.Arith.{digits-lt, digits-mod}
+use lib.Arith.{digits-lt, digits-mod, digits-div}
+use lib.Bits.{bitAnd, and-high}
 use lib.Pow.{pow-add}
 use Rattle.radix.specs.Number.{number, aligned}
 use Rattle.radix.proofs.Order.{number-lt, number-suc, number-split, agree-number}
@@ -71,3 +72,28 @@ module _ (words : List ℕ) (start n : ℕ) (short : n ≤ 8) (bytes : (i : ℕ)
       let e : 8 - n + n ≡ 8 = omega arith in
       ap (λ (x : ℕ). (x * 2 ^ (8 * (8 - n))) % 2 ^ 64) (ap (number 256 (from words (start + n - 8))) (sym e) ∙ number-split 256 (from words (start + n - 8)) (8 - n) n ∙ ap (λ (x : ℕ). number 256 (from words (start + n - 8)) (8 - n) * 256 ^ n + x) (agree-number 256 _ (from words start) n (λ i l. ap (λ (k : ℕ). getD words k 0) (omega arith))))
       ∙ shifted _ _ n short small
+
+  whole : 256 ^ n * 256 ^ (8 - n) ≡ 2 ^ 64
+  whole = let e : n + (8 - n) ≡ 8 = omega arith in sym (pow-add 256 n (8 - n)) ∙ ap (λ (x : ℕ). 256 ^ x) e
+
+  pub few-room : (r unit : ℕ) → r ≡ number 256 (λ i. getD words (start + i) 0) n → unit ≡ 256 ^ (8 - n) → r * unit < 18446744073709551616
+  few-room r unit e u =
+      rw (e, u) (subst (λ (x : ℕ). number 256 (from words start) n * 256 ^ (8 - n) < x) whole (mul-lt-mul-of-pos-right small (one-le-pow (8 - n) 256 (omega arith))))
+
+  -- what stands behind the word is masked out
+  pub eight-masked : (r unit : ℕ) → r ≡ number 256 (λ i. getD words (start + i) 0) 8 → unit ≡ 256 ^ (8 - n) → bitAnd r ((2 ^ 64 - 1) - (unit - 1)) ≡ aligned 256 (λ i. getD words (start + i) 0) n
+  unfolding aligned
+  eight-masked r unit e u =
+      let some : 0 < 256 ^ (8 - n) = one-le-pow (8 - n) 256 (omega arith) in
+      let bits : 8 * n + 8 * (8 - n) ≡ 64 = omega arith in
+      let mask : (2 ^ 64 - 1) - (unit - 1) ≡ 2 ^ (8 * n + 8 * (8 - n)) - 2 ^ (8 * (8 - n)) = rw (u, bits, eight-bits (8 - n)) (omega arith) in
+      let cut : r ≡ number 256 (from words start) n * 256 ^ (8 - n) + number 256 (λ i. from words start (n + i)) (8 - n) = e ∙ ap (number 256 (from words start)) {x = 8} {y = n + (8 - n)} (omega arith) ∙ number-split 256 (from words start) n (8 - n) in
+      let behind : number 256 (λ i. from words start (n + i)) (8 - n) < 256 ^ (8 - n) = number-lt 256 _ (8 - n) (λ i h. bytes (start + (n + i))) in
+      ap (bitAnd r) mask ∙ and-high r (8 * n) (8 * (8 - n))
+      ∙ ap₂ (λ (x y : ℕ). (r / x % y) * x) (eight-bits (8 - n)) (eight-bits n)
+      ∙ ap (λ (x : ℕ). (x % 256 ^ n) * 256 ^ (8 - n)) (ap (λ (x : ℕ). x / 256 ^ (8 - n)) cut ∙ digits-div _ behind)
+      ∙ ap (λ (x : ℕ). x * 256 ^ (8 - n)) (mod-eq-of-lt small)
+
+pub few-times : (words : List ℕ) (start n r unit : ℕ) → r ≡ number 256 (λ i. getD words (start + i) 0) n → unit ≡ 256 ^ (8 - n) → r * unit ≡ aligned 256 (λ i. getD words (start + i) 0) n
+unfolding aligned
+few-times words start n r unit e u = ap₂ (λ (x y : ℕ). x * y) e u

@@ -1,6 +1,6 @@
 // Words and windows as 64-bit numbers, a byte to a digit, so that two are compared at once.
 ghost use mathlib.Core.Path.{_≡_};
-ghost use Prim.Native.Nat.{ℕ, _+_, _≤_, _<_};
+ghost use Prim.Native.Nat.{ℕ, _+_, _-_, _≤_, _<_, _^_};
 ghost use lib.ListN.{length, getD};
 ghost use Rattle.radix.specs.Number.{number, aligned};
 
@@ -57,4 +57,29 @@ pub fn word_number(words: &[u8], start: usize, length: usize) -> u64
         return few(words, start, length) << (8 * (LONGEST - length));
     }
     eight(words, end - LONGEST) << (8 * (LONGEST - length))
+}
+
+// The same, where the number of the words that share its digits is known: what stands behind the word is masked out.
+pub fn word_number_by(words: &[u8], start: usize, length: usize, unit: u64) -> u64
+    requires { ⌜ (length ≤ 8) × (start + length ≤ lib.ListN.length (now words)) × (unit ≡ 256 ^ (8 - length)) ⌝ }
+    ensures { λ r. ⌜ r ≡ aligned 256 (λ i. getD (now (words .entry)) (start + i) 0) length ⌝ }
+{
+    if words.len() - start < LONGEST {
+        return few(words, start, length) * unit;
+    }
+    eight(words, start) & !(unit - 1)
+}
+
+// For words of 1 to 8 digits in a base: how many strings of eight digits begin with one.
+pub fn powers(base: u64) -> [u64; 9]
+    requires { ⌜ base ≤ 256 ⌝ }
+    ensures { λ r. ⌜ ((n : ℕ) → 1 ≤ n → n ≤ 8 → getD r n 0 ≡ base ^ (8 - n)) ⌝ }
+{
+    let mut all = [1; 9];
+    let mut n = 8;
+    while 1 < n {
+        all[n - 1] = all[n] * base;
+        n -= 1;
+    }
+    all
 }

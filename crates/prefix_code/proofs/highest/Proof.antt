@@ -5,8 +5,6 @@ use Prim.Native.Nat.{ℕ, _≤_, _<_, _-_}
 use mathlib.Core.Logic.{⊎-elim}
 use Rattle.prefix_code.proofs.highest.Statement.{statement}
 use Rattle.prefix_code.proofs.highest.Tie as tie
-use Rattle.prefix_code.proofs.highest.Reads as reads
-use Rattle.prefix_code.proofs.highest.Lts as lts
 
 abbrev Inv-loop : tie.InvT-loop
 Inv-loop bytes top₀ i₀ top i = (k : ℕ) → k < i → getD bytes k 0 ≤ top

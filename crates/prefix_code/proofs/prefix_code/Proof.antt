@@ -3,11 +3,6 @@ use mathlib.Core.Path.{_∙_}
 use borrow.Author.Needs.{needs}
 use Rattle.prefix_code.proofs.prefix_code.Statement.{statement}
 use Rattle.prefix_code.proofs.prefix_code.Tie as tie
-use Rattle.prefix_code.proofs.prefix_code.Reads as reads
-use Rattle.prefix_code.proofs.prefix_code.Lts as lts
-use Rattle.prefix_scan.proofs.first_broken.Reads as first-broken-reads
-use Rattle.prefix_code.proofs.well_coded.Reads as well-coded-reads
-use Rattle.prefix_scan.proofs.zero_weight.Reads as zero-weight-reads
 
 -- src/lib.rt:502:8
 well-coded-requires : tie.Need-well-coded-requires
