@@ -1,11 +1,11 @@
 -- A run of entries written one after the other.
 use mathlib.Core.Path.{_≡_, sym, ap, subst, _∙_}
-use mathlib.Core.List.{List, [], _∷_, _++_, replicate}
+use mathlib.Core.List.{List, [], _∷_, _++_}
 use Prim.Native.Nat.{ℕ, _+_, _-_, _<_, _≤_}
 use native.Mathlib.Omega.{arith}
 use native.Mathlib.Nat.{zero-add, sub-self}
 use native.Mathlib.Decide.{decLt}
-use lib.ListN.{length, getD, take, drop, set, length-replicate, getD-replicate, List·getD-append, List·getD-eq-default}
+use lib.ListN.{replicate, length, getD, take, drop, set, length-replicate, getD-replicate, List·getD-append, List·getD-eq-default}
 use lib.Seq.{length-take-le, getD-take, getD-drop, getD-append-add}
 use Rattle.lists.specs.Span.{span}
 use Rattle.lists.specs.Overwrite.{overwrite}
@@ -61,11 +61,11 @@ module _ (s new : List ℕ) (p : ℕ) (fits : p + length new ≤ length s) where
       let at : p + length new + k ≡ length (take p s) + (length new + k) = omega (arith, length-take-le p s (omega arith)) in
       ap (λ (n : ℕ). getD (take p s ++ rest) n 0) at ∙ getD-append-add (take p s) rest (length new + k) 0 ∙ getD-append-add new _ k 0 ∙ getD-drop (p + length new) s k 0
 
-zeros-at : (k : ℕ) → getD (replicate {A = ℕ} 256 0) k 0 ≡ 0
-zeros-at k =
-    elim (decLt k 256) [
-      | yes h ↦ getD-replicate 256 k 0 0 h
-      | no h ↦ List·getD-eq-default (replicate 256 0) 0 {n = k} (omega (arith, length-replicate {A = ℕ} 256 0))
+pub zeros-at : (n k : ℕ) → getD (replicate {A = ℕ} n 0) k 0 ≡ 0
+zeros-at n k =
+    elim (decLt k n) [
+      | yes h ↦ getD-replicate n k 0 0 h
+      | no h ↦ List·getD-eq-default (replicate n 0) 0 {n = k} (omega (arith, length-replicate {A = ℕ} n 0))
     ]
 
 module _ (f : ℕ → ℕ) (i n : ℕ) (low : i ≤ n) (high : n ≤ 256) where
@@ -83,14 +83,14 @@ module _ (f : ℕ → ℕ) (i n : ℕ) (low : i ≤ n) (high : n ≤ 256) where
 
   pub part-before : (k : ℕ) → k < i → getD (partRow f i n) k 0 ≡ 0
   unfolding partRow
-  part-before k h = overwrite-before (replicate 256 0) (span f i (n - i)) i fitting k h ∙ zeros-at k
+  part-before k h = overwrite-before (replicate 256 0) (span f i (n - i)) i fitting k h ∙ zeros-at 256 k
 
   pub part-behind : (k : ℕ) → n ≤ k → getD (partRow f i n) k 0 ≡ 0
   unfolding partRow
   part-behind k h =
       let new = span f i (n - i) in
       let at : k ≡ i + length new + (k - n) = omega (arith, length-span f i (n - i)) in
-      ap (λ (m : ℕ). getD (overwrite (replicate 256 0) i new) m 0) at ∙ overwrite-behind (replicate 256 0) new i fitting (k - n) ∙ zeros-at (i + length new + (k - n))
+      ap (λ (m : ℕ). getD (overwrite (replicate 256 0) i new) m 0) at ∙ overwrite-behind (replicate 256 0) new i fitting (k - n) ∙ zeros-at 256 (i + length new + (k - n))
 
   -- each entry is zero or f at its place
   pub part-each : (R : ℕ → Type 0) → R 0 → ((k : ℕ) → i ≤ k → k < n → R (f k)) → (k : ℕ) → R (getD (partRow f i n) k 0)

@@ -48,3 +48,7 @@ module _ (o : Operations (List ℤ)) (alphabet inputs leaves words row : List �
 pub record Begun (leaves words row : List ℕ) : Type 0 where
   pub sorted : Sorted (codeOf leaves words)
   pub begun : (j : ℕ) → HasLeaf (codeOf leaves words) (window row j)
+
+-- alphabet digits that were found: each is the first record of its element
+pub record Firsts (alphabet slots : List ℕ) : Type 0 where
+  pub first : (s : ℕ) → getD slots s 0 < elementCount alphabet → alphabetIndex alphabet (recordAt alphabet (getD slots s 0)) ≡ getD slots s 0

@@ -1,5 +1,6 @@
 // Conversion place by place: the row of input indexes, the weights, and the alphabet indexes of the digits that come out.
 ghost use mathlib.Core.Path.{_≡_};
+ghost use mathlib.Core.Bool.{true};
 ghost use Prim.Native.Nat.{ℕ, _+_, _≤_, _<_, _^_};
 ghost use lib.ListN.{length, getD};
 ghost use Rattle.lists.specs.Span.{span};
@@ -9,13 +10,18 @@ ghost use Rattle.ring.specs.Element.{Within};
 ghost use Rattle.ring.specs.Matrix.{RowsWithin};
 ghost use Rattle.layout_rules.specs.Section.{degree};
 ghost use Rattle.digit_rules.specs.Record.{recordAt, elementCount};
-ghost use Rattle.numeration.specs.Code.{Inputs};
+ghost use Rattle.numeration.specs.Code.{Inputs, Begins};
 ghost use Rattle.numeration.specs.Conversion.{window, outDigit, weightInto};
 ghost use Rattle.numeration.specs.Elements.{elements};
-ghost use Rattle.leaves.specs.Leaf.{codeOf};
+ghost use Rattle.leaves.specs.Leaf.{leafCount, codeOf, weightGiven};
 ghost use Rattle.row_rules.specs.Changed.{changed};
-ghost use Rattle.places.specs.Place.{inputAt, Known, partRow, alphabetIndex, indexAt, digitAllowed, Begun};
+ghost use Rattle.places.specs.Place.{inputAt, Known, partRow, alphabetIndex, indexAt, digitAllowed, Begun, Firsts};
 use row_rules::Change;
+
+// The slots that leaves are kept in by the windows they begin, and alphabet digits by their elements.
+const WINDOWS: usize = 256;
+
+const DIGITS: usize = 64;
 
 // The input index of the sum of two rows' digits at a place, the rows read with the change made. A sum is looked for once and then
 // stands in `known`.
@@ -100,6 +106,106 @@ fn weight_into(leaves: &[u8], words: &[u8], row: &[u8], place: usize) -> [i64; 2
     )
 }
 
+// Whether a leaf's word begins the window below a place, of which the first digit is given.
+fn begins_below(
+    leaves: &[u8],
+    words: &[u8],
+    row: &[u8],
+    place: usize,
+    first: u8,
+    leaf: usize,
+) -> bool
+    requires { ⌜ (leaf < leafCount (now leaves)) × (first ≡ window (now row) place 0) ⌝ }
+    ensures { λ r. ⌜ (r ≡ true → Begins (codeOf (now (leaves .entry)) (now (words .entry))) leaf (window (now (row .entry)) place)) ⌝ }
+{
+    let start = leaves::word_start(leaves, leaf);
+    if leaves::byte_at(words, start) != first {
+        return false;
+    }
+    let n = leaves::word_length(leaves, leaf);
+    let mut k = 1;
+    while k < n {
+        if leaves::byte_at(words, start + k) != digit_below(row, place, k) {
+            return false;
+        }
+        k += 1;
+    }
+    true
+}
+
+// The leaf that begins the window below a place: the guessed one where it does, else by the search.
+fn leaf_below(leaves: &[u8], words: &[u8], row: &[u8], place: usize, first: u8, guess: u16) -> usize
+    requires { ⌜ Begun (now leaves) (now words) (now row) × (first ≡ window (now row) place 0) ⌝ }
+    ensures { λ r. ⌜ weightGiven (now (leaves .entry)) r ≡ weightInto (codeOf (now (leaves .entry)) (now (words .entry))) (now (row .entry)) place ⌝ }
+{
+    let leaf = guess as usize;
+    if leaf < leaves::leaf_count(leaves) {
+        if begins_below(leaves, words, row, place, first, leaf) {
+            return leaf;
+        }
+    }
+    leaves::look_up(leaves, words, window_below(row, place))
+}
+
+// The slot of the window below a place: by its first digit where no word has more, else by the first two.
+fn window_slot(row: &[u8], place: usize, first: u8, single: bool) -> usize
+    ensures { λ r. ⌜ r < 256 ⌝ }
+{
+    let mut slot = first as usize;
+    if !single {
+        slot += 16 * digit_below(row, place, 1) as usize;
+    }
+    slot % WINDOWS
+}
+
+// The weight that a place gets from below. The leaf that was found last for a window of the same slot is tried before the search.
+fn weight_tried(
+    leaves: &[u8],
+    words: &[u8],
+    row: &[u8],
+    place: usize,
+    first: u8,
+    single: bool,
+    found: &mut [u16; WINDOWS],
+) -> [i64; 2]
+    requires { ⌜ Begun (now leaves) (now words) (now row) × (first ≡ window (now row) place 0) ⌝ }
+    ensures { λ r. ⌜ (r ≡ weightInto (codeOf (now (leaves .entry)) (now (words .entry))) (now (row .entry)) place) × Within 32768 r ⌝ }
+{
+    let slot = window_slot(row, place, first, single);
+    let leaf = leaf_below(leaves, words, row, place, first, found[slot]);
+    found[slot] = (leaf % 65536) as u16;
+    leaves::weight(leaves, leaf)
+}
+
+// The slot of an element. Those of a square of 8 by 8 have different ones.
+fn digit_slot(x: [i64; 2]) -> usize
+    requires { ⌜ Within (2 ^ 42) x ⌝ }
+    ensures { λ r. ⌜ r < 64 ⌝ }
+{
+    (x[0] + 8 * x[1] + 70368744177664) as usize % DIGITS
+}
+
+// The alphabet index of an element, or the alphabet's size. The digit in the element's slot is tried before the search, and a digit
+// that was found is put there.
+fn index_of(alphabet: &[u8], x: [i64; 2], slots: &mut [u8; DIGITS]) -> usize
+    requires { ⌜ Within (2 ^ 42) x × (elementCount (now alphabet) ≤ 256) × Firsts (now alphabet) (now slots) ⌝ }
+    ensures { λ r. ⌜ (r ≡ alphabetIndex (now (alphabet .entry)) x) × Firsts (now (alphabet .entry)) (now (slots .exit)) ⌝ }
+{
+    let size = layout::record_count(alphabet, 1);
+    let slot = digit_slot(x);
+    let last = leaves::wide(slots[slot]);
+    if last < size {
+        if ring::equal(digits::record_at(alphabet, last), x) {
+            return last;
+        }
+    }
+    let index = digits::find(alphabet, size, x);
+    if index < size {
+        slots[slot] = index as u8;
+    }
+    index
+}
+
 // The alphabet index of the digit that comes out, or the alphabet's size.
 fn out_index(
     base: [[i64; 2]; 2],
@@ -108,12 +214,13 @@ fn out_index(
     input: usize,
     below: [i64; 2],
     own: [i64; 2],
+    slots: &mut [u8; DIGITS],
 ) -> usize
-    requires { ⌜ RowsWithin (2 ^ 24) base × (input < elementCount (now inputs)) × Within 32768 below × Within 32768 own ⌝ }
-    ensures { λ r. ⌜ r ≡ alphabetIndex (now (alphabet .entry)) (outDigit (elements degree base) (recordAt (now (inputs .entry)) input) below own) ⌝ }
+    requires { ⌜ RowsWithin (2 ^ 24) base × (input < elementCount (now inputs)) × Within 32768 below × Within 32768 own × (elementCount (now alphabet) ≤ 256) × Firsts (now alphabet) (now slots) ⌝ }
+    ensures { λ r. ⌜ (r ≡ alphabetIndex (now (alphabet .entry)) (outDigit (elements degree base) (recordAt (now (inputs .entry)) input) below own)) × Firsts (now (alphabet .entry)) (now (slots .exit)) ⌝ }
 {
     let digit = conversion::out_digit(base, digits::record_at(inputs, input), below, own);
-    digits::find(alphabet, layout::record_count(alphabet, 1), digit)
+    index_of(alphabet, digit, slots)
 }
 
 // Writes the alphabet indexes of the digits at the places from `from` on, up to the first digit that isn't in the alphabet, at most
@@ -133,12 +240,16 @@ pub fn convert(
     ensures { λ r. ⌜ (r ≡ firstFailing (λ k. digitAllowed (elements degree base) (now (alphabet .entry)) (now (inputs .entry)) (now (leaves .entry)) (now (words .entry)) (now (row .entry)) (from + k)) 0 count) × (now (out .exit) ≡ overwrite (now (out .entry)) 0 (span (λ k. indexAt (elements degree base) (now (alphabet .entry)) (now (inputs .entry)) (now (leaves .entry)) (now (words .entry)) (now (row .entry)) (from + k)) 0 r)) ⌝ }
 {
     let size = layout::record_count(alphabet, 1);
+    let single = words.len() <= leaves::leaf_count(leaves);
+    let mut found = [0u16; WINDOWS];
+    let mut slots = [0u8; DIGITS];
     let mut below = weight_into(leaves, words, row, from);
     let mut k = 0;
     while k < count {
-        let own = weight_into(leaves, words, row, from + k + 1);
-        let input = leaves::byte_at(row, from + k) as usize;
-        let index = out_index(base, alphabet, inputs, input, below, own);
+        let first = leaves::byte_at(row, from + k);
+        let own = weight_tried(leaves, words, row, from + k + 1, first, single, &mut found);
+        let input = first as usize;
+        let index = out_index(base, alphabet, inputs, input, below, own, &mut slots);
         if size <= index {
             return k;
         }

@@ -1,8 +1,11 @@
-use mathlib.Core.Path.{_∙_}
-use Rattle.layout_rules.specs.Section.{degree}
-use Rattle.numeration.specs.Conversion.{outDigit}
+use Prim.Native.Nat.{_^_}
+use mathlib.Core.Path.{sym, ap, subst, _∙_}
+use Rattle.places.specs.Place.{alphabetIndex}
+use Rattle.ring.specs.Element.{Within}
 use Rattle.numeration.specs.Elements.{elements}
-use Rattle.digit_rules.specs.Record.{indexIn}
+use Rattle.numeration.specs.Conversion.{outDigit}
+use Rattle.layout_rules.specs.Section.{degree}
+use Rattle.conversion.proofs.Size.{out-size}
 use borrow.Author.Needs.{needs}
 use Rattle.places.proofs.out_index.Statement.{statement}
 use Rattle.places.proofs.out_index.Tie as tie
@@ -13,18 +16,14 @@ record-at-requires c κs = search needs
 out-digit-requires : tie.Need-out-digit-requires
 out-digit-requires c κs = search needs
 
-record-count-requires : tie.Need-record-count-requires
-record-count-requires c κs = search needs
-
-find-requires : tie.Need-find-requires
-find-requires c κs = search needs
+index-of-requires : tie.Need-index-of-requires
+index-of-requires c κs =
+    (subst (Within (2 ^ 42)) (sym (c .before .out-digit .ensures)) (out-size (c .before .before .before .before .before .args .base) (c .before .before .record-at .result) (c .before .before .before .before .before .args .below) (c .before .before .before .before .before .args .own) (c .before .before .before .before .before .pre .0) (search needs) (c .before .before .record-at .ensures .1) (c .before .before .before .before .before .pre .2) (c .before .before .before .before .before .pre .3)), c .before .before .before .before .before .pre .4, c .before .before .before .before .before .pre .5)
 
 returns : tie.Need-returns
 returns c =
-    let a = c .before .before .before .before .before .before .args in
-    c .find .ensures ∙ (λ i. indexIn (a .alphabet .now) (c .before .record-count .ensures i) ((c .before .before .out-digit .ensures ∙ (λ j. outDigit (elements degree (a .base)) (c .before .before .before .record-at .ensures .0 j) (a .below) (a .own))) i))
+    (c .index-of .ensures .0 ∙ ap (alphabetIndex (c .before .before .before .before .before .before .args .alphabet .now)) (c .before .before .out-digit .ensures ∙ ap (λ d. outDigit (elements degree (c .before .before .before .before .before .before .args .base)) d (c .before .before .before .before .before .before .args .below) (c .before .before .before .before .before .before .args .own)) (c .before .before .before .record-at .ensures .0)), c .index-of .ensures .1)
 
 pub out-index-spec : {M : Type 1} → statement M
 out-index-spec =
-    tie.close
-    (tie.spec record-at-requires out-digit-requires record-count-requires find-requires returns)
+    tie.close (tie.spec record-at-requires out-digit-requires index-of-requires returns)

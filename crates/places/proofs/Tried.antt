@@ -1,0 +1,93 @@
+-- What is tried before a search: a leaf that begins the window, and an alphabet digit that was found before.
+use mathlib.Core.Path.{_≡_, refl, sym, ap, subst, _∙_}
+use mathlib.Core.List.{List}
+use Prim.Native.Nat.{ℕ, suc, _+_, _^_, _<_, _≤_}
+use native.Mathlib.Decide.{decLt, ℕ-discrete}
+use native.Mathlib.Numerals.{add-one}
+use native.Mathlib.Omega.{arith}
+use lib.ListN.{length, getD, set, replicate, length-set, List·getD-eq-default}
+use lib.Seq.{getD-set-same, getD-set-other}
+use lib.IntN.{ℤ, pos, negsuc, natAbs, _+ℤ_}
+use lib.Dec.{T}
+use lib.Signed.{nonNeg}
+use borrow.Author.Tests.{le-ltb}
+use Rattle.integers.proofs.Machine.{Term, leaf, _⊕_, _⊗_, plain, plain-bound}
+use Rattle.ring.specs.Element.{same, Within}
+use Rattle.ring.proofs.Parts.{entry}
+use Rattle.digit_rules.specs.Record.{recordAt, elementCount}
+use Rattle.digit_rules.proofs.Index.{index-is, index-first}
+use Rattle.numeration.specs.Code.{Begins}
+use Rattle.numeration.specs.Conversion.{window, weightInto}
+use Rattle.numeration.proofs.Leaves.{ordered-separate, leafOf-unique}
+use Rattle.leaves.specs.Leaf.{leafCount, codeOf, weightGiven}
+use Rattle.leaves.proofs.Leaf.{weight-there}
+use Rattle.places.specs.Place.{alphabetIndex, Begun, Firsts}
+use Rattle.places.proofs.Filled.{zeros-at}
+
+-- the first digit of the window below the next place
+pub window-first : (row : List ℕ) (j : ℕ) → getD row j 0 ≡ window row (j + 1) 0
+unfolding window
+window-first row j = rw (add-one j, window)
+
+-- a leaf that begins the window has the weight into the place
+pub weight-begun : (leaves words row : List ℕ) → Begun leaves words row → (j k : ℕ) → k < leafCount leaves → Begins (codeOf leaves words) k (window row j) → weightGiven leaves k ≡ weightInto (codeOf leaves words) row j
+unfolding weightInto
+weight-begun leaves words row is j k h b =
+    let c = codeOf leaves words in
+    sym (weight-there leaves k h) ∙ ap (c .weight) (sym (leafOf-unique c (ordered-separate c (is .sorted .ordered)) (window row j) k h b))
+
+-- the sum in the slot of an element is not below zero
+module _ (x : List ℤ) (small : Within (2 ^ 42) x) where
+  abbrev pub slot-product : Term
+  slot-product = leaf (pos 8) 8 (omega arith) ⊗ entry (2 ^ 42) x small 1
+
+  abbrev pub slot-sum : Term
+  slot-sum = entry (2 ^ 42) x small 0 ⊕ slot-product
+
+  abbrev pub slot-term : Term
+  slot-term = slot-sum ⊕ leaf (pos 70368744177664) 70368744177664 (omega arith)
+
+  pub slot-positive : T (nonNeg (plain slot-term))
+  slot-positive = positive (plain slot-sum) (omega (arith, plain-bound slot-sum))
+    where
+      positive : (z : ℤ) → natAbs z ≤ 70368744177664 → T (nonNeg (z +ℤ pos 70368744177664))
+      positive (pos n) h = tt
+      positive (negsuc n) h = rw (le-ltb 70368744177664 (suc n) h) tt
+
+module _ (alphabet : List ℕ) where
+  abbrev IsFirst : ℕ → Type 0
+  IsFirst k = k < elementCount alphabet → alphabetIndex alphabet (recordAt alphabet k) ≡ k
+
+  -- record 0 is the first of its element
+  zero-first : IsFirst 0
+  zero-first _ = lowest (index-first alphabet (elementCount alphabet) (recordAt alphabet 0) 0 refl)
+    where
+      lowest : {k : ℕ} → k ≤ 0 → k ≡ 0
+      lowest h = omega arith
+
+  pub firsts-none : (n : ℕ) → Firsts alphabet (replicate n 0)
+  firsts-none n = record { first = λ s. subst IsFirst (sym (zeros-at n s)) zero-first }
+
+  module _ (x : List ℤ) (slots : List ℕ) (is : Firsts alphabet slots) (s : ℕ) where
+    pub first-hit : getD slots s 0 < elementCount alphabet → recordAt alphabet (getD slots s 0) ≡ x → getD slots s 0 ≡ alphabetIndex alphabet x
+    first-hit h e = sym (is .first s h) ∙ ap (alphabetIndex alphabet) e
+
+    pub firsts-more : (v : ℕ) → v ≡ alphabetIndex alphabet x → v < elementCount alphabet → Firsts alphabet (set slots s v)
+    firsts-more v e h = record { first = first }
+      where
+        found : alphabetIndex alphabet (recordAt alphabet v) ≡ v
+        found = ap (λ (k : ℕ). alphabetIndex alphabet (recordAt alphabet k)) e ∙ ap (alphabetIndex alphabet) (index-is alphabet (elementCount alphabet) x (omega arith)) ∙ sym e
+
+        here : IsFirst (getD (set slots s v) s 0)
+        here =
+            elim (decLt s (length slots)) [
+              | yes l ↦ subst IsFirst (sym (getD-set-same slots s v 0 l)) (λ _. found)
+              | no l ↦ subst IsFirst (sym (List·getD-eq-default (set slots s v) 0 {n = s} (omega (arith, length-set slots s v)))) zero-first
+            ]
+
+        first : (t : ℕ) → IsFirst (getD (set slots s v) t 0)
+        first t =
+            elim (ℕ-discrete t s) [
+              | yes q ↦ subst (λ (n : ℕ). IsFirst (getD (set slots s v) n 0)) (sym q) here
+              | no q ↦ subst IsFirst (sym (getD-set-other slots s t v 0 q)) (is .first t)
+            ]
