@@ -1,15 +1,15 @@
 -- Laws of the look-up's binary search.
-use mathlib.Core.Path.{_≡_, sym, ap, _∙_}
-use mathlib.Core.Bool.{true, false}
+use mathlib.Core.Path.{_≡_, refl, sym, ap, subst, _∙_}
+use mathlib.Core.Bool.{Bool, true, false}
 use mathlib.Core.List.{List}
-use Prim.Native.Nat.{ℕ, _+_, _<_, _≤_, min}
+use Prim.Native.Nat.{ℕ, _+_, _-_, _<_, _≤_, min}
 use native.Mathlib.Decide.{decLt}
 use native.Mathlib.Omega.{arith}
 use Rattle.lists.proofs.Test.{clash}
 use Rattle.numeration.specs.Code.{Code, Lower, Precedes, Begins}
 use Rattle.numeration.proofs.Agreement.{lower-sound, lower-complete}
 use Rattle.numeration.proofs.Leaves.{precedes-all, ordered-separate, leafOf-unique}
-use Rattle.leaves.specs.Window.{digits, above, Sorted, LookedUp}
+use Rattle.leaves.specs.Window.{digits, above, nextLow, Sorted, LookedUp}
 
 module _ {A : Type 0} (c : Code A) (window : List ℕ) where
   -- a leaf k that begins the window, beside any other
@@ -54,6 +54,14 @@ module _ {A : Type 0} (c : Code A) (window : List ℕ) where
         higher : Precedes c k other → Lower (digits window) (c .digit other) (min (c .size other) 8)
         higher (i, h, a, d) = (i, omega (arith, s .short k leaf), (λ j l. sym (b j (omega arith)) ∙ a j l), omega (arith, b i (omega arith)))
 
+  pub next-lower : (low half : ℕ) → above c window (low + half) ≡ true → low ≡ nextLow c window low half
+  unfolding nextLow
+  next-lower low half e = rw (nextLow, e)
+
+  pub next-upper : (low half : ℕ) → above c window (low + half) ≡ false → low + half ≡ nextLow c window low half
+  unfolding nextLow
+  next-upper low half e = rw (nextLow, e)
+
   -- where the search is: leaves from low up to high, among them one that begins the window
   pub record Between (low high : ℕ) : Type 0 where
     pub rising : low ≤ high
@@ -61,27 +69,38 @@ module _ {A : Type 0} (c : Code A) (window : List ℕ) where
     pub some : 0 < c .leaves → low < high
     pub holds : Sorted c → (k : ℕ) → k < c .leaves → Begins c k (digits window) → (low ≤ k) × (k < high)
 
-  pub between-all : (n : ℕ) → n ≡ c .leaves → Between 0 n
+  pub between-all : (n : ℕ) → n ≡ c .leaves → Between 0 (0 + n)
   between-all n all = record { rising = omega arith; inside = omega arith; some = λ h. omega arith; holds = λ s k h b. omega arith }
 
-  module _ (low high middle : ℕ) (at : Between low high) (l : low < middle) (h : middle < high) where
-    pub between-lower : above c window middle ≡ true → Between low middle
-    between-lower e =
+  module _ (low size half : ℕ) (at : Between low (low + size)) (some : 0 < half) (l : half < size) where
+    between-lower : half + half ≤ size → above c window (low + half) ≡ true → Between low (low + (size - half))
+    between-lower h e =
         record {
           rising = omega arith;
           inside = omega (arith, at .inside);
-          some = λ _. l;
-          holds = λ s k leaf b. (at .holds s k leaf b .0, above-later s k leaf b middle (omega (arith, at .inside)) e);
+          some = λ _. omega arith;
+          holds = λ s k leaf b. (at .holds s k leaf b .0, omega (arith, above-later s k leaf b (low + half) (omega (arith, at .inside)) e));
         }
 
-    pub between-upper : above c window middle ≡ false → Between middle high
+    between-upper : above c window (low + half) ≡ false → Between (low + half) (low + half + (size - half))
     between-upper e =
         record {
           rising = omega arith;
-          inside = at .inside;
-          some = λ _. h;
-          holds = λ s k leaf b. (not-above s k leaf b middle (omega (arith, at .inside)) e, at .holds s k leaf b .1);
+          inside = omega (arith, at .inside);
+          some = λ _. omega arith;
+          holds = λ s k leaf b. (not-above s k leaf b (low + half) (omega (arith, at .inside)) e, omega (arith, at .holds s k leaf b .1));
         }
+
+    -- by either half, of which the upper one is the larger
+    pub between-next : half + half ≤ size → (next : ℕ) → next ≡ nextLow c window low half → Between next (next + (size - half))
+    between-next h next e = either (above c window (low + half)) refl
+      where
+        at-next : (n : ℕ) → n ≡ nextLow c window low half → Between n (n + (size - half)) → Between next (next + (size - half))
+        at-next n q b = subst (λ (n : ℕ). Between n (n + (size - half))) (q ∙ sym e) b
+
+        either : (b : Bool) → above c window (low + half) ≡ b → Between next (next + (size - half))
+        either true q = at-next low (next-lower low half q) (between-lower h q)
+        either false q = at-next (low + half) (next-upper low half q) (between-upper q)
 
   pub between-one : (low high : ℕ) → Between low high → high ≤ low + 1 → LookedUp c window low
   between-one low high at h =

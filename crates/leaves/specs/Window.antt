@@ -1,8 +1,8 @@
 -- The look-up: from a window of eight input indexes to the number of the leaf that begins it.
 use mathlib.Core.Path.{_≡_}
-use mathlib.Core.Bool.{Bool}
+use mathlib.Core.Bool.{Bool, true, false}
 use mathlib.Core.List.{List}
-use Prim.Native.Nat.{ℕ, suc, _<_, _≤_, min}
+use Prim.Native.Nat.{ℕ, suc, _+_, _<_, _≤_, min}
 use lib.ListN.{getD}
 use Rattle.numeration.specs.Code.{Code, lower, Precedes, HasLeaf, leafOf}
 
@@ -14,6 +14,10 @@ module _ {A : Type 0} (c : Code A) where
   -- the word of leaf k is above the window, as far as both reach
   unfoldable pub above : List ℕ → ℕ → Bool
   above window k = lower (digits window) (c .digit k) (min (c .size k) 8)
+
+  -- where a binary search goes on that stands at `low`, by the leaf at a distance
+  unfoldable pub nextLow : List ℕ → ℕ → ℕ → ℕ
+  nextLow window low half = elim (above window (low + half)) [ true ↦ low | false ↦ low + half ]
 
   -- what the look-up needs of a code: words of at most eight digits, each above the previous one
   pub record Sorted : Type 0 where

@@ -153,19 +153,28 @@ fn above(leaves: &[u8], words: &[u8], window: &[u8; 8], leaf: usize) -> bool
     lower(window, 0, words, start, least(length, LONGEST))
 }
 
+// Where the search goes on: in the lower half, or in the upper one. One number is chosen, without a jump that could be guessed wrong.
+fn next_low(leaves: &[u8], words: &[u8], window: &[u8; 8], low: usize, half: usize) -> usize
+    requires { ⌜ low + half < leafCount (now leaves) ⌝ }
+    ensures { λ r. ⌜ r ≡ windows.nextLow (codeOf (now (leaves .entry)) (now (words .entry))) (now (window .entry)) low half ⌝ }
+{
+    if above(leaves, words, window, low + half) {
+        low
+    } else {
+        low + half
+    }
+}
+
 // The number of the leaf whose word begins the window, by binary search of the ordered words.
 pub fn look_up(leaves: &[u8], words: &[u8], window: [u8; 8]) -> usize
     ensures { λ r. ⌜ windows.LookedUp (codeOf (now (leaves .entry)) (now (words .entry))) window r ⌝ }
 {
     let mut low = 0;
-    let mut high = leaf_count(leaves);
-    while low + 1 < high {
-        let middle = low + (high - low) / 2;
-        if above(leaves, words, &window, middle) {
-            high = middle;
-        } else {
-            low = middle;
-        }
+    let mut size = leaf_count(leaves);
+    while 1 < size {
+        let half = size / 2;
+        low = next_low(leaves, words, &window, low, half);
+        size -= half;
     }
     low
 }

@@ -1,48 +1,42 @@
-use mathlib.Core.Path.{sym, _∙_}
-use Prim.Native.Nat.{_-_}
-use native.Mathlib.Omega.{arith}
-use borrow.Author.Needs.{needs}
+use Rattle.leaves.proofs.Search.{Between, between-all, between-next, between-one}
 use Rattle.leaves.specs.Leaf.{codeOf}
-use Rattle.leaves.proofs.Search.{Between, between-all, between-lower, between-upper, between-one}
+use borrow.Author.Needs.{needs}
+use native.Mathlib.Omega.{arith}
+use Prim.Native.Nat.{_+_}
 use Rattle.leaves.proofs.look_up.Statement.{statement}
 use Rattle.leaves.proofs.look_up.Tie as tie
 
 abbrev Inv-loop : tie.InvT-loop
-Inv-loop leaves words window low₀ high₀ low high = Between (codeOf leaves words) window low high
+Inv-loop leaves words window low₀ size₀ low size = Between (codeOf leaves words) window low (low + size)
 
 abbrev μ-loop : tie.MeasureT-loop
-μ-loop leaves words window low₀ high₀ low high = high - low
+μ-loop leaves words window low₀ size₀ low size = size
 
+-- src/lib.rt:173:9
 leaf-count-requires : tie.Need-leaf-count-requires Inv-loop μ-loop
 leaf-count-requires c κs = search needs
 
+-- src/lib.rt:174:5
 loop-holds : tie.Need-loop-holds Inv-loop μ-loop
 loop-holds c = between-all _ _ _ (c .leaf-count .ensures)
 
-add-loop : tie.Need-add-loop Inv-loop μ-loop
-add-loop c = search needs
+-- src/lib.rt:176:9
+next-low-requires : tie.Need-next-low-requires Inv-loop μ-loop
+next-low-requires c κs = omega (arith, c .before .before .loop .inv .inside)
 
-sub-middle : tie.Need-sub-middle Inv-loop μ-loop
-sub-middle c = search needs
+-- src/lib.rt:177:9
+sub-size : tie.Need-sub-size Inv-loop μ-loop
+sub-size c = omega arith
 
-add-middle : tie.Need-add-middle Inv-loop μ-loop
-add-middle c = search needs
-
-above-requires : tie.Need-above-requires Inv-loop μ-loop
-above-requires c κs = omega arith
-
+-- src/lib.rt:174:5
 loop-less : tie.Need-loop-less Inv-loop μ-loop
 loop-less c = omega arith
 
+-- src/lib.rt:174:5
 loop-again : tie.Need-loop-again Inv-loop μ-loop
-loop-again c = between-lower _ _ _ _ _ (c .before .before .before .before .loop .inv) (omega arith) (omega arith) (sym (c .before .above .ensures) ∙ c .if1 .taken)
+loop-again c = between-next _ _ _ _ _ (c .before .before .before .loop .inv) (omega arith) (omega arith) (omega arith) _ (c .next-low .ensures)
 
-loop-less-2 : tie.Need-loop-less-2 Inv-loop μ-loop
-loop-less-2 c = omega arith
-
-loop-again-2 : tie.Need-loop-again-2 Inv-loop μ-loop
-loop-again-2 c = between-upper _ _ _ _ _ (c .before .before .before .before .loop .inv) (omega arith) (omega arith) (sym (c .before .above .ensures) ∙ c .if1 .left)
-
+-- src/lib.rt:169:1
 returns : tie.Need-returns Inv-loop μ-loop
 returns c = between-one _ _ _ _ (c .before .loop .inv) (omega arith)
 
@@ -54,12 +48,8 @@ look-up-spec =
     μ-loop
     leaf-count-requires
     loop-holds
-    add-loop
-    sub-middle
-    add-middle
-    above-requires
+    next-low-requires
+    sub-size
     loop-less
     loop-again
-    loop-less-2
-    loop-again-2
     returns)
