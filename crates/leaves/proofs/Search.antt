@@ -9,7 +9,7 @@ use Rattle.lists.proofs.Test.{clash}
 use Rattle.numeration.specs.Code.{Code, Lower, Precedes, Begins}
 use Rattle.numeration.proofs.Agreement.{lower-sound, lower-complete}
 use Rattle.numeration.proofs.Leaves.{precedes-all, ordered-separate, leafOf-unique}
-use Rattle.leaves.specs.Window.{digits, above, nextLow, Sorted, LookedUp}
+use Rattle.leaves.specs.Window.{digits, above, nextLow, Sorted, Between, LookedUp}
 
 module _ {A : Type 0} (c : Code A) (window : List ℕ) where
   -- a leaf k that begins the window, beside any other
@@ -62,18 +62,11 @@ module _ {A : Type 0} (c : Code A) (window : List ℕ) where
   unfolding nextLow
   next-upper low half e = rw (nextLow, e)
 
-  -- where the search is: leaves from low up to high, among them one that begins the window
-  pub record Between (low high : ℕ) : Type 0 where
-    pub rising : low ≤ high
-    pub inside : high ≤ c .leaves
-    pub some : 0 < c .leaves → low < high
-    pub holds : Sorted c → (k : ℕ) → k < c .leaves → Begins c k (digits window) → (low ≤ k) × (k < high)
-
-  pub between-all : (n : ℕ) → n ≡ c .leaves → Between 0 (0 + n)
+  pub between-all : (n : ℕ) → n ≡ c .leaves → Between c window 0 (0 + n)
   between-all n all = record { rising = omega arith; inside = omega arith; some = λ h. omega arith; holds = λ s k h b. omega arith }
 
-  module _ (low size half : ℕ) (at : Between low (low + size)) (some : 0 < half) (l : half < size) where
-    between-lower : half + half ≤ size → above c window (low + half) ≡ true → Between low (low + (size - half))
+  module _ (low size half : ℕ) (at : Between c window low (low + size)) (some : 0 < half) (l : half < size) where
+    between-lower : half + half ≤ size → above c window (low + half) ≡ true → Between c window low (low + (size - half))
     between-lower h e =
         record {
           rising = omega arith;
@@ -82,7 +75,7 @@ module _ {A : Type 0} (c : Code A) (window : List ℕ) where
           holds = λ s k leaf b. (at .holds s k leaf b .0, omega (arith, above-later s k leaf b (low + half) (omega (arith, at .inside)) e));
         }
 
-    between-upper : above c window (low + half) ≡ false → Between (low + half) (low + half + (size - half))
+    between-upper : above c window (low + half) ≡ false → Between c window (low + half) (low + half + (size - half))
     between-upper e =
         record {
           rising = omega arith;
@@ -92,17 +85,27 @@ module _ {A : Type 0} (c : Code A) (window : List ℕ) where
         }
 
     -- by either half, of which the upper one is the larger
-    pub between-next : half + half ≤ size → (next : ℕ) → next ≡ nextLow c window low half → Between next (next + (size - half))
+    pub between-next : half + half ≤ size → (next : ℕ) → next ≡ nextLow c window low half → Between c window next (next + (size - half))
     between-next h next e = either (above c window (low + half)) refl
       where
-        at-next : (n : ℕ) → n ≡ nextLow c window low half → Between n (n + (size - half)) → Between next (next + (size - half))
-        at-next n q b = subst (λ (n : ℕ). Between n (n + (size - half))) (q ∙ sym e) b
+        at-next : (n : ℕ) → n ≡ nextLow c window low half → Between c window n (n + (size - half)) → Between c window next (next + (size - half))
+        at-next n q b = subst (λ (n : ℕ). Between c window n (n + (size - half))) (q ∙ sym e) b
 
-        either : (b : Bool) → above c window (low + half) ≡ b → Between next (next + (size - half))
+        either : (b : Bool) → above c window (low + half) ≡ b → Between c window next (next + (size - half))
         either true q = at-next low (next-lower low half q) (between-lower h q)
         either false q = at-next (low + half) (next-upper low half q) (between-upper q)
 
-  pub between-one : (low high : ℕ) → Between low high → high ≤ low + 1 → LookedUp c window low
+  -- and from a place that was tried at both ends
+  pub between-tried : (low high : ℕ) → low < high → high ≤ c .leaves → above c window low ≡ false → (high < c .leaves → above c window high ≡ true) → Between c window low high
+  between-tried low high some inside below up =
+      record {
+        rising = omega arith;
+        inside = inside;
+        some = λ _. some;
+        holds = λ s k leaf b. (not-above s k leaf b low (omega arith) below, elim (decLt high (c .leaves)) [ yes h ↦ above-later s k leaf b high h (up h) | no h ↦ omega arith ]);
+      }
+
+  pub between-one : (low high : ℕ) → Between c window low high → high ≤ low + 1 → LookedUp c window low
   between-one low high at h =
       record {
         a-leaf = λ n. omega (arith, at .some n, at .inside);

@@ -4,7 +4,7 @@ use mathlib.Core.Bool.{Bool, true, false}
 use mathlib.Core.List.{List}
 use Prim.Native.Nat.{ℕ, suc, _+_, _<_, _≤_, min}
 use lib.ListN.{getD}
-use Rattle.numeration.specs.Code.{Code, lower, Precedes, HasLeaf, leafOf}
+use Rattle.numeration.specs.Code.{Code, lower, Precedes, Begins, HasLeaf, leafOf}
 
 -- a window as a string
 abbrev pub digits : List ℕ → ℕ → ℕ
@@ -23,6 +23,13 @@ module _ {A : Type 0} (c : Code A) where
   pub record Sorted : Type 0 where
     pub short : (k : ℕ) → k < c .leaves → c .size k ≤ 8
     pub ordered : (k : ℕ) → suc k < c .leaves → Precedes c k (suc k)
+
+  -- where the look-up's search stands: the leaf that begins the window, if there is one, is among those from low up to high
+  pub record Between (window : List ℕ) (low high : ℕ) : Type 0 where
+    pub rising : low ≤ high
+    pub inside : high ≤ c .leaves
+    pub some : 0 < c .leaves → low < high
+    pub holds : Sorted → (k : ℕ) → k < c .leaves → Begins c k (digits window) → (low ≤ k) × (k < high)
 
   -- "the one leaf whose word begins": what the look-up's answer r is, where there are leaves, and where one begins the window
   pub record LookedUp (window : List ℕ) (r : ℕ) : Type 0 where

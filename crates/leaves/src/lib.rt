@@ -165,18 +165,62 @@ fn next_low(leaves: &[u8], words: &[u8], window: &[u8; 8], low: usize, half: usi
     }
 }
 
-// The number of the leaf whose word begins the window, by binary search of the ordered words.
-pub fn look_up(leaves: &[u8], words: &[u8], window: [u8; 8]) -> usize
-    ensures { λ r. ⌜ windows.LookedUp (codeOf (now (leaves .entry)) (now (words .entry))) window r ⌝ }
+// The number of the leaf whose word begins the window, by binary search of the ordered words, in a part that has it.
+fn search_part(leaves: &[u8], words: &[u8], window: &[u8; 8], from: usize, count: usize) -> usize
+    requires { ⌜ windows.Between (codeOf (now leaves) (now words)) (now window) from (from + count) ⌝ }
+    ensures { λ r. ⌜ windows.LookedUp (codeOf (now (leaves .entry)) (now (words .entry))) (now (window .entry)) r ⌝ }
 {
-    let mut low = 0;
-    let mut size = leaf_count(leaves);
+    let mut low = from;
+    let mut size = count;
     while 1 < size {
         let half = size / 2;
-        low = next_low(leaves, words, &window, low, half);
+        low = next_low(leaves, words, window, low, half);
         size -= half;
     }
     low
+}
+
+// The number of the leaf whose word begins the window.
+pub fn look_up(leaves: &[u8], words: &[u8], window: [u8; 8]) -> usize
+    ensures { λ r. ⌜ windows.LookedUp (codeOf (now (leaves .entry)) (now (words .entry))) window r ⌝ }
+{
+    search_part(leaves, words, &window, 0, leaf_count(leaves))
+}
+
+// Whether the leaf that begins the window must be among those from low up to high.
+fn is_between(leaves: &[u8], words: &[u8], window: &[u8; 8], low: usize, high: usize) -> bool
+    ensures { λ r. ⌜ (r ≡ true → windows.Between (codeOf (now (leaves .entry)) (now (words .entry))) (now (window .entry)) low high) ⌝ }
+{
+    let count = leaf_count(leaves);
+    if high <= low {
+        return false;
+    }
+    if count < high {
+        return false;
+    }
+    if above(leaves, words, window, low) {
+        return false;
+    }
+    if count <= high {
+        return true;
+    }
+    above(leaves, words, window, high)
+}
+
+// The look-up with a part of the leaves that may have the one: all are searched where it can't be told.
+pub fn look_up_within(
+    leaves: &[u8],
+    words: &[u8],
+    window: [u8; 8],
+    low: usize,
+    high: usize,
+) -> usize
+    ensures { λ r. ⌜ windows.LookedUp (codeOf (now (leaves .entry)) (now (words .entry))) window r ⌝ }
+{
+    if is_between(leaves, words, &window, low, high) {
+        return search_part(leaves, words, &window, low, high - low);
+    }
+    look_up(leaves, words, window)
 }
 
 // Whether a leaf's word begins the window.
