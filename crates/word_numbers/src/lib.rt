@@ -59,7 +59,7 @@ pub fn word_number(words: &[u8], start: usize, length: usize) -> u64
     eight(words, end - LONGEST) << (8 * (LONGEST - length))
 }
 
-// The same, where the number of the words that share its digits is known: what stands behind the word is masked out.
+// The same, where it is known how many strings of eight bytes begin with such a word: what stands behind the word is masked out.
 pub fn word_number_by(words: &[u8], start: usize, length: usize, unit: u64) -> u64
     requires { ⌜ (length ≤ 8) × (start + length ≤ lib.ListN.length (now words)) × (unit ≡ 256 ^ (8 - length)) ⌝ }
     ensures { λ r. ⌜ r ≡ aligned 256 (λ i. getD (now (words .entry)) (start + i) 0) length ⌝ }
