@@ -13,21 +13,6 @@ use faults::Refusal;
 // The most digits of a word.
 const LONGEST: usize = 8;
 
-// The highest byte, 0 where there is none.
-fn highest(bytes: &[u8]) -> u8
-    ensures { λ r. ⌜ ((k : ℕ) → k < length (now (bytes .entry)) → getD (now (bytes .entry)) k 0 ≤ r) ⌝ }
-{
-    let mut top = 0;
-    let mut i = 0;
-    while i < bytes.len() {
-        if top < bytes[i] {
-            top = bytes[i];
-        }
-        i += 1;
-    }
-    top
-}
-
 // Whether a word that is to start at a place starts there, has 1 to 8 digits and ends within section 4 of so many bytes.
 fn lies(start: usize, length: usize, place: usize, all: usize) -> bool
     requires { ⌜ (start < 65536) × (length < 65536) ⌝ }
@@ -92,7 +77,7 @@ fn well_coded(leaves: &[u8], words: &[u8], inputs: usize) -> bool
     if 8191 < leaves::leaf_count(leaves) {
         return false;
     }
-    if inputs <= leaves::wide(highest(words)) {
+    if inputs <= leaves::wide(octets::highest(words)) {
         return false;
     }
     numbered(leaves, words, inputs as u64)

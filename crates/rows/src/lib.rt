@@ -49,6 +49,13 @@ fn first_outside(row: &[u8], digits: usize) -> usize
 fn index_check(number: usize, row: &[u8], digits: usize) -> Refusal
     ensures { λ r. ⌜ r ≡ indexCheck number digits (now (row .entry)) ⌝ }
 {
+    // the highest byte says yes at once; the scan names the place
+    if (octets::highest(row) as usize) < digits {
+        return Refusal {
+            number: 0,
+            place: 0,
+        };
+    }
     let place = first_outside(row, digits);
     if place < row.len() {
         return Refusal {

@@ -1,11 +1,12 @@
 // The value of a row of digits, with rule 28 of document 01.
 ghost use mathlib.Core.Path.{_≡_};
-ghost use Prim.Native.Nat.{_^_, _<_};
+ghost use Prim.Native.Nat.{ℕ, _^_, _≤_, _<_};
 ghost use lib.ListN.{length};
 ghost use lib.IntN.{natAbs};
 ghost use lib.Dec.{leb};
-ghost use Rattle.ring.specs.Element.{Within};
+ghost use Rattle.ring.specs.Element.{zeros, Within};
 ghost use Rattle.ring.specs.Matrix.{RowsWithin};
+ghost use Rattle.layout_rules.specs.Section.{degree};
 ghost use Rattle.midpoint.specs.Midpoint.{parts};
 ghost use Rattle.worth_rules.specs.Total.{largest, limited, Indexed, digitAt, worthOf};
 ghost use Rattle.worth.specs.Answer.{outcomeOf};
@@ -52,13 +53,26 @@ fn shown(x: [i64; 2]) -> Element
     }
 }
 
+// The count of places without the zeros at the top, where index 0 is the digit zero.
+fn counted_places(alphabet: &[u8], row: &[u8]) -> usize
+    ensures { λ r. ⌜ (r ≤ length (now (row .entry))) × ((k : ℕ) → r ≤ k → k < length (now (row .entry)) → digitAt (now (alphabet .entry)) (now (row .entry)) k ≡ zeros degree) ⌝ }
+{
+    if layout::record_count(alphabet, 1) == 0 {
+        return row.len();
+    }
+    if !ring::equal(digits::record_at(alphabet, 0), [0, 0]) {
+        return row.len();
+    }
+    octets::significant(row)
+}
+
 // The value of a row, from the top place down: base times total plus digit.
 pub fn row_value(base: [[i64; 2]; 2], alphabet: &[u8], row: &[u8]) -> Worth
     requires { ⌜ RowsWithin (2 ^ 24) base × Indexed (now alphabet) (now row) ⌝ }
     ensures { λ r. ⌜ outcomeOf r ≡ worthOf base (now (alphabet .entry)) (now (row .entry)) ⌝ }
 {
     let mut total: [i64; 2] = [0, 0];
-    let mut left = row.len();
+    let mut left = counted_places(alphabet, row);
     while 0 < left {
         let place = left - 1;
         let product = ring::times_base(base, total);

@@ -2,11 +2,21 @@
 use mathlib.Core.Path.{_≡_, refl, sym, ap, _∙_}
 use mathlib.Core.Bool.{true, false}
 use mathlib.Core.List.{List}
-use Prim.Native.Nat.{ℕ, suc, _-_, _<_, _≤_}
+use Prim.Native.Nat.{ℕ, zero, suc, _-_, _<_, _≤_}
+use native.Mathlib.Decide.{decLt}
 use native.Mathlib.Omega.{arith}
 use lib.IntN.{ℤ}
+use lib.ListN.{length}
+use Rattle.ring.specs.Element.{zeros, plus}
+use Rattle.numeration.specs.Elements.{elements, HasParts}
+use Rattle.numeration.proofs.Elements.{elements-group}
+use Rattle.numeration.proofs.Sums.{base-none}
 use Rattle.faults.specs.Outcome.{facts, refused, rows}
+use Rattle.layout_rules.specs.Section.{degree}
 use Rattle.worth_rules.specs.Total.{limited, nextTotal, worthFrom}
+
+le-zero : (left : ℕ) → left ≤ 0 → left ≡ 0
+le-zero left none = omega arith
 
 counted : (left : ℕ) → 0 < left → left ≡ suc (left - 1)
 counted left some = omega arith
@@ -42,6 +52,20 @@ module _ (base : List (List ℤ)) (digit : ℕ → List ℤ) where
 
   pub end : (left : ℕ) (total : List ℤ) → left ≤ 0 → facts total ≡ worthFrom base digit left total
   end left total none = sym (ap (λ (k : ℕ). worthFrom base digit k total) (le-zero left none) ∙ worth-end total)
-    where
-      le-zero : (left : ℕ) → left ≤ 0 → left ≡ 0
-      le-zero left none = omega arith
+
+-- a zero digit leaves the total zero
+zeros-next : (base : List (List ℤ)) → length base ≡ degree → zeros degree ≡ nextTotal base (zeros degree) (zeros degree)
+unfolding elements
+zeros-next base h =
+    let g = elements-group degree base h in
+    sym (ap (λ x. plus x (zeros degree)) (base-none (elements degree base) (HasParts degree) g) ∙ g .unit (g .element-none))
+
+-- so zeros at the top change nothing
+pub zeros-passed : (base : List (List ℤ)) (digit : ℕ → List ℤ) → length base ≡ degree → (left n : ℕ) → left ≤ n → ((k : ℕ) → left ≤ k → k < n → digit k ≡ zeros degree) → worthFrom base digit left (zeros degree) ≡ worthFrom base digit n (zeros degree)
+unfolding limited
+zeros-passed base digit h left zero low none = ap (λ (k : ℕ). worthFrom base digit k (zeros degree)) (le-zero left low)
+zeros-passed base digit h left (suc n) low none =
+    elim (decLt left (suc n)) [
+      | yes l ↦ zeros-passed base digit h left n (omega arith) (λ k a b. none k a (omega arith)) ∙ sym (worth-next base digit n (zeros degree) (zeros degree) (zeros-next base h ∙ ap (nextTotal base (zeros degree)) (sym (none n (omega arith) (omega arith)))) refl)
+      | no l ↦ let same : left ≡ suc n = omega arith in ap (λ (k : ℕ). worthFrom base digit k (zeros degree)) same
+    ]

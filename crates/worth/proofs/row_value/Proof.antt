@@ -1,18 +1,19 @@
 -- Before each place the total is within the limit, and the row leads on from it where it leads from zero.
-use mathlib.Core.Path.{_≡_, refl, sym, ap, ap₂, _∙_}
-use Prim.Native.Nat.{_≤_, _-_, _^_, zero-le}
-use native.Mathlib.Omega.{arith}
-use lib.Dec.{lit≤}
-use lib.IntN.{pos}
-use lib.ListN.{length}
-use borrow.Author.Tests.{not-true, not-false}
-use Rattle.faults.specs.Outcome.{facts}
-use Rattle.ring.proofs.Element.{within-le}
-use Rattle.ring.proofs.Parts.{within-two}
-use Rattle.ring.specs.Element.{Within, plus}
-use Rattle.worth_rules.specs.Total.{largest, digitAt, nextTotal, worthFrom, worthOf}
+use Rattle.worth_rules.proofs.Total.{turn, stop, end, zeros-passed}
 use Rattle.worth_rules.proofs.Limit.{limited-within}
-use Rattle.worth_rules.proofs.Total.{turn, stop, end}
+use Rattle.worth_rules.specs.Total.{largest, digitAt, nextTotal, worthFrom, worthOf}
+use Rattle.ring.specs.Element.{Within, plus}
+use Rattle.ring.proofs.Parts.{within-two}
+use Rattle.ring.proofs.Element.{within-le}
+use Rattle.faults.specs.Outcome.{facts}
+use borrow.Author.Needs.{needs}
+use borrow.Author.Tests.{not-true, not-false}
+use lib.ListN.{length}
+use lib.IntN.{pos}
+use lib.Dec.{lit≤}
+use native.Mathlib.Omega.{arith}
+use Prim.Native.Nat.{_≤_, _-_, _^_, zero-le}
+use mathlib.Core.Path.{_≡_, sym, ap, ap₂, _∙_}
 use Rattle.worth.proofs.row_value.Statement.{statement}
 use Rattle.worth.proofs.row_value.Tie as tie
 
@@ -23,21 +24,25 @@ abbrev μ-loop : tie.MeasureT-loop
 μ-loop base alphabet row total₀ left₀ total left = left
 
 -- what was computed at a place
-next-is : (c : tie.After-sum Inv-loop μ-loop) → c .sum .result ≡ nextTotal (c .before .before .before .before .before .before .before .args .base) (c .before .before .before .before .loop .total) (digitAt (c .before .before .before .before .before .before .before .args .alphabet .now) (c .before .before .before .before .before .before .before .args .row .now) (c .before .before .before .before .loop .left - 1))
+next-is : (c : tie.After-sum Inv-loop μ-loop) → c .sum .result ≡ nextTotal (c .before .before .before .before .before .before .before .before .args .base) (c .before .before .before .before .loop .total) (digitAt (c .before .before .before .before .before .before .before .before .args .alphabet .now) (c .before .before .before .before .before .before .before .before .args .row .now) (c .before .before .before .before .loop .left - 1))
 next-is c = c .sum .ensures ∙ ap₂ plus (c .before .before .times-base .ensures .0) (c .before .digit-at .ensures .0)
+
+counted-places-requires : tie.Need-counted-places-requires Inv-loop μ-loop
+counted-places-requires c κs = tt
 
 loop-holds : tie.Need-loop-holds Inv-loop μ-loop
 unfolding worthOf
-loop-holds c = (omega arith, within-two largest (pos 0) (pos 0) zero-le zero-le, refl)
+loop-holds c =
+    (c .counted-places .ensures .0, within-two largest (pos 0) (pos 0) zero-le zero-le, zeros-passed (c .before .before .before .args .base) (digitAt (c .before .before .before .args .alphabet .now) (c .before .before .before .args .row .now)) (search needs) (c .counted-places .result) (length (c .before .before .before .args .row .now)) (c .counted-places .ensures .0) (c .counted-places .ensures .1))
 
 sub-place : tie.Need-sub-place Inv-loop μ-loop
 sub-place c = omega arith
 
 times-base-requires : tie.Need-times-base-requires Inv-loop μ-loop
-times-base-requires c κs = (c .before .before .before .before .pre .0, within-le largest (2 ^ 32) _ (lit≤ tt) (c .before .loop .inv .1))
+times-base-requires c κs = (c .before .before .before .before .before .pre .0, within-le largest (2 ^ 32) _ (lit≤ tt) (c .before .loop .inv .1))
 
 digit-at-requires : tie.Need-digit-at-requires Inv-loop μ-loop
-digit-at-requires c κs = (omega arith, c .before .before .before .before .before .pre .1)
+digit-at-requires c κs = (omega arith, c .before .before .before .before .before .before .pre .1)
 
 sum-requires : tie.Need-sum-requires Inv-loop μ-loop
 sum-requires c κs = (within-le (2 ^ 57) (2 ^ 61) _ (lit≤ tt) (c .before .times-base .ensures .1), within-le 32768 (2 ^ 61) _ (lit≤ tt) (c .digit-at .ensures .1))
@@ -68,6 +73,7 @@ row-value-spec =
     (tie.spec
     Inv-loop
     μ-loop
+    counted-places-requires
     loop-holds
     sub-place
     times-base-requires

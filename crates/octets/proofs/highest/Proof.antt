@@ -1,10 +1,10 @@
-use Rattle.prefix_code.proofs.Quick.{one-more}
+use borrow.Author.Count.{below-more}
 use lib.ListN.{length, getD}
 use native.Mathlib.Omega.{arith}
 use Prim.Native.Nat.{ℕ, _≤_, _<_, _-_}
 use mathlib.Core.Logic.{⊎-elim}
-use Rattle.prefix_code.proofs.highest.Statement.{statement}
-use Rattle.prefix_code.proofs.highest.Tie as tie
+use Rattle.octets.proofs.highest.Statement.{statement}
+use Rattle.octets.proofs.highest.Tie as tie
 
 abbrev Inv-loop : tie.InvT-loop
 Inv-loop bytes top₀ i₀ top i = (k : ℕ) → k < i → getD bytes k 0 ≤ top
@@ -12,33 +12,26 @@ Inv-loop bytes top₀ i₀ top i = (k : ℕ) → k < i → getD bytes k 0 ≤ to
 abbrev μ-loop : tie.MeasureT-loop
 μ-loop bytes top₀ i₀ top i = length bytes - i
 
--- src/lib.rt:366:5
 loop-holds : tie.Need-loop-holds Inv-loop μ-loop
 loop-holds c = λ k h. absurd (omega arith)
 
--- src/lib.rt:367:18
 shared-slice-read-if1 : tie.Need-shared-slice-read-if1 Inv-loop μ-loop
 shared-slice-read-if1 c = omega arith
 
--- src/lib.rt:368:19
 shared-slice-read-top : tie.Need-shared-slice-read-top Inv-loop μ-loop
 shared-slice-read-top c = omega arith
 
--- src/lib.rt:370:9
 add-i : tie.Need-add-i Inv-loop μ-loop
 add-i c = omega arith
 
--- src/lib.rt:366:5
 loop-less : tie.Need-loop-less Inv-loop μ-loop
 loop-less c = omega arith
 
--- src/lib.rt:366:5
 loop-again : tie.Need-loop-again Inv-loop μ-loop
 loop-again c =
     let bytes = c .before .before .before .before .args .bytes .now in
-    ⊎-elim (λ t. one-more (λ k. getD bytes k 0 ≤ c .if1 .top) (c .before .before .before .loop .i) (λ k h. omega (arith, c .before .before .before .loop .inv k h, t .0 .taken, t .2)) (omega (arith, t .2))) (λ t. one-more (λ k. getD bytes k 0 ≤ c .if1 .top) (c .before .before .before .loop .i) (λ k h. omega (arith, c .before .before .before .loop .inv k h, t .1)) (omega (arith, t .0 .left, t .1))) (c .if1 .came)
+    ⊎-elim (λ t. below-more (λ k. getD bytes k 0 ≤ c .if1 .top) (c .before .before .before .loop .i) (λ k h. omega (arith, c .before .before .before .loop .inv k h, t .0 .taken, t .2)) (omega (arith, t .2))) (λ t. below-more (λ k. getD bytes k 0 ≤ c .if1 .top) (c .before .before .before .loop .i) (λ k h. omega (arith, c .before .before .before .loop .inv k h, t .1)) (omega (arith, t .0 .left, t .1))) (c .if1 .came)
 
--- src/lib.rt:361:1
 returns : tie.Need-returns Inv-loop μ-loop
 returns c = λ k h. c .before .loop .inv k (omega arith)
 
