@@ -18,9 +18,13 @@ ghost use Rattle.row_rules.specs.Changed.{changed};
 ghost use Rattle.places.specs.Place.{inputAt, Known, partRow, alphabetIndex, indexAt, digitAllowed, Begun, Firsts};
 use row_rules::Change;
 
-// The slots that leaves are kept in by the windows they begin, and alphabet digits by their elements.
-const WINDOWS: usize = 256;
+// One more than the first digits of windows.
+const STARTS: usize = 257;
 
+// Fewer places than this are an edit's.
+const FEW: usize = 16;
+
+// The slots that alphabet digits are kept in by their elements.
 const DIGITS: usize = 64;
 
 // The input index of the sum of two rows' digits at a place, the rows read with the change made. A sum is looked for once and then
@@ -133,48 +137,74 @@ fn begins_below(
     true
 }
 
-// The leaf that begins the window below a place: the guessed one where it does, else by the search.
-fn leaf_below(leaves: &[u8], words: &[u8], row: &[u8], place: usize, first: u8, guess: u16) -> usize
-    requires { ⌜ Begun (now leaves) (now words) (now row) × (first ≡ window (now row) place 0) ⌝ }
-    ensures { λ r. ⌜ weightGiven (now (leaves .entry)) r ≡ weightInto (codeOf (now (leaves .entry)) (now (words .entry))) (now (row .entry)) place ⌝ }
-{
-    let leaf = guess as usize;
-    if leaf < leaves::leaf_count(leaves) {
-        if begins_below(leaves, words, row, place, first, leaf) {
-            return leaf;
-        }
-    }
-    leaves::look_up(leaves, words, window_below(row, place))
-}
-
-// The slot of the window below a place: by its first digit where no word has more, else by the first two.
-fn window_slot(row: &[u8], place: usize, first: u8, single: bool) -> usize
-    ensures { λ r. ⌜ r < 256 ⌝ }
-{
-    let mut slot = first as usize;
-    if !single {
-        slot += 16 * digit_below(row, place, 1) as usize;
-    }
-    slot % WINDOWS
-}
-
-// The weight that a place gets from below. The leaf that was found last for a window of the same slot is tried before the search.
-fn weight_tried(
+// The leaf that begins the window below a place. Where no word has more than one digit the lower of two given leaves is tried, else the
+// leaves from it up to the other are searched; all are where that doesn't help.
+fn leaf_below(
     leaves: &[u8],
     words: &[u8],
     row: &[u8],
     place: usize,
     first: u8,
     single: bool,
-    found: &mut [u16; WINDOWS],
+    low: u16,
+    high: u16,
+) -> usize
+    requires { ⌜ Begun (now leaves) (now words) (now row) × (first ≡ window (now row) place 0) ⌝ }
+    ensures { λ r. ⌜ weightGiven (now (leaves .entry)) r ≡ weightInto (codeOf (now (leaves .entry)) (now (words .entry))) (now (row .entry)) place ⌝ }
+{
+    let leaf = low as usize;
+    if single {
+        if leaf < leaves::leaf_count(leaves) {
+            if begins_below(leaves, words, row, place, first, leaf) {
+                return leaf;
+            }
+        }
+    }
+    leaves::look_up_within(leaves, words, window_below(row, place), leaf, high as usize)
+}
+
+// The weight that a place gets from below, with the parts of the leaves by first digit.
+fn weight_within(
+    leaves: &[u8],
+    words: &[u8],
+    row: &[u8],
+    place: usize,
+    first: u8,
+    single: bool,
+    starts: &[u16; STARTS],
 ) -> [i64; 2]
     requires { ⌜ Begun (now leaves) (now words) (now row) × (first ≡ window (now row) place 0) ⌝ }
     ensures { λ r. ⌜ (r ≡ weightInto (codeOf (now (leaves .entry)) (now (words .entry))) (now (row .entry)) place) × Within 32768 r ⌝ }
 {
-    let slot = window_slot(row, place, first, single);
-    let leaf = leaf_below(leaves, words, row, place, first, found[slot]);
-    found[slot] = (leaf % 65536) as u16;
+    let digit = leaves::wide(first);
+    let leaf = leaf_below(
+        leaves,
+        words,
+        row,
+        place,
+        first,
+        single,
+        starts[digit],
+        starts[digit + 1],
+    );
     leaves::weight(leaves, leaf)
+}
+
+// For each first digit below a count the leaf that begins a window of it and zeros, which is the first with that digit, and behind them
+// the leaf count. The search of a window tries them, so that nothing depends on what they are.
+fn first_leaves(leaves: &[u8], words: &[u8], inputs: usize) -> [u16; STARTS] {
+    let mut starts = [0u16; STARTS];
+    if 255 < inputs {
+        return starts;
+    }
+    let mut digit = 0;
+    while digit < inputs {
+        let leaf = leaves::look_up(leaves, words, [digit as u8, 0, 0, 0, 0, 0, 0, 0]);
+        starts[digit] = (leaf % 65536) as u16;
+        digit += 1;
+    }
+    starts[inputs] = (leaves::leaf_count(leaves) % 65536) as u16;
+    starts
 }
 
 // The slot of an element. Those of a square of 8 by 8 have different ones.
@@ -223,6 +253,14 @@ fn out_index(
     index_of(alphabet, digit, slots)
 }
 
+// How many first digits are looked up beforehand: for the few places of an edit none, since that would cost more than it saves.
+fn digits_ahead(count: usize, inputs: usize) -> usize {
+    if count < FEW {
+        return 0;
+    }
+    inputs
+}
+
 // Writes the alphabet indexes of the digits at the places from `from` on, up to the first digit that isn't in the alphabet, at most
 // `count` of them; how many.
 pub fn convert(
@@ -241,13 +279,17 @@ pub fn convert(
 {
     let size = layout::record_count(alphabet, 1);
     let single = words.len() <= leaves::leaf_count(leaves);
-    let mut found = [0u16; WINDOWS];
+    let starts = first_leaves(
+        leaves,
+        words,
+        digits_ahead(count, layout::record_count(inputs, 2)),
+    );
     let mut slots = [0u8; DIGITS];
     let mut below = weight_into(leaves, words, row, from);
     let mut k = 0;
     while k < count {
         let first = leaves::byte_at(row, from + k);
-        let own = weight_tried(leaves, words, row, from + k + 1, first, single, &mut found);
+        let own = weight_within(leaves, words, row, from + k + 1, first, single, &starts);
         let input = first as usize;
         let index = out_index(base, alphabet, inputs, input, below, own, &mut slots);
         if size <= index {
