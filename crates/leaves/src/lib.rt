@@ -141,7 +141,7 @@ fn is_inside(words: &[u8], start: usize, length: usize) -> bool
 }
 
 // Whether a leaf's word is above the window at the first place where they differ.
-fn above(leaves: &[u8], words: &[u8], window: &[u8; 8], leaf: usize) -> bool
+fn above_any(leaves: &[u8], words: &[u8], window: &[u8; 8], leaf: usize) -> bool
     requires { ⌜ leaf < leafCount (now leaves) ⌝ }
     ensures { λ r. ⌜ r ≡ windows.above (codeOf (now (leaves .entry)) (now (words .entry))) (now (window .entry)) leaf ⌝ }
 {
@@ -151,6 +151,21 @@ fn above(leaves: &[u8], words: &[u8], window: &[u8; 8], leaf: usize) -> bool
         return word_numbers::eight(window, 0) < word_numbers::word_number(words, start, length);
     }
     lower(window, 0, words, start, least(length, LONGEST))
+}
+
+// The same, in few steps where the word doesn't end within the first eight bytes: small enough to be a part of the search.
+fn above(leaves: &[u8], words: &[u8], window: &[u8; 8], leaf: usize) -> bool
+    requires { ⌜ leaf < leafCount (now leaves) ⌝ }
+    ensures { λ r. ⌜ r ≡ windows.above (codeOf (now (leaves .entry)) (now (words .entry))) (now (window .entry)) leaf ⌝ }
+{
+    let start = word_start(leaves, leaf);
+    let length = word_length(leaves, leaf);
+    if LONGEST <= start + length {
+        if is_inside(words, start, length) {
+            return word_numbers::eight(window, 0) < word_numbers::late_number(words, start, length);
+        }
+    }
+    above_any(leaves, words, window, leaf)
 }
 
 // Where the search goes on: in the lower half, or in the upper one. One number is chosen, without a jump that could be guessed wrong.

@@ -1,0 +1,57 @@
+use Rattle.leaves.proofs.Comparison.{window-read, numbers-read}
+use native.Mathlib.Omega.{arith}
+use Prim.Native.Nat.{min}
+use mathlib.Core.Path.{_∙_, ap₂, refl}
+use borrow.Author.Needs.{needs}
+use Rattle.leaves.proofs.above_any.Statement.{statement}
+use Rattle.leaves.proofs.above_any.Tie as tie
+
+-- src/lib.rt:148:9
+word-start-requires : tie.Need-word-start-requires
+word-start-requires c κs = search needs
+
+-- src/lib.rt:149:9
+word-length-requires : tie.Need-word-length-requires
+word-length-requires c κs = search needs
+
+-- src/lib.rt:150:8
+is-inside-requires : tie.Need-is-inside-requires
+is-inside-requires c κs = search needs
+
+-- src/lib.rt:151:16
+eight-requires : tie.Need-eight-requires
+eight-requires c κs = search needs
+
+-- src/lib.rt:151:49
+word-number-requires : tie.Need-word-number-requires
+word-number-requires c κs = c .before .before .before .is-inside .ensures (c .before .before .if1 .taken)
+
+-- src/lib.rt:151:9
+returns : tie.Need-returns
+returns c = numbers-read (c .before .before .before .before .before .before .before .before .before .args .leaves .now) (c .before .before .before .before .before .before .before .before .before .args .words .now) (c .before .before .before .before .before .before .before .before .before .args .window .now) (c .before .before .before .before .before .before .before .before .before .args .leaf) (c .before .before .before .before .before .before .word-start .result) (c .before .before .before .before .before .word-length .result) (c .before .eight .result) (c .word-number .result) (c .before .before .before .before .before .before .word-start .ensures .0) (c .before .before .before .before .before .word-length .ensures .0) (c .before .before .before .before .is-inside .ensures (c .before .before .before .if1 .taken) .1) (c .before .eight .ensures .1) (λ i. omega (arith, c .before .before .before .before .before .before .before .shared-slice-known2 .given i)) (c .before .eight .ensures .0) (c .word-number .ensures)
+
+-- src/lib.rt:153:36
+least-requires : tie.Need-least-requires
+least-requires c κs = search needs
+
+-- src/lib.rt:153:5
+lower-requires : tie.Need-lower-requires
+lower-requires c κs = search needs
+
+-- src/lib.rt:144:1
+returns-2 : tie.Need-returns-2
+returns-2 c = c .lower .ensures ∙ window-read (c .before .before .before .before .before .before .before .before .before .args .leaves .now) (c .before .before .before .before .before .before .before .before .before .args .words .now) (c .before .before .before .before .before .before .before .before .before .args .window .now) _ _ _ (c .before .before .before .before .before .before .word-start .ensures .0) (c .before .least .ensures ∙ ap₂ min (c .before .before .before .before .before .word-length .ensures .0) refl)
+
+pub above-any-spec : {M : Type 1} → statement M
+above-any-spec =
+    tie.close
+    (tie.spec
+    word-start-requires
+    word-length-requires
+    is-inside-requires
+    eight-requires
+    word-number-requires
+    returns
+    least-requires
+    lower-requires
+    returns-2)
