@@ -8,7 +8,8 @@ use lib.ListN.{length}
 use Rattle.lists.specs.Overwrite.{overwrite}
 use Rattle.faults.specs.declared.Fault.{Fault}
 use Rattle.faults.specs.Outcome.{Outcome, facts, refusedBy}
-use Rattle.adder_c.specs.Answer.{faultWords, outcomeWords, outcomeStatus, ifRoom, returned, answered}
+use Rattle.adder_c.specs.Answer.{outcomeWords, outcomeStatus, ifRoom, returned, answered}
+use Rattle.answer_words.specs.Fault.{faultWords}
 
 module _ {A : Type 0} where
   pub no-room : (wanted room : ℕ) (done short : A) → room < wanted → short ≡ ifRoom wanted room done short

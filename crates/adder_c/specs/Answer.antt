@@ -6,25 +6,12 @@ use lib.Dec.{ltb}
 use lib.IntN.{ℤ, pos}
 use lib.ListN.{length}
 use Rattle.lists.specs.Overwrite.{overwrite}
-use Rattle.faults.specs.declared.Fault.{Fault}
-use Rattle.faults.specs.Outcome.{Group, author, rows, editor, Outcome, facts, refused, whose, numberOf, placeOf}
+use Rattle.faults.specs.Outcome.{Outcome, facts, refused, whose}
 use Rattle.table_rules.specs.declared.Facts.{Facts}
 use Rattle.adder_rules.specs.declared.AddedFacts.{AddedFacts}
 use Rattle.edit_rules.specs.declared.EditedFacts.{EditedFacts}
-use Rattle.adder_c.specs.Word.{wordOf}
-
--- word 0 of a fault: whose it is
-abbrev pub groupWord : Group → ℤ
-groupWord author = pos 1
-groupWord rows = pos 2
-groupWord editor = pos 3
-
--- the words of a fault: whose it is, its number and its place
-abbrev pub refusalWords : Group → ℕ → ℕ → List ℤ
-refusalWords group number place = groupWord group ∷ wordOf number ∷ wordOf place ∷ []
-
-abbrev pub faultWords : Fault → List ℤ
-faultWords f = refusalWords (whose f) (numberOf f) (placeOf f)
+use Rattle.answer_words.specs.Word.{wordOf}
+use Rattle.answer_words.specs.Fault.{refusalWords}
 
 -- the words of an outcome, whose facts are given as words: 0 and the facts, or the fault
 unfoldable pub outcomeWords : {F : Type 0} → (F → List ℤ) → Outcome F → List ℤ

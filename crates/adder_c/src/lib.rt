@@ -3,76 +3,21 @@
 // their contents. A call returns 0 for facts, 1 for a fault, and 2 where a lent array is too short, which it then leaves alone.
 ghost use mathlib.Core.Path.{_≡_};
 ghost use mathlib.Core.List.{[], _∷_};
-ghost use Prim.Native.Nat.{_≤_};
 ghost use lib.ListN.{length};
-ghost use lib.IntN.{pos};
 ghost use Rattle.lists.specs.Overwrite.{overwrite};
 ghost use Rattle.faults.specs.Outcome.{facts};
-ghost use Rattle.midpoint.specs.Midpoint.{parts, midpointOf};
+ghost use Rattle.midpoint.specs.Midpoint.{midpointOf};
 ghost use Rattle.table_rules.specs.Check.{checkOutcome};
 ghost use Rattle.adder_rules.specs.Sum.{addOutcome, addSum};
 ghost use Rattle.edit_rules.specs.Edit.{state, editOutcome, editState};
 ghost use Rattle.valued_rules.specs.Value.{valueOutcome};
 ghost use Rattle.carried.specs.Tables.{ternFile, binFile};
-ghost use Rattle.adder_c.specs.Word.{wordOf};
-ghost use Rattle.adder_c.specs.Answer.{faultWords, ifRoom, returned, answered, checkWords, addWords, editWords, elementWords};
+ghost use Rattle.adder_c.specs.Answer.{ifRoom, returned, answered, checkWords, addWords, editWords, elementWords};
 use adder::Added;
 use edits::Edited;
-use faults::Fault;
 use midpoint::Element;
 use table::Checked;
 use valued::Valued;
-
-// The signed word with a number's 64 bits.
-fn word(n: usize) -> i64
-    ensures { λ r. ⌜ r ≡ wordOf n ⌝ }
-{
-    if n < 9223372036854775808 {
-        return n as i64;
-    }
-    -1 - (18446744073709551615 - n) as i64
-}
-
-// Writes words at the start of an answer.
-fn put(answer: &mut [i64], words: &[i64])
-    requires { ⌜ length (now words) ≤ length (now answer) ⌝ }
-    ensures { λ _. ⌜ now (answer .exit) ≡ overwrite (now (answer .entry)) 0 (now (words .entry)) ⌝ }
-{
-    let mut i = 0;
-    while i < words.len() {
-        answer[i] = words[i];
-        i += 1;
-    }
-}
-
-// Writes whose fault it is, its number and its place; what the call returns.
-fn put_fault(answer: &mut [i64], whose: i64, number: usize, place: usize) -> u64
-    requires { ⌜ 8 ≤ length (now answer) ⌝ }
-    ensures { λ r. ⌜ (r ≡ 1) × (now (answer .exit) ≡ overwrite (now (answer .entry)) 0 (whose ∷ wordOf number ∷ wordOf place ∷ [])) ⌝ }
-{
-    put(answer, &[whose, word(number), word(place)]);
-    1
-}
-
-fn refuse(answer: &mut [i64], fault: Fault) -> u64
-    requires { ⌜ 8 ≤ length (now answer) ⌝ }
-    ensures { λ r. ⌜ (r ≡ 1) × (now (answer .exit) ≡ overwrite (now (answer .entry)) 0 (faultWords fault)) ⌝ }
-{
-    match fault {
-        Fault::Author { number, place } => put_fault(answer, 1, number, place),
-        Fault::Rows { number, place } => put_fault(answer, 2, number, place),
-        Fault::Editor { number, place } => put_fault(answer, 3, number, place),
-    }
-}
-
-// Writes the parts of an element as facts; what the call returns.
-fn put_element(answer: &mut [i64], x: Element) -> u64
-    requires { ⌜ 8 ≤ length (now answer) ⌝ }
-    ensures { λ r. ⌜ (r ≡ 0) × (now (answer .exit) ≡ overwrite (now (answer .entry)) 0 (pos 0 ∷ parts x)) ⌝ }
-{
-    put(answer, &[0, x.a as i64, x.b as i64]);
-    0
-}
 
 #[no_mangle]
 pub extern "C" fn yoyomyrtle_check(file: &[u8], answer: &mut [i64]) -> u64
@@ -84,10 +29,18 @@ pub extern "C" fn yoyomyrtle_check(file: &[u8], answer: &mut [i64]) -> u64
     let outcome = table::check(file);
     match outcome {
         Checked::Accepted(f) => {
-            put(answer, &[0, word(f.depth), word(f.leaves), word(f.digits)]);
+            answer_words::put(
+                answer,
+                &[
+                    0,
+                    answer_words::word(f.depth),
+                    answer_words::word(f.leaves),
+                    answer_words::word(f.digits),
+                ],
+            );
             0
         }
-        Checked::Refused(fault) => refuse(answer, fault),
+        Checked::Refused(fault) => answer_words::refuse(answer, fault),
     }
 }
 
@@ -108,10 +61,10 @@ pub extern "C" fn yoyomyrtle_add(
     let outcome = adder::add(table, first, second, sum);
     match outcome {
         Added::Sum(f) => {
-            put(answer, &[0, word(f.places)]);
+            answer_words::put(answer, &[0, answer_words::word(f.places)]);
             0
         }
-        Added::Refused(fault) => refuse(answer, fault),
+        Added::Refused(fault) => answer_words::refuse(answer, fault),
     }
 }
 
@@ -144,10 +97,10 @@ pub extern "C" fn yoyomyrtle_edit(
     );
     match outcome {
         Edited::Count(f) => {
-            put(answer, &[0, word(f.count)]);
+            answer_words::put(answer, &[0, answer_words::word(f.count)]);
             0
         }
-        Edited::Refused(fault) => refuse(answer, fault),
+        Edited::Refused(fault) => answer_words::refuse(answer, fault),
     }
 }
 
@@ -160,8 +113,8 @@ pub extern "C" fn yoyomyrtle_value(table: &[u8], row: &[u8], answer: &mut [i64])
     }
     let outcome = valued::value(table, row);
     match outcome {
-        Valued::Value(x) => put_element(answer, x),
-        Valued::Refused(fault) => refuse(answer, fault),
+        Valued::Value(x) => answer_words::put_element(answer, x),
+        Valued::Refused(fault) => answer_words::refuse(answer, fault),
     }
 }
 
@@ -174,7 +127,7 @@ pub extern "C" fn yoyomyrtle_midpoint(a1: i32, b1: i32, a2: i32, b2: i32, answer
     }
     let x = Element { a: a1, b: b1 };
     let y = Element { a: a2, b: b2 };
-    put_element(answer, midpoint::midpoint(x, y))
+    answer_words::put_element(answer, midpoint::midpoint(x, y))
 }
 
 // TERN's bytes, in the first 165 of `out`.

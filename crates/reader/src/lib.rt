@@ -40,7 +40,7 @@ fn digit_rules(file: &[u8]) -> Refusal
     requires { ⌜ layoutCheck (now file) .number ≡ 0 ⌝ }
     ensures { λ r. ⌜ r ≡ digitsOf (now (file .entry)) ⌝ }
 {
-    digits::digits(section(file, 0), section(file, 1), section(file, 2))
+    digit_check::digits(section(file, 0), section(file, 1), section(file, 2))
 }
 
 // Rules 9 to 13.

@@ -6,7 +6,7 @@ use Rattle.lists.specs.Overwrite.{overwrite}
 use Rattle.adder.specs.Answer.{outcomeOf}
 use Rattle.adder_rules.specs.Sum.{addOutcome, addSum}
 use Rattle.adder_c.specs.Answer.{addWords}
-use Rattle.adder_c.proofs.Bits.{kept}
+use Rattle.answer_words.proofs.Bits.{kept}
 use Rattle.adder_c.proofs.Answer.{no-room, some-room, short, with-facts, with-fault}
 use borrow.Author.Needs.{needs}
 use Rattle.adder_c.proofs.yoyomyrtle_add.Statement.{statement}

@@ -1,7 +1,7 @@
 -- The check's outcome in words.
 use Rattle.lists.proofs.Cons.{cons≡}
 use Rattle.lists.specs.Overwrite.{overwrite}
-use Rattle.adder_c.proofs.Bits.{kept}
+use Rattle.answer_words.proofs.Bits.{kept}
 use mathlib.Core.Path.{sym, ap, refl, _∙_}
 use Rattle.table.specs.Answer.{outcomeOf}
 use Rattle.table_rules.specs.Check.{checkOutcome}

@@ -1,6 +1,6 @@
 -- The edit's outcome in words, and the three buffers as it leaves them.
 use Rattle.adder_c.proofs.Answer.{no-room, some-room, short, with-facts, with-fault}
-use Rattle.adder_c.proofs.Bits.{kept}
+use Rattle.answer_words.proofs.Bits.{kept}
 use Rattle.adder_c.specs.Answer.{editWords}
 use Rattle.edit_rules.specs.Edit.{State, state, editOutcome, editState}
 use Rattle.edits.specs.Answer.{outcomeOf}

@@ -1,0 +1,34 @@
+-- The three words, as they were stored.
+use mir.ValLaws.{toZ-ofZ}
+use mir.Syntax.{w64}
+use mathlib.Core.Path.{refl, ap, _∙_}
+use Rattle.lists.proofs.Cons.{cons≡}
+use Rattle.lists.specs.Overwrite.{overwrite}
+use Rattle.answer_words.proofs.Bits.{kept}
+use borrow.Author.Needs.{needs}
+use Rattle.answer_words.proofs.put_fault.Statement.{statement}
+use Rattle.answer_words.proofs.put_fault.Tie as tie
+
+word-requires : tie.Need-word-requires
+word-requires c κs = search needs
+
+word-requires-2 : tie.Need-word-requires-2
+word-requires-2 c κs = search needs
+
+slice-aggregate-put : tie.Need-slice-aggregate-put
+slice-aggregate-put c = search needs
+
+put-requires : tie.Need-put-requires
+put-requires c κs = search needs
+
+same-length : tie.Need-same-length
+same-length c = search needs
+
+returns : tie.Need-returns
+returns c =
+    (refl, c .before .put .ensures ∙ ap (overwrite (c .before .before .before .before .before .before .args .answer .now) 0) (cons≡ (toZ-ofZ w64 (c .before .before .before .before .before .before .args .whose) (c .before .before .before .before .before .before .fits .whose)) (cons≡ (kept (c .before .before .before .before .word .result) (c .before .before .before .before .before .before .args .number) (c .before .before .before .before .word .ok) (c .before .before .before .before .word .ensures)) (cons≡ (kept (c .before .before .before .word2 .result) (c .before .before .before .before .before .before .args .place) (c .before .before .before .word2 .ok) (c .before .before .before .word2 .ensures)) refl))))
+
+pub put-fault-spec : {M : Type 1} → statement M
+put-fault-spec =
+    tie.close
+    (tie.spec word-requires word-requires-2 slice-aggregate-put put-requires same-length returns)

@@ -1,0 +1,64 @@
+// The answer array of a call for C: signed 64-bit words, 0 and the facts, or whose fault it is (1 author, 2 rows, 3 editor), its number and
+// its place.
+ghost use mathlib.Core.Path.{_≡_};
+ghost use mathlib.Core.List.{[], _∷_};
+ghost use Prim.Native.Nat.{_≤_};
+ghost use lib.ListN.{length};
+ghost use lib.IntN.{pos};
+ghost use Rattle.lists.specs.Overwrite.{overwrite};
+ghost use Rattle.midpoint.specs.Midpoint.{parts};
+ghost use Rattle.answer_words.specs.Word.{wordOf};
+ghost use Rattle.answer_words.specs.Fault.{faultWords};
+use faults::Fault;
+use midpoint::Element;
+
+// The signed word with a number's 64 bits.
+pub fn word(n: usize) -> i64
+    ensures { λ r. ⌜ r ≡ wordOf n ⌝ }
+{
+    if n < 9223372036854775808 {
+        return n as i64;
+    }
+    -1 - (18446744073709551615 - n) as i64
+}
+
+// Writes words at the start of an answer.
+pub fn put(answer: &mut [i64], words: &[i64])
+    requires { ⌜ length (now words) ≤ length (now answer) ⌝ }
+    ensures { λ _. ⌜ now (answer .exit) ≡ overwrite (now (answer .entry)) 0 (now (words .entry)) ⌝ }
+{
+    let mut i = 0;
+    while i < words.len() {
+        answer[i] = words[i];
+        i += 1;
+    }
+}
+
+// Writes whose fault it is, its number and its place; what the call returns.
+fn put_fault(answer: &mut [i64], whose: i64, number: usize, place: usize) -> u64
+    requires { ⌜ 8 ≤ length (now answer) ⌝ }
+    ensures { λ r. ⌜ (r ≡ 1) × (now (answer .exit) ≡ overwrite (now (answer .entry)) 0 (whose ∷ wordOf number ∷ wordOf place ∷ [])) ⌝ }
+{
+    put(answer, &[whose, word(number), word(place)]);
+    1
+}
+
+pub fn refuse(answer: &mut [i64], fault: Fault) -> u64
+    requires { ⌜ 8 ≤ length (now answer) ⌝ }
+    ensures { λ r. ⌜ (r ≡ 1) × (now (answer .exit) ≡ overwrite (now (answer .entry)) 0 (faultWords fault)) ⌝ }
+{
+    match fault {
+        Fault::Author { number, place } => put_fault(answer, 1, number, place),
+        Fault::Rows { number, place } => put_fault(answer, 2, number, place),
+        Fault::Editor { number, place } => put_fault(answer, 3, number, place),
+    }
+}
+
+// Writes the parts of an element as facts; what the call returns.
+pub fn put_element(answer: &mut [i64], x: Element) -> u64
+    requires { ⌜ 8 ≤ length (now answer) ⌝ }
+    ensures { λ r. ⌜ (r ≡ 0) × (now (answer .exit) ≡ overwrite (now (answer .entry)) 0 (pos 0 ∷ parts x)) ⌝ }
+{
+    put(answer, &[0, x.a as i64, x.b as i64]);
+    0
+}
