@@ -153,7 +153,8 @@ fn above_any(leaves: &[u8], words: &[u8], window: &[u8; 8], leaf: usize) -> bool
     lower(window, 0, words, start, least(length, LONGEST))
 }
 
-// The same, in few steps where the word doesn't end within the first eight bytes: small enough to be a part of the search.
+// The same, in few steps where the word doesn't end within the first eight bytes. The compiler makes it a part of the search, being small,
+// and not the other, which has a second caller.
 fn above(leaves: &[u8], words: &[u8], window: &[u8; 8], leaf: usize) -> bool
     requires { ⌜ leaf < leafCount (now leaves) ⌝ }
     ensures { λ r. ⌜ r ≡ windows.above (codeOf (now (leaves .entry)) (now (words .entry))) (now (window .entry)) leaf ⌝ }
@@ -213,7 +214,7 @@ fn is_between(leaves: &[u8], words: &[u8], window: &[u8; 8], low: usize, high: u
     if count < high {
         return false;
     }
-    if above(leaves, words, window, low) {
+    if above_any(leaves, words, window, low) {
         return false;
     }
     if count <= high {
