@@ -140,11 +140,17 @@ pub fn bad_pair(base: &[u8], alphabet: &[u8], inputs: &[u8], leaves: &[u8], word
     }
 }
 
-// Rule 14.
+// Rule 14. The scan that names the leaves is only made where the quick look says nothing.
 pub fn pairs(base: &[u8], alphabet: &[u8], inputs: &[u8], leaves: &[u8], words: &[u8]) -> Refusal
     requires { ⌜ BasePart (now base) × (0 < elementCount (now inputs)) × (leafCheck (now leaves) (now words) (elementCount (now inputs)) .number ≡ 0) ⌝ }
     ensures { λ r. ⌜ r ≡ pairCheck (now (base .entry)) (now (alphabet .entry)) (now (inputs .entry)) (now (leaves .entry)) (now (words .entry)) ⌝ }
 {
+    if pair_sets::all_pass(base, alphabet, inputs, leaves, words) {
+        return Refusal {
+            number: 0,
+            place: 0,
+        };
+    }
     let found = bad_pair(base, alphabet, inputs, leaves, words);
     if found.upper < leaves::leaf_count(leaves) {
         return Refusal {
