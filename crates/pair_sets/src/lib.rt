@@ -207,21 +207,43 @@ fn one_by_one(keys: &[u64], numbers: &[u8], count: usize, run: Run, last: u64) -
     Run { set, end: leaf }
 }
 
-// The weights of all lower leaves that fit an upper one.
+// All weights, by their count.
+fn all_weights(count: usize) -> u64
+    requires { ⌜ count ≤ 64 ⌝ }
+    ensures { λ r. ⌜ ((j : ℕ) → j < count → Has r j) ⌝ }
+{
+    let mut set = 0;
+    let mut number = 0;
+    while number < count {
+        set = set | single(number);
+        number += 1;
+    }
+    set
+}
+
+// The weights of all lower leaves that fit an upper one. All leaves fit one whose word has one digit.
 fn fitting(
     leaves: &[u8],
     keys: &[u64],
     numbers: &[u8],
     sets: &[u64],
+    all: u64,
     upper: usize,
     guess: usize,
 ) -> Run
-    requires { ⌜ (leafCount (now leaves) ≤ length (now keys)) × (leafCount (now leaves) ≤ length (now numbers)) × (leafCount (now leaves) ≤ length (now sets)) × (upper < leafCount (now leaves)) × (1 ≤ wordLength (now leaves) upper) × (wordLength (now leaves) upper ≤ 8) × (guess ≤ leafCount (now leaves)) × ((k : ℕ) → k < leafCount (now leaves) → getD (now numbers) k 0 < 64) × Covers (now numbers) (now sets) (leafCount (now leaves)) 8 ⌝ }
+    requires { ⌜ (leafCount (now leaves) ≤ length (now keys)) × (leafCount (now leaves) ≤ length (now numbers)) × (leafCount (now leaves) ≤ length (now sets)) × (upper < leafCount (now leaves)) × (1 ≤ wordLength (now leaves) upper) × (wordLength (now leaves) upper ≤ 8) × (guess ≤ leafCount (now leaves)) × ((k : ℕ) → k < leafCount (now leaves) → getD (now numbers) k 0 < 64) × Covers (now numbers) (now sets) (leafCount (now leaves)) 8 × ((k : ℕ) → k < leafCount (now leaves) → Has all (getD (now numbers) k 0)) ⌝ }
     ensures { λ r. ⌜ (r .end ≤ leafCount (now (leaves .entry))) × ((words : List ℕ) → Ready (now (leaves .entry)) words → Keyed (now (leaves .entry)) words (now (keys .entry)) (leafCount (now (leaves .entry))) → (l : ℕ) → l < leafCount (now (leaves .entry)) → Fits (codeOf (now (leaves .entry)) words) upper l → Has (r .set) (getD (now (numbers .entry)) l 0)) ⌝ }
 {
     let count = leaves::leaf_count(leaves);
+    let length = leaves::word_length(leaves, upper);
+    if length == 1 {
+        return Run {
+            set: all,
+            end: count,
+        };
+    }
     let tail = keys[upper] << 8;
-    let last = tail | behind(leaves::word_length(leaves, upper));
+    let last = tail | behind(length);
     let start = start_of(keys, count, guess, tail);
     let run = by_eights(keys, sets, count, start, last);
     one_by_one(keys, numbers, count, run, last)
@@ -313,10 +335,11 @@ fn all_in(
     let mut made = [0; WEIGHTS];
     let mut good = [0; WEIGHTS];
     let leaf_count = leaves::leaf_count(leaves);
+    let all = all_weights(count);
     let mut guess = 0;
     let mut upper = 0;
     while upper < leaf_count {
-        let run = fitting(leaves, keys, numbers, sets, upper, guess);
+        let run = fitting(leaves, keys, numbers, sets, all, upper, guess);
         let number = wide(numbers[upper]);
         let known = judged(
             base,
