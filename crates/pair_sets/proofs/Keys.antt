@@ -20,8 +20,8 @@ use Rattle.numeration.specs.Pairs.{tail, Fits}
 use Rattle.numeration.proofs.Leaves.{precedes-all}
 use Rattle.leaves.specs.Leaf.{leafCount, wordLength, codeOf}
 use Rattle.prefix_rules.specs.Formed.{Formed}
-use Rattle.pair_sets.specs.Sets.{Ready, wordNumber, Keyed, InRun}
-use Rattle.pair_sets.specs.Bits.{Has}
+use Rattle.pair_sets.specs.Runs.{Ready, wordNumber, Keyed, InRun}
+use Rattle.weight_sets.specs.Bits.{Has}
 
 -- all that eight bytes have behind the first k, at most
 pub behind-is : (k : ℕ) → k < 8 → 18446744073709551615 / 2 ^ (8 * k) + 1 ≡ 256 ^ (8 - k)

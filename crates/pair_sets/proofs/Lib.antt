@@ -1,4 +1,3 @@
-pub mod Bits
 pub mod Keys
-pub mod Sets
 pub mod Pass
+pub mod Runs

@@ -4,19 +4,17 @@ ghost use mathlib.Core.Bool.{true};
 ghost use mathlib.Core.List.{List};
 ghost use Prim.Native.Nat.{ℕ, _+_, _-_, _<_, _≤_, _^_, pred};
 ghost use lib.ListN.{length, getD};
-ghost use Rattle.ring.specs.Element.{Within};
 ghost use Rattle.ring.specs.Matrix.{RowsWithin};
 ghost use Rattle.digit_rules.specs.Base.{BasePart, baseMatrix};
 ghost use Rattle.digit_rules.specs.Record.{elementCount};
 ghost use Rattle.numeration.specs.Pairs.{Fits};
-ghost use Rattle.leaves.specs.Leaf.{leafCount, codeOf, wordGiven, weightGiven, wordLength};
+ghost use Rattle.leaves.specs.Leaf.{leafCount, codeOf, wordLength};
 ghost use Rattle.prefix_rules.specs.Check.{leafCheck};
-ghost use Rattle.table_rules.specs.Pairs.{upperPart};
-ghost use Rattle.pair_digits.specs.Slots.{Slotted};
-ghost use Rattle.pair_sets.specs.Bits.{Has};
-ghost use Rattle.pair_sets.specs.Sets.{Ready, Keyed, Numbered, Covers, InRun, Good, Judged, AllPass};
+ghost use Rattle.weight_sets.specs.Bits.{Has};
+ghost use Rattle.pair_sets.specs.Runs.{Ready, Keyed, InRun, AllPass};
+ghost use Rattle.weight_sets.specs.Weights.{Numbered, Covers};
 
-// The fewest leaves that are looked at, few leaves, and the most leaves and different weights.
+// The fewest leaves that are looked at, few leaves, the most leaves, and the most different weights.
 const FEWEST: usize = 32;
 
 const FEW: usize = 512;
@@ -25,7 +23,7 @@ const LEAVES: usize = 4096;
 
 const WEIGHTS: usize = 64;
 
-// The count of slots for weights, and the mark of an empty one.
+// The count of slots for alphabet digits, and the mark of an empty one.
 const SLOTS: usize = 256;
 
 const EMPTY: u8 = 255;
@@ -34,12 +32,6 @@ const EMPTY: u8 = 255;
 pub struct Run {
     set: u64,
     end: usize,
-}
-
-fn wide(x: u8) -> usize
-    ensures { λ r. ⌜ (r ≡ x) × (r < 256) ⌝ }
-{
-    x as usize
 }
 
 // The words of all leaves as numbers.
@@ -55,94 +47,6 @@ fn keys_of(leaves: &[u8], words: &[u8], keys: &mut [u64])
         keys[leaf] = word_numbers::word_number(words, start, length);
         leaf += 1;
     }
-}
-
-// The number of a leaf's weight, of the count that are known: the one in the weight's slot, the next one where the slot is empty, or
-// too high a one where the slot has another weight.
-fn number_in(leaves: &[u8], first: &[usize], count: usize, leaf: usize, number: usize) -> usize
-    requires { ⌜ (count ≤ 64) × (count ≤ length (now first)) ⌝ }
-    ensures { λ r. ⌜ ((r < 64 → r ≤ count) × (r < count → weightGiven (now (leaves .entry)) (getD (now (first .entry)) r 0) ≡ weightGiven (now (leaves .entry)) leaf)) ⌝ }
-{
-    if count <= number {
-        return count;
-    }
-    if ring::equal(
-        leaves::weight(leaves, first[number]),
-        leaves::weight(leaves, leaf),
-    ) {
-        return number;
-    }
-    WEIGHTS
-}
-
-// Numbers the different weights as they come up, with a leaf for each number; their count, or too high a one where there are too many
-// or two have the same slot.
-fn number_weights(leaves: &[u8], numbers: &mut [u8], first: &mut [usize]) -> usize
-    requires { ⌜ (leafCount (now leaves) ≤ length (now numbers)) × (64 ≤ length (now first)) ⌝ }
-    ensures { λ r. ⌜ (r ≤ 64 → Numbered (now (leaves .entry)) (now (numbers .exit)) (now (first .exit)) r (leafCount (now (leaves .entry)))) ⌝ }
-{
-    let leaf_count = leaves::leaf_count(leaves);
-    let mut slots = [EMPTY; SLOTS];
-    let mut count = 0;
-    let mut leaf = 0;
-    while leaf < leaf_count {
-        let slot = pair_digits::slot_of(leaves::weight(leaves, leaf));
-        let number = number_in(leaves, first, count, leaf, wide(slots[slot]));
-        if WEIGHTS <= number {
-            return WEIGHTS + 1;
-        }
-        if number == count {
-            first[number] = leaf;
-            slots[slot] = number as u8;
-            count += 1;
-        }
-        numbers[leaf] = number as u8;
-        leaf += 1;
-    }
-    count
-}
-
-// A set of one number.
-fn single(number: usize) -> u64
-    requires { ⌜ number < 64 ⌝ }
-    ensures { λ r. ⌜ r ≡ 2 ^ number ⌝ }
-{
-    1 << number
-}
-
-// Each leaf's weight as a set.
-fn singles(numbers: &[u8], count: usize, sets: &mut [u64])
-    requires { ⌜ (count ≤ length (now numbers)) × (count ≤ length (now sets)) × ((k : ℕ) → k < count → getD (now numbers) k 0 < 64) ⌝ }
-    ensures { λ r. ⌜ Covers (now (numbers .entry)) (now (sets .exit)) count 1 ⌝ }
-{
-    let mut leaf = 0;
-    while leaf < count {
-        sets[leaf] = single(wide(numbers[leaf]));
-        leaf += 1;
-    }
-}
-
-// From sets of so many neighbours to sets of twice as many.
-fn double(count: usize, sets: &mut [u64], step: usize)
-    requires { ⌜ (count ≤ length (now sets)) × (step ≤ 8) ⌝ }
-    ensures { λ r. ⌜ ((numbers : List ℕ) → Covers numbers (now (sets .entry)) count step → Covers numbers (now (sets .exit)) count (step + step)) ⌝ }
-{
-    let mut leaf = 0;
-    while leaf + step < count {
-        sets[leaf] = sets[leaf] | sets[leaf + step];
-        leaf += 1;
-    }
-}
-
-// For each leaf the weights of the eight leaves from it on.
-fn eights(numbers: &[u8], count: usize, sets: &mut [u64])
-    requires { ⌜ (count ≤ length (now numbers)) × (count ≤ length (now sets)) × ((k : ℕ) → k < count → getD (now numbers) k 0 < 64) ⌝ }
-    ensures { λ r. ⌜ Covers (now (numbers .entry)) (now (sets .exit)) count 8 ⌝ }
-{
-    singles(numbers, count, sets);
-    double(count, sets, 1);
-    double(count, sets, 2);
-    double(count, sets, 4);
 }
 
 // What the words that begin with an upper word's tail have behind it at most, by the upper word's length.
@@ -201,24 +105,10 @@ fn one_by_one(keys: &[u64], numbers: &[u8], count: usize, run: Run, last: u64) -
         if last < keys[leaf] {
             return Run { set, end: leaf };
         }
-        set = set | single(wide(numbers[leaf]));
+        set = set | weight_sets::single(weight_sets::wide(numbers[leaf]));
         leaf += 1;
     }
     Run { set, end: leaf }
-}
-
-// All weights, by their count.
-fn all_weights(count: usize) -> u64
-    requires { ⌜ count ≤ 64 ⌝ }
-    ensures { λ r. ⌜ ((j : ℕ) → j < count → Has r j) ⌝ }
-{
-    let mut set = 0;
-    let mut number = 0;
-    while number < count {
-        set = set | single(number);
-        number += 1;
-    }
-    set
 }
 
 // The weights of all lower leaves that fit an upper one. All leaves fit one whose word has one digit.
@@ -249,69 +139,6 @@ fn fitting(
     one_by_one(keys, numbers, count, run, last)
 }
 
-// A number alone, or nothing.
-fn single_if(given: bool, number: usize) -> u64
-    requires { ⌜ number < 64 ⌝ }
-    ensures { λ r. ⌜ ((j : ℕ) → Has r j → (given ≡ true) × (j ≡ number)) ⌝ }
-{
-    if given {
-        return single(number);
-    }
-    0
-}
-
-// The weights that give alphabet digits with an upper leaf's part.
-fn good_set(
-    alphabet: &[u8],
-    slots: &[u8; SLOTS],
-    part: [i64; 2],
-    leaves: &[u8],
-    first: &[usize],
-    count: usize,
-) -> u64
-    requires { ⌜ Slotted (now alphabet) (now slots) × Within (2 ^ 57 + 32768) part × (count ≤ 64) × (count ≤ length (now first)) ⌝ }
-    ensures { λ r. ⌜ Good (now (alphabet .entry)) (now (leaves .entry)) (now (first .entry)) part r ⌝ }
-{
-    let mut good = 0;
-    let mut number = 0;
-    while number < count {
-        let leaf = first[number];
-        let given = pair_digits::gives_digit(alphabet, true, slots, part, leaves, leaf);
-        good = good | single_if(given, number);
-        number += 1;
-    }
-    good
-}
-
-// The same, judged once for each first digit and weight of an upper leaf: leaves come in the order of their first digits.
-fn judged(
-    base: [[i64; 2]; 2],
-    alphabet: &[u8],
-    slots: &[u8; SLOTS],
-    inputs: &[u8],
-    leaves: &[u8],
-    words: &[u8],
-    upper: usize,
-    number: usize,
-    first: &[usize],
-    count: usize,
-    made: &mut [usize; WEIGHTS],
-    good: &mut [u64; WEIGHTS],
-) -> u64
-    requires { ⌜ RowsWithin (2 ^ 24) base × Slotted (now alphabet) (now slots) × (getD (wordGiven (now leaves) (now words) upper) 0 0 < elementCount (now inputs)) × (number < 64) × (count ≤ 64) × (count ≤ length (now first)) × (weightGiven (now leaves) (getD (now first) number 0) ≡ weightGiven (now leaves) upper) × Judged base (now alphabet) (now inputs) (now leaves) (now first) (now made) (now good) ⌝ }
-    ensures { λ r. ⌜ Good (now (alphabet .entry)) (now (leaves .entry)) (now (first .entry)) (upperPart base (now (inputs .entry)) (now (leaves .entry)) (now (words .entry)) upper) r × Judged base (now (alphabet .entry)) (now (inputs .entry)) (now (leaves .entry)) (now (first .entry)) (now (made .exit)) (now (good .exit)) ⌝ }
-{
-    let digit = wide(leaves::byte_at(leaves::word(leaves, words, upper), 0)) + 1;
-    if made[number] == digit {
-        return good[number];
-    }
-    let part = pair_digits::upper_part(base, inputs, leaves, words, upper);
-    let set = good_set(alphabet, slots, part, leaves, first, count);
-    good[number] = set;
-    made[number] = digit;
-    set
-}
-
 // Whether every upper leaf gives alphabet digits with all lower leaves that fit.
 fn all_in(
     base: [[i64; 2]; 2],
@@ -335,13 +162,13 @@ fn all_in(
     let mut made = [0; WEIGHTS];
     let mut good = [0; WEIGHTS];
     let leaf_count = leaves::leaf_count(leaves);
-    let all = all_weights(count);
+    let all = weight_sets::all_weights(count);
     let mut guess = 0;
     let mut upper = 0;
     while upper < leaf_count {
         let run = fitting(leaves, keys, numbers, sets, all, upper, guess);
-        let number = wide(numbers[upper]);
-        let known = judged(
+        let number = weight_sets::wide(numbers[upper]);
+        let known = weight_sets::judged(
             base,
             alphabet,
             &slots,
@@ -380,12 +207,12 @@ fn look(
     ensures { λ r. ⌜ (r ≡ true → AllPass (baseMatrix (now (base .entry))) (now (alphabet .entry)) (now (inputs .entry)) (now (leaves .entry)) (now (words .entry)) (leafCount (now (leaves .entry)))) ⌝ }
 {
     let mut first = [0; WEIGHTS];
-    let count = number_weights(leaves, numbers, &mut first);
+    let count = weight_sets::number_weights(leaves, numbers, &mut first);
     if WEIGHTS < count {
         return false;
     }
     keys_of(leaves, words, keys);
-    eights(numbers, leaves::leaf_count(leaves), sets);
+    weight_sets::eights(numbers, leaves::leaf_count(leaves), sets);
     let matrix = digits::base_of(base);
     all_in(
         matrix,

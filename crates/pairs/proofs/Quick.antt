@@ -11,7 +11,7 @@ use Rattle.numeration.specs.Pairs.{upperPasses}
 use Rattle.leaves.specs.Leaf.{leafCount}
 use Rattle.table_rules.specs.Pairs.{pairCheck}
 use Rattle.table_rules.proofs.Bad.{UppersPass, pair-none, pairs-kept}
-use Rattle.pair_sets.specs.Sets.{AllPass}
+use Rattle.pair_sets.specs.Runs.{AllPass}
 
 module _ (base alphabet inputs leaves words : List ℕ) (all : AllPass (baseMatrix base) alphabet inputs leaves words (leafCount leaves)) where
   uppers : UppersPass base alphabet inputs leaves words (leafCount leaves)

@@ -1,13 +1,14 @@
 use Rattle.leaves.specs.Leaf.{weightGiven}
 use borrow.Author.Tests.{not-false}
 use Rattle.digit_rules.specs.Record.{elementCount}
-use Rattle.pair_sets.proofs.Sets.{zeros-none}
+use Rattle.weight_sets.proofs.Weights.{zeros-none}
 use Rattle.pair_sets.proofs.Pass.{all-next}
 use Rattle.pair_sets.proofs.Keys.{ready-words}
 use Rattle.table_rules.proofs.Fitting.{first-input}
 use Rattle.prefix_rules.proofs.Formed.{formed}
 use Rattle.lists.proofs.Test.{clash}
-use Rattle.pair_sets.specs.Sets.{AllPass, Judged}
+use Rattle.pair_sets.specs.Runs.{AllPass}
+use Rattle.weight_sets.specs.Weights.{Judged}
 use mathlib.Core.Path.{refl, ap, _∙_}
 use Prim.Native.Nat.{ℕ, _-_, _≤_}
 use native.Mathlib.Omega.{arith}

@@ -1,8 +1,9 @@
-use Rattle.pair_sets.proofs.Sets.{run-more}
+use Rattle.pair_sets.proofs.Runs.{run-more}
 use Prim.Native.Nat.{ℕ, _-_, _≤_}
 use native.Mathlib.Omega.{arith}
 use lib.ListN.{set}
-use Rattle.pair_sets.specs.Sets.{Covers, InRun}
+use Rattle.pair_sets.specs.Runs.{InRun}
+use Rattle.weight_sets.specs.Weights.{Covers}
 use mathlib.Core.List.{List}
 use Rattle.pair_sets.proofs.by_eights.Statement.{statement}
 use Rattle.pair_sets.proofs.by_eights.Tie as tie

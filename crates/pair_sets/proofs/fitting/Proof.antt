@@ -1,5 +1,5 @@
 use Rattle.pair_sets.proofs.Keys.{run-has}
-use Rattle.pair_sets.specs.Sets.{Covers}
+use Rattle.weight_sets.specs.Weights.{Covers}
 use mathlib.Core.Path.{refl, sym, ap, subst, _∙_}
 use Prim.Native.Nat.{ℕ, _-_, _*_, _%_, _^_, pred}
 use native.Mathlib.Omega.{arith}

@@ -1,6 +1,6 @@
-use Rattle.pair_sets.specs.Sets.{AllPass}
+use Rattle.pair_sets.specs.Runs.{AllPass}
 use Rattle.pair_sets.proofs.Keys.{ready-words}
-use Rattle.pair_sets.specs.Sets.{AllPass}
+use Rattle.pair_sets.specs.Runs.{AllPass}
 use Rattle.prefix_rules.proofs.Formed.{formed}
 use Rattle.leaves.specs.Leaf.{leafCount}
 use Rattle.digit_rules.proofs.Base.{base-within}

@@ -1,12 +1,12 @@
-use Rattle.pair_sets.proofs.Bits.{has-single}
-use Rattle.pair_sets.proofs.Sets.{run-next}
+use Rattle.weight_sets.proofs.Bits.{has-single}
+use Rattle.pair_sets.proofs.Runs.{run-next}
 use mathlib.Core.Path.{sym, ap, subst, _∙_}
 use Prim.Native.Nat.{ℕ, _-_, _≤_, _^_}
 use native.Mathlib.Omega.{arith}
 use lib.ListN.{getD, set}
 use borrow.Author.Needs.{needs}
-use Rattle.pair_sets.specs.Sets.{InRun}
-use Rattle.pair_sets.specs.Bits.{Has}
+use Rattle.pair_sets.specs.Runs.{InRun}
+use Rattle.weight_sets.specs.Bits.{Has}
 use Rattle.pair_sets.proofs.one_by_one.Statement.{statement}
 use Rattle.pair_sets.proofs.one_by_one.Tie as tie
 

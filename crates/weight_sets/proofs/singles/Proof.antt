@@ -1,13 +1,13 @@
-use Rattle.pair_sets.proofs.Bits.{has-single}
-use Rattle.pair_sets.proofs.Sets.{entry-next}
+use Rattle.weight_sets.proofs.Bits.{has-single}
+use Rattle.weight_sets.proofs.Weights.{entry-next}
 use mathlib.Core.Path.{_≡_, refl, sym, ap, subst, _∙_}
 use Prim.Native.Nat.{ℕ, _+_, _-_, _<_, _^_}
 use native.Mathlib.Omega.{arith}
 use lib.ListN.{length, getD, set, length-set}
 use borrow.Author.Needs.{needs}
-use Rattle.pair_sets.specs.Bits.{Has}
-use Rattle.pair_sets.proofs.singles.Statement.{statement}
-use Rattle.pair_sets.proofs.singles.Tie as tie
+use Rattle.weight_sets.specs.Bits.{Has}
+use Rattle.weight_sets.proofs.singles.Statement.{statement}
+use Rattle.weight_sets.proofs.singles.Tie as tie
 
 abbrev Inv-loop : tie.InvT-loop
 Inv-loop numbers count sets₀ leaf₀ sets leaf = (length sets ≡ length sets₀) × ((k : ℕ) → k < leaf → Has (getD sets k 0) (getD numbers k 0))

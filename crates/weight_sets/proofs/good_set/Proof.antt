@@ -1,12 +1,12 @@
-use Rattle.pair_sets.proofs.Bits.{has-none}
-use Rattle.pair_sets.proofs.Sets.{good-next}
+use Rattle.weight_sets.proofs.Bits.{has-none}
+use Rattle.weight_sets.proofs.Weights.{good-next}
 use Prim.Native.Nat.{_-_}
 use native.Mathlib.Omega.{arith}
 use lib.ListN.{set}
 use borrow.Author.Needs.{needs}
-use Rattle.pair_sets.specs.Sets.{Good}
-use Rattle.pair_sets.proofs.good_set.Statement.{statement}
-use Rattle.pair_sets.proofs.good_set.Tie as tie
+use Rattle.weight_sets.specs.Weights.{Good}
+use Rattle.weight_sets.proofs.good_set.Statement.{statement}
+use Rattle.weight_sets.proofs.good_set.Tie as tie
 
 abbrev Inv-loop : tie.InvT-loop
 Inv-loop alphabet slots part leaves first count good₀ number₀ good number = Good alphabet leaves first part good

@@ -1,13 +1,13 @@
-use Rattle.pair_sets.proofs.Bits.{has-left, has-right, has-single}
+use Rattle.weight_sets.proofs.Bits.{has-left, has-right, has-single}
 use borrow.Author.Count.{below-more}
 use mathlib.Core.Path.{sym, subst}
 use Prim.Native.Nat.{ℕ, _-_, _<_}
 use native.Mathlib.Omega.{arith}
 use lib.ListN.{set}
 use borrow.Author.Needs.{needs}
-use Rattle.pair_sets.specs.Bits.{Has}
-use Rattle.pair_sets.proofs.all_weights.Statement.{statement}
-use Rattle.pair_sets.proofs.all_weights.Tie as tie
+use Rattle.weight_sets.specs.Bits.{Has}
+use Rattle.weight_sets.proofs.all_weights.Statement.{statement}
+use Rattle.weight_sets.proofs.all_weights.Tie as tie
 
 abbrev Inv-loop : tie.InvT-loop
 Inv-loop count set₀ number₀ set number = (j : ℕ) → j < number → Has set j

@@ -8,7 +8,7 @@ use native.Mathlib.Nat.{one-mul, mod-lt, pow-suc, mul-mod-left, div-eq-of-lt}
 use lib.Arith.{digits-mod}
 use lib.Pow.{pow-add, pow-pos, pow-lt, shl-shr}
 use lib.Bits.{bitAnd, bitOr, and-step, or-step, and-shr, or-shr}
-use Rattle.pair_sets.specs.Bits.{Has}
+use Rattle.weight_sets.specs.Bits.{Has}
 
 or-odd : (x y : ℕ) → bitOr x y % 2 ≡ max (x % 2) (y % 2)
 or-odd x y = ap (λ (n : ℕ). n % 2) (or-step x y) ∙ digits-mod (bitOr (x / 2) (y / 2)) (omega arith)

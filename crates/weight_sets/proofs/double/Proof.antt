@@ -1,13 +1,13 @@
-use Rattle.pair_sets.proofs.Sets.{double-next, double-end, same-next}
+use Rattle.weight_sets.proofs.Weights.{double-next, double-end, same-next}
 use mathlib.Core.Path.{_≡_, refl, _∙_}
 use Prim.Native.Nat.{ℕ, _+_, _-_, _<_, _≤_}
 use native.Mathlib.Omega.{arith}
 use lib.ListN.{length, getD, set, length-set}
-use Rattle.pair_sets.specs.Sets.{Covers}
-use Rattle.pair_sets.specs.Bits.{Has}
+use Rattle.weight_sets.specs.Weights.{Covers}
+use Rattle.weight_sets.specs.Bits.{Has}
 use mathlib.Core.List.{List}
-use Rattle.pair_sets.proofs.double.Statement.{statement}
-use Rattle.pair_sets.proofs.double.Tie as tie
+use Rattle.weight_sets.proofs.double.Statement.{statement}
+use Rattle.weight_sets.proofs.double.Tie as tie
 
 abbrev Inv-loop : tie.InvT-loop
 Inv-loop count sets₀ step leaf₀ sets leaf = (leaf ≤ count) × (length sets ≡ length sets₀) × ((numbers : List ℕ) → Covers numbers sets₀ count step → (l k : ℕ) → k < step + step → l + k < count → l < leaf → Has (getD sets l 0) (getD numbers (l + k) 0)) × ((l : ℕ) → leaf ≤ l → getD sets l 0 ≡ getD sets₀ l 0)

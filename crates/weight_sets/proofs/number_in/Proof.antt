@@ -4,8 +4,8 @@ use Prim.Native.Nat.{_-_}
 use native.Mathlib.Omega.{arith}
 use borrow.Author.Needs.{needs}
 use borrow.Author.Needs.{needs}
-use Rattle.pair_sets.proofs.number_in.Statement.{statement}
-use Rattle.pair_sets.proofs.number_in.Tie as tie
+use Rattle.weight_sets.proofs.number_in.Statement.{statement}
+use Rattle.weight_sets.proofs.number_in.Tie as tie
 
 returns : tie.Need-returns
 returns c = (λ h. omega arith, λ h. absurd (omega arith))

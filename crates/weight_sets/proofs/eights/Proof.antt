@@ -2,8 +2,8 @@ use Prim.Native.Nat.{_-_}
 use lib.ListN.{length}
 use borrow.Author.Needs.{needs}
 use borrow.Author.Needs.{needs}
-use Rattle.pair_sets.proofs.eights.Statement.{statement}
-use Rattle.pair_sets.proofs.eights.Tie as tie
+use Rattle.weight_sets.proofs.eights.Statement.{statement}
+use Rattle.weight_sets.proofs.eights.Tie as tie
 
 singles-requires : tie.Need-singles-requires
 singles-requires c κs = search needs

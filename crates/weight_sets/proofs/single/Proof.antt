@@ -5,8 +5,8 @@ use Prim.Native.Nat.{ℕ, _-_, _%_, _^_}
 use native.Mathlib.Omega.{arith}
 use borrow.Author.Needs.{needs}
 use borrow.Author.Needs.{needs}
-use Rattle.pair_sets.proofs.single.Statement.{statement}
-use Rattle.pair_sets.proofs.single.Tie as tie
+use Rattle.weight_sets.proofs.single.Statement.{statement}
+use Rattle.weight_sets.proofs.single.Tie as tie
 
 shl-result : tie.Need-shl-result
 shl-result c = search needs

@@ -1,6 +1,6 @@
 use Rattle.leaves.specs.Leaf.{wordGiven}
-use Rattle.pair_sets.proofs.Sets.{judged-next}
-use Rattle.pair_sets.specs.Sets.{Good}
+use Rattle.weight_sets.proofs.Weights.{judged-next}
+use Rattle.weight_sets.specs.Weights.{Good}
 use Rattle.digit_rules.specs.Record.{recordAt}
 use Rattle.ring.specs.Matrix.{times}
 use Rattle.ring.specs.Element.{minus}
@@ -9,8 +9,8 @@ use Prim.Native.Nat.{ℕ, _+_, _-_}
 use lib.ListN.{getD, set}
 use borrow.Author.Needs.{needs}
 use borrow.Author.Needs.{needs}
-use Rattle.pair_sets.proofs.judged.Statement.{statement}
-use Rattle.pair_sets.proofs.judged.Tie as tie
+use Rattle.weight_sets.proofs.judged.Statement.{statement}
+use Rattle.weight_sets.proofs.judged.Tie as tie
 
 word-requires : tie.Need-word-requires
 word-requires c κs = search needs

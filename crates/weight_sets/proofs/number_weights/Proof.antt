@@ -1,4 +1,4 @@
-use Rattle.pair_sets.proofs.Sets.{numbered-old, numbered-new}
+use Rattle.weight_sets.proofs.Weights.{numbered-old, numbered-new}
 use mathlib.Core.Logic.{⊎-elim}
 use lib.Dec.{lit≤}
 use Rattle.ring.proofs.Element.{within-le}
@@ -7,9 +7,9 @@ use Prim.Native.Nat.{ℕ, _+_, _-_, _≤_, _^_}
 use native.Mathlib.Omega.{arith}
 use lib.ListN.{length, set, length-set}
 use borrow.Author.Needs.{needs}
-use Rattle.pair_sets.specs.Sets.{Numbered}
-use Rattle.pair_sets.proofs.number_weights.Statement.{statement}
-use Rattle.pair_sets.proofs.number_weights.Tie as tie
+use Rattle.weight_sets.specs.Weights.{Numbered}
+use Rattle.weight_sets.proofs.number_weights.Statement.{statement}
+use Rattle.weight_sets.proofs.number_weights.Tie as tie
 
 abbrev Inv-loop : tie.InvT-loop
 Inv-loop leaves numbers₀ first₀ leaf-count slots₀ count₀ leaf₀ numbers first slots count leaf = (length numbers ≡ length numbers₀) × (length first ≡ length first₀) × (count ≤ 64) × Numbered leaves numbers first count leaf

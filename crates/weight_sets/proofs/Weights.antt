@@ -1,4 +1,4 @@
--- Laws of what the quick look keeps: one entry more, sets of twice as many neighbours, runs.
+-- Laws of weight numbers and sets: one entry more, sets of twice as many neighbours, good weights, judged sets.
 use mathlib.Core.Path.{_≡_, sym, ap, subst, _∙_}
 use mathlib.Core.Bool.{Bool, true}
 use mathlib.Core.Logic.{_⊎_, ⊎-elim}
@@ -16,9 +16,9 @@ use Rattle.ring.specs.Matrix.{times}
 use Rattle.digit_rules.specs.Record.{recordAt}
 use Rattle.leaves.specs.Leaf.{weightGiven}
 use Rattle.table_rules.specs.Pairs.{inAlphabet}
-use Rattle.pair_sets.specs.Bits.{Has}
-use Rattle.pair_sets.specs.Sets.{Numbered, Covers, InRun, Good, Judged}
-use Rattle.pair_sets.proofs.Bits.{has-left, has-right, has-either, has-none}
+use Rattle.weight_sets.specs.Bits.{Has}
+use Rattle.weight_sets.specs.Weights.{Numbered, Covers, Good, Judged}
+use Rattle.weight_sets.proofs.Bits.{has-left, has-right, has-either, has-none}
 
 -- what holds of the first n entries holds of one more
 pub entry-next : (P : ℕ → ℕ → Type 0) (xs : List ℕ) (n v : ℕ) → n < length xs → ((k : ℕ) → k < n → P k (getD xs k 0)) → P n v → (k : ℕ) → k < n + 1 → P k (getD (set xs n v) k 0)
@@ -75,22 +75,6 @@ module _ (numbers : List ℕ) (count : ℕ) where
 
   pub same-next : (sets₀ sets : List ℕ) (leaf v : ℕ) → ((l : ℕ) → leaf ≤ l → getD sets l 0 ≡ getD sets₀ l 0) → (l : ℕ) → leaf + 1 ≤ l → getD (set sets leaf v) l 0 ≡ getD sets₀ l 0
   same-next sets₀ sets leaf v same l h = getD-set-other sets leaf l v 0 (λ e. omega arith) ∙ same l (omega arith)
-
-  -- ---- runs
-  pub run-more : (sets : List ℕ) (start set₀ leaf n : ℕ) → leaf + n ≤ count → Covers numbers sets count n → InRun numbers start set₀ leaf → InRun numbers start (bitOr set₀ (getD sets leaf 0)) (leaf + n)
-  run-more sets start set₀ leaf n room covers before k low high =
-      elim (decLt k leaf) [
-        | yes l ↦ has-left set₀ (getD sets leaf 0) _ (before k low l)
-        | no l ↦ let e : leaf + (k - leaf) ≡ k = omega arith in
-            has-right set₀ (getD sets leaf 0) _ (subst (λ (i : ℕ). Has (getD sets leaf 0) (getD numbers i 0)) e (covers leaf (k - leaf) (omega arith) (omega arith)))
-      ]
-
-  pub run-next : (start set₀ leaf one : ℕ) → Has one (getD numbers leaf 0) → InRun numbers start set₀ leaf → InRun numbers start (bitOr set₀ one) (leaf + 1)
-  run-next start set₀ leaf one new before k low high =
-      elim (decLt k leaf) [
-        | yes l ↦ has-left set₀ one _ (before k low l)
-        | no l ↦ let e : leaf ≡ k = le-antisymm (omega arith) (omega arith) in has-right set₀ one _ (subst (λ (i : ℕ). Has one (getD numbers i 0)) e new)
-      ]
 
 -- ---- good weights
 

@@ -1,11 +1,11 @@
-use Rattle.pair_sets.specs.Bits.{Has}
-use Rattle.pair_sets.proofs.Bits.{single-has, has-none}
+use Rattle.weight_sets.specs.Bits.{Has}
+use Rattle.weight_sets.proofs.Bits.{single-has, has-none}
 use mathlib.Core.Path.{subst}
 use Prim.Native.Nat.{ℕ, _-_}
 use borrow.Author.Needs.{needs}
 use borrow.Author.Needs.{needs}
-use Rattle.pair_sets.proofs.single_if.Statement.{statement}
-use Rattle.pair_sets.proofs.single_if.Tie as tie
+use Rattle.weight_sets.proofs.single_if.Statement.{statement}
+use Rattle.weight_sets.proofs.single_if.Tie as tie
 
 single-requires : tie.Need-single-requires
 single-requires c κs = search needs

@@ -1,21 +1,19 @@
--- What the quick look of rule 14 keeps of the leaves: their words as numbers, their weights by number, and sets of these numbers.
+-- Words as numbers, the runs of lower leaves that fit, and what the quick look of rule 14 says.
 use mathlib.Core.Path.{_≡_}
 use mathlib.Core.Bool.{true}
 use mathlib.Core.List.{List}
-use Prim.Native.Nat.{ℕ, suc, _+_, _<_, _≤_}
+use Prim.Native.Nat.{ℕ, suc, _<_, _≤_}
 use lib.IntN.{ℤ}
 use lib.ListN.{length, getD}
 use Rattle.radix.specs.Number.{aligned}
-use Rattle.ring.specs.Element.{plus, minus}
-use Rattle.ring.specs.Matrix.{times}
 use Rattle.digit_rules.specs.Record.{recordAt}
 use Rattle.layout_rules.specs.Section.{degree}
 use Rattle.numeration.specs.Code.{Precedes}
 use Rattle.numeration.specs.Elements.{elements}
 use Rattle.numeration.specs.Pairs.{pairPasses}
-use Rattle.leaves.specs.Leaf.{leafCount, wordLength, wordEnd, codeOf, weightGiven}
+use Rattle.leaves.specs.Leaf.{leafCount, wordLength, wordEnd, codeOf}
 use Rattle.table_rules.specs.Pairs.{inAlphabet}
-use Rattle.pair_sets.specs.Bits.{Has}
+use Rattle.weight_sets.specs.Bits.{Has}
 
 -- what the words' numbers need of leaves and words: one to eight digits, in section 4, each word above the previous one, and bytes
 pub record Ready (leaves words : List ℕ) : Type 0 where
@@ -32,26 +30,9 @@ wordNumber leaves words k = aligned 256 (codeOf leaves words .digit k) (wordLeng
 abbrev pub Keyed : List ℕ → List ℕ → List ℕ → ℕ → Type 0
 Keyed leaves words keys n = (k : ℕ) → k < n → getD keys k 0 ≡ wordNumber leaves words k
 
--- each of the first n leaves has a number below a count, and the leaf that stands for this number has the same weight
-abbrev pub Numbered : List ℕ → List ℕ → List ℕ → ℕ → ℕ → Type 0
-Numbered leaves numbers first count n = (k : ℕ) → k < n → (getD numbers k 0 < count) × (weightGiven leaves (getD first (getD numbers k 0) 0) ≡ weightGiven leaves k)
-
--- the set of a leaf has the weight numbers of the n leaves from this one on, as far as there are leaves
-abbrev pub Covers : List ℕ → List ℕ → ℕ → ℕ → Type 0
-Covers numbers sets count n = (l k : ℕ) → k < n → l + k < count → Has (getD sets l 0) (getD numbers (l + k) 0)
-
 -- a set has the weight numbers of the leaves from a first one up to an end
 abbrev pub InRun : List ℕ → ℕ → ℕ → ℕ → Type 0
 InRun numbers start set end = (k : ℕ) → start ≤ k → k < end → Has set (getD numbers k 0)
-
--- the weights in a set give alphabet digits with an upper leaf's part
-abbrev pub Good : List ℕ → List ℕ → List ℕ → List ℤ → ℕ → Type 0
-Good alphabet leaves first part set = (j : ℕ) → Has set j → inAlphabet alphabet (plus part (weightGiven leaves (getD first j 0))) ≡ true
-
--- the sets kept for upper weights, each with the first digit that it was made for, plus one
-abbrev pub Judged : List (List ℤ) → List ℕ → List ℕ → List ℕ → List ℕ → List ℕ → List ℕ → Type 0
-Judged matrix alphabet inputs leaves first made good =
-    (i d : ℕ) → getD made i 0 ≡ d + 1 → Good alphabet leaves first (minus (recordAt inputs d) (times matrix (weightGiven leaves (getD first i 0)))) (getD good i 0)
 
 -- the first n upper leaves pass rule 14 with every lower leaf
 abbrev pub AllPass : List (List ℤ) → List ℕ → List ℕ → List ℕ → List ℕ → ℕ → Type 0
