@@ -1,7 +1,6 @@
 // Rule 14: the fitting pairs of leaves.
 ghost use mathlib.Core.Path.{_≡_};
 ghost use lib.ListN.{length, getD};
-ghost use Rattle.ring.specs.Element.{plus, Within};
 ghost use Rattle.ring.specs.Matrix.{RowsWithin};
 ghost use Rattle.layout_rules.specs.Section.{degree};
 ghost use Rattle.digit_rules.specs.Base.{BasePart};
@@ -9,11 +8,11 @@ ghost use Rattle.digit_rules.specs.Record.{recordAt, elementCount};
 ghost use Rattle.numeration.specs.Code.{agree};
 ghost use Rattle.numeration.specs.Elements.{elements};
 ghost use Rattle.numeration.specs.Pairs.{pairPasses};
-ghost use Rattle.leaves.specs.Leaf.{leafCount, codeOf, wordGiven, weightGiven};
+ghost use Rattle.leaves.specs.Leaf.{leafCount, codeOf};
 ghost use Rattle.prefix_rules.specs.Check.{leafCheck};
 ghost use mathlib.Core.Bool.{true};
-ghost use Rattle.pairs.specs.Slots.{slotOf, Slotted};
-ghost use Rattle.table_rules.specs.Pairs.{inAlphabet, upperPart, badPair, pairCheck};
+ghost use Rattle.pair_digits.specs.Slots.{Slotted};
+ghost use Rattle.table_rules.specs.Pairs.{inAlphabet, badPair, pairCheck};
 ghost use Prim.Native.Nat.{_+_, _<_, _^_, min, pred};
 ghost use Rattle.lists.specs.Span.{span};
 ghost use Rattle.lists.specs.Scan.{firstFailing};
@@ -64,95 +63,6 @@ fn fit(upper: &[u8], lower: &[u8]) -> bool
     true
 }
 
-// What an upper leaf gives to the digits of its pairs: its first digit minus the base times its weight.
-fn upper_part(
-    base: [[i64; 2]; 2],
-    inputs: &[u8],
-    leaves: &[u8],
-    words: &[u8],
-    upper: usize,
-) -> [i64; 2]
-    requires { ⌜ RowsWithin (2 ^ 24) base × (getD (wordGiven (now leaves) (now words) upper) 0 0 < elementCount (now inputs)) ⌝ }
-    ensures { λ r. ⌜ (r ≡ upperPart base (now (inputs .entry)) (now (leaves .entry)) (now (words .entry)) upper) × Within (2 ^ 57 + 32768) r ⌝ }
-{
-    let first = leaves::byte_at(leaves::word(leaves, words, upper), 0) as usize;
-    ring::difference(
-        digits::record_at(inputs, first),
-        ring::times_base(base, leaves::weight(leaves, upper)),
-    )
-}
-
-fn wide(x: u8) -> usize
-    ensures { λ r. ⌜ r ≡ x ⌝ }
-{
-    x as usize
-}
-
-// The slot of an element. Those of a square of 16 by 16 have different ones.
-fn slot_of(x: [i64; 2]) -> usize
-    requires { ⌜ Within (2 ^ 58) x ⌝ }
-    ensures { λ r. ⌜ (r ≡ slotOf x) × (r < 256) ⌝ }
-{
-    let place = x[0] + 16 * x[1] + 32768;
-    if place < 0 {
-        return 0;
-    }
-    place as usize % SLOTS
-}
-
-// Puts the number of each alphabet digit into its slot; whether each has a slot of its own.
-fn slot_digits(alphabet: &[u8], slots: &mut [u8; SLOTS]) -> bool
-    ensures { λ r. ⌜ (r ≡ true → Slotted (now (alphabet .entry)) (now (slots .exit))) ⌝ }
-{
-    let count = layout::record_count(alphabet, 1);
-    if count > 255 {
-        return false;
-    }
-    let mut digit = 0;
-    while digit < count {
-        let slot = slot_of(digits::record_at(alphabet, digit));
-        if slots[slot] < EMPTY {
-            return false;
-        }
-        slots[slot] = digit as u8;
-        digit += 1;
-    }
-    true
-}
-
-// Whether an element is an alphabet digit, by the one in its slot.
-fn in_slots(alphabet: &[u8], slots: &[u8; SLOTS], x: [i64; 2]) -> bool
-    requires { ⌜ Within (2 ^ 58) x × Slotted (now alphabet) (now slots) ⌝ }
-    ensures { λ r. ⌜ r ≡ inAlphabet (now (alphabet .entry)) x ⌝ }
-{
-    let slot = slot_of(x);
-    let digit = wide(slots[slot]);
-    if digit < layout::record_count(alphabet, 1) {
-        return ring::equal(digits::record_at(alphabet, digit), x);
-    }
-    false
-}
-
-// Whether a fitting pair gives an alphabet digit, by the upper leaf's part of it, and by the slots where they are known.
-fn gives_digit(
-    alphabet: &[u8],
-    known: bool,
-    slots: &[u8; SLOTS],
-    part: [i64; 2],
-    leaves: &[u8],
-    lower: usize,
-) -> bool
-    requires { ⌜ (known ≡ true → Slotted (now alphabet) (now slots)) × Within (2 ^ 57 + 32768) part ⌝ }
-    ensures { λ r. ⌜ r ≡ inAlphabet (now (alphabet .entry)) (plus part (weightGiven (now (leaves .entry)) lower)) ⌝ }
-{
-    let digit = ring::sum(part, leaves::weight(leaves, lower));
-    if known {
-        return in_slots(alphabet, slots, digit);
-    }
-    let count = layout::record_count(alphabet, 1);
-    digits::find(alphabet, count, digit) < count
-}
-
 // The lowest lower leaf that fits and gives no alphabet digit, or the leaf count. Those that fit are neighbours, from the leaf of the
 // upper word's tail on, which may be the guessed one.
 fn bad_lower(
@@ -171,7 +81,7 @@ fn bad_lower(
 {
     let count = leaves::leaf_count(leaves);
     let top = leaves::word(leaves, words, upper);
-    let part = upper_part(base, inputs, leaves, words, upper);
+    let part = pair_digits::upper_part(base, inputs, leaves, words, upper);
     let mut lower = leaves::look_up_from(leaves, words, tail_window(top), guess);
     while lower < count {
         if !fit(top, leaves::word(leaves, words, lower)) {
@@ -180,7 +90,7 @@ fn bad_lower(
                 end: lower,
             };
         }
-        if !gives_digit(alphabet, known, slots, part, leaves, lower) {
+        if !pair_digits::gives_digit(alphabet, known, slots, part, leaves, lower) {
             return Run {
                 bad: lower,
                 end: lower,
@@ -201,7 +111,7 @@ pub fn bad_pair(base: &[u8], alphabet: &[u8], inputs: &[u8], leaves: &[u8], word
 {
     let matrix = digits::base_of(base);
     let mut slots = [EMPTY; SLOTS];
-    let known = slot_digits(alphabet, &mut slots);
+    let known = pair_digits::slot_digits(alphabet, &mut slots);
     let count = leaves::leaf_count(leaves);
     let mut guess = 0;
     let mut upper = 0;
@@ -230,11 +140,17 @@ pub fn bad_pair(base: &[u8], alphabet: &[u8], inputs: &[u8], leaves: &[u8], word
     }
 }
 
-// Rule 14.
+// Rule 14. The scan that names the leaves is only made where the quick look says nothing.
 pub fn pairs(base: &[u8], alphabet: &[u8], inputs: &[u8], leaves: &[u8], words: &[u8]) -> Refusal
     requires { ⌜ BasePart (now base) × (0 < elementCount (now inputs)) × (leafCheck (now leaves) (now words) (elementCount (now inputs)) .number ≡ 0) ⌝ }
     ensures { λ r. ⌜ r ≡ pairCheck (now (base .entry)) (now (alphabet .entry)) (now (inputs .entry)) (now (leaves .entry)) (now (words .entry)) ⌝ }
 {
+    if pair_sets::all_pass(base, alphabet, inputs, leaves, words) {
+        return Refusal {
+            number: 0,
+            place: 0,
+        };
+    }
     let found = bad_pair(base, alphabet, inputs, leaves, words);
     if found.upper < leaves::leaf_count(leaves) {
         return Refusal {

@@ -41,14 +41,14 @@ pub more-small : (i all byte : ℕ) → all < 256 ^ i → byte < 256 → all * 2
 more-small i all byte h l = rw (add-one, pow-suc) (digits-lt h l)
 
 -- a byte is eight bits
-eight-bits : (k : ℕ) → 2 ^ (8 * k) ≡ 256 ^ k
+pub eight-bits : (k : ℕ) → 2 ^ (8 * k) ≡ 256 ^ k
 eight-bits zero = refl
 eight-bits (suc k) =
     let e : 8 * suc k ≡ 8 * k + 8 = omega arith in
     ap (λ (x : ℕ). 2 ^ x) e ∙ pow-add 2 (8 * k) 8 ∙ ap (λ (x : ℕ). x * 256) (eight-bits k) ∙ sym (pow-suc 256 k)
 
 -- what stands in front of n bytes is shifted out
-shifted : (q r n : ℕ) → n ≤ 8 → r < 256 ^ n → ((q * 256 ^ n + r) * 2 ^ (8 * (8 - n))) % 2 ^ 64 ≡ r * 256 ^ (8 - n)
+pub shifted : (q r n : ℕ) → n ≤ 8 → r < 256 ^ n → ((q * 256 ^ n + r) * 2 ^ (8 * (8 - n))) % 2 ^ 64 ≡ r * 256 ^ (8 - n)
 shifted q r n h l =
     let e : n + (8 - n) ≡ 8 = omega arith in
     let whole : 256 ^ n * 256 ^ (8 - n) ≡ 2 ^ 64 = sym (pow-add 256 n (8 - n)) ∙ ap (λ (x : ℕ). 256 ^ x) e in

@@ -1,10 +1,17 @@
--- The failing pair says whether rule 14 is broken, and where.
+-- The quick look, or else the failing pair, says whether rule 14 is broken, and where.
 use Rattle.table_rules.proofs.Bad.{pairs-broken, pairs-kept}
+use Rattle.pairs.proofs.Quick.{all-kept}
 use Prim.Native.Nat.{ℕ, _<_, _≤_}
-use mathlib.Core.Path.{_≡_, sym, subst}
+use mathlib.Core.Path.{subst}
 use borrow.Author.Needs.{needs}
 use Rattle.pairs.proofs.pairs.Statement.{statement}
 use Rattle.pairs.proofs.pairs.Tie as tie
+
+all-pass-requires : tie.Need-all-pass-requires
+all-pass-requires c κs = search needs
+
+returns : tie.Need-returns
+returns c = let a = c .before .before .before .before .before .before .before .args in all-kept (a .base .now) (a .alphabet .now) (a .inputs .now) (a .leaves .now) (a .words .now) (c .before .all-pass .ensures (c .if1 .taken))
 
 bad-pair-requires : tie.Need-bad-pair-requires
 bad-pair-requires c κs = search needs
@@ -12,15 +19,13 @@ bad-pair-requires c κs = search needs
 leaf-count-requires : tie.Need-leaf-count-requires
 leaf-count-requires c κs = search needs
 
-returns : tie.Need-returns
-returns c =
-    let a = c .before .before .before .before .before .before .before .before .before .args in
-    pairs-broken (a .base .now) (a .alphabet .now) (a .inputs .now) (a .leaves .now) (a .words .now) (c .before .before .before .bad-pair .result) (c .before .before .before .bad-pair .ensures) (subst (λ (n : ℕ). c .before .before .before .bad-pair .result .upper < n) (c .before .before .leaf-count .ensures) (c .if1 .taken))
-
 returns-2 : tie.Need-returns-2
-returns-2 c =
-    let a = c .before .before .before .before .before .before .before .before .before .args in
-    pairs-kept (a .base .now) (a .alphabet .now) (a .inputs .now) (a .leaves .now) (a .words .now) (c .before .before .before .bad-pair .result) (c .before .before .before .bad-pair .ensures) (subst (λ (n : ℕ). n ≤ c .before .before .before .bad-pair .result .upper) (c .before .before .leaf-count .ensures) (c .if1 .left))
+returns-2 c = let a = c .before .before .before .before .before .before .before .before .before .before .before .args in pairs-broken (a .base .now) (a .alphabet .now) (a .inputs .now) (a .leaves .now) (a .words .now) (c .before .before .before .bad-pair .result) (c .before .before .before .bad-pair .ensures) (subst (λ (n : ℕ). c .before .before .before .bad-pair .result .upper < n) (c .before .before .leaf-count .ensures) (c .if2 .taken))
+
+returns-3 : tie.Need-returns-3
+returns-3 c = let a = c .before .before .before .before .before .before .before .before .before .before .before .args in pairs-kept (a .base .now) (a .alphabet .now) (a .inputs .now) (a .leaves .now) (a .words .now) (c .before .before .before .bad-pair .result) (c .before .before .before .bad-pair .ensures) (subst (λ (n : ℕ). n ≤ c .before .before .before .bad-pair .result .upper) (c .before .before .leaf-count .ensures) (c .if2 .left))
 
 pub pairs-spec : {M : Type 1} → statement M
-pairs-spec = tie.close (tie.spec bad-pair-requires leaf-count-requires returns returns-2)
+pairs-spec =
+    tie.close
+    (tie.spec all-pass-requires returns bad-pair-requires leaf-count-requires returns-2 returns-3)

@@ -18,7 +18,7 @@ use Rattle.ring.proofs.Element.{same-refl, same→≡}
 use Rattle.digit_rules.specs.Record.{recordAt, elementCount, indexIn}
 use Rattle.digit_rules.proofs.Index.{index-is, index-first}
 use Rattle.table_rules.specs.Pairs.{inAlphabet}
-use Rattle.pairs.specs.Slots.{slotPlace, slotOf, SlottedBefore, Slotted}
+use Rattle.pair_digits.specs.Slots.{slotPlace, slotOf, SlottedBefore, Slotted}
 
 -- one more digit, in a slot that was empty
 pub slot-next : (alphabet slots : List ℕ) (n slot : ℕ) → slot ≡ slotOf (recordAt alphabet n) → 255 ≤ getD slots slot 0 → n ≤ 255 → SlottedBefore alphabet slots n → SlottedBefore alphabet (set slots slot n) (n + 1)

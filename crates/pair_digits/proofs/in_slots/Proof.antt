@@ -1,4 +1,4 @@
-use Rattle.pairs.proofs.Slots.{slot-none, slot-some}
+use Rattle.pair_digits.proofs.Slots.{slot-none, slot-some}
 use Rattle.ring.specs.Element.{same}
 use lib.ListN.{getD}
 use denote.Ref.{now}
@@ -6,8 +6,8 @@ use native.Mathlib.Omega.{arith}
 use Prim.Native.Nat.{ℕ, _<_, _≤_}
 use mathlib.Core.Path.{_≡_, ap, _∙_}
 use borrow.Author.Needs.{needs}
-use Rattle.pairs.proofs.in_slots.Statement.{statement}
-use Rattle.pairs.proofs.in_slots.Tie as tie
+use Rattle.pair_digits.proofs.in_slots.Statement.{statement}
+use Rattle.pair_digits.proofs.in_slots.Tie as tie
 
 slot-of-requires : tie.Need-slot-of-requires
 slot-of-requires c κs = search needs

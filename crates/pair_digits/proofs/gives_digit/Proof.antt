@@ -6,8 +6,8 @@ use lib.Dec.{ltb, lit≤}
 use Prim.Native.Nat.{_+_, _^_}
 use mathlib.Core.Path.{_≡_, sym, ap, subst, _∙_}
 use borrow.Author.Needs.{needs}
-use Rattle.pairs.proofs.gives_digit.Statement.{statement}
-use Rattle.pairs.proofs.gives_digit.Tie as tie
+use Rattle.pair_digits.proofs.gives_digit.Statement.{statement}
+use Rattle.pair_digits.proofs.gives_digit.Tie as tie
 
 weight-requires : tie.Need-weight-requires
 weight-requires c κs = search needs

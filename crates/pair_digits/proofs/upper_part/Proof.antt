@@ -7,8 +7,8 @@ use lib.Dec.{lit≤}
 use Prim.Native.Nat.{ℕ, _+_, _^_, _<_}
 use mathlib.Core.Path.{_≡_, sym, ap, subst, _∙_}
 use borrow.Author.Needs.{needs}
-use Rattle.pairs.proofs.upper_part.Statement.{statement}
-use Rattle.pairs.proofs.upper_part.Tie as tie
+use Rattle.pair_digits.proofs.upper_part.Statement.{statement}
+use Rattle.pair_digits.proofs.upper_part.Tie as tie
 
 word-requires : tie.Need-word-requires
 word-requires c κs = search needs

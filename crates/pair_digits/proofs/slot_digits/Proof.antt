@@ -1,5 +1,5 @@
-use Rattle.pairs.proofs.Slots.{slot-next}
-use Rattle.pairs.specs.Slots.{slotOf, SlottedBefore}
+use Rattle.pair_digits.proofs.Slots.{slot-next}
+use Rattle.pair_digits.specs.Slots.{slotOf, SlottedBefore}
 use Rattle.ring.proofs.Element.{within-le}
 use Rattle.lists.proofs.Test.{clash}
 use borrow.Author.Needs.{needs}
@@ -8,8 +8,8 @@ use lib.Dec.{lit≤}
 use native.Mathlib.Omega.{arith}
 use Prim.Native.Nat.{ℕ, _≤_, _-_, _^_}
 use mathlib.Core.Path.{_≡_, refl, ap, _∙_}
-use Rattle.pairs.proofs.slot_digits.Statement.{statement}
-use Rattle.pairs.proofs.slot_digits.Tie as tie
+use Rattle.pair_digits.proofs.slot_digits.Statement.{statement}
+use Rattle.pair_digits.proofs.slot_digits.Tie as tie
 
 abbrev Inv-loop : tie.InvT-loop
 Inv-loop alphabet slots₀ count digit₀ slots digit = (digit ≤ count) × SlottedBefore alphabet slots digit

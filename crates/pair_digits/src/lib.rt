@@ -1,0 +1,105 @@
+// The digit of a fitting pair, and whether it is an alphabet digit: rule 14 for one pair.
+ghost use mathlib.Core.Path.{_≡_};
+ghost use lib.ListN.{getD};
+ghost use Rattle.ring.specs.Element.{plus, Within};
+ghost use Rattle.ring.specs.Matrix.{RowsWithin};
+ghost use Rattle.digit_rules.specs.Record.{elementCount};
+ghost use Rattle.leaves.specs.Leaf.{wordGiven, weightGiven};
+ghost use mathlib.Core.Bool.{true};
+ghost use Rattle.pair_digits.specs.Slots.{slotOf, Slotted};
+ghost use Rattle.table_rules.specs.Pairs.{inAlphabet, upperPart};
+ghost use Prim.Native.Nat.{_+_, _<_, _^_};
+
+// The count of slots for alphabet digits, and the mark of an empty one.
+const SLOTS: usize = 256;
+
+const EMPTY: u8 = 255;
+
+// What an upper leaf gives to the digits of its pairs: its first digit minus the base times its weight.
+pub fn upper_part(
+    base: [[i64; 2]; 2],
+    inputs: &[u8],
+    leaves: &[u8],
+    words: &[u8],
+    upper: usize,
+) -> [i64; 2]
+    requires { ⌜ RowsWithin (2 ^ 24) base × (getD (wordGiven (now leaves) (now words) upper) 0 0 < elementCount (now inputs)) ⌝ }
+    ensures { λ r. ⌜ (r ≡ upperPart base (now (inputs .entry)) (now (leaves .entry)) (now (words .entry)) upper) × Within (2 ^ 57 + 32768) r ⌝ }
+{
+    let first = leaves::byte_at(leaves::word(leaves, words, upper), 0) as usize;
+    ring::difference(
+        digits::record_at(inputs, first),
+        ring::times_base(base, leaves::weight(leaves, upper)),
+    )
+}
+
+pub fn wide(x: u8) -> usize
+    ensures { λ r. ⌜ r ≡ x ⌝ }
+{
+    x as usize
+}
+
+// The slot of an element. Those of a square of 16 by 16 have different ones.
+pub fn slot_of(x: [i64; 2]) -> usize
+    requires { ⌜ Within (2 ^ 58) x ⌝ }
+    ensures { λ r. ⌜ (r ≡ slotOf x) × (r < 256) ⌝ }
+{
+    let place = x[0] + 16 * x[1] + 32768;
+    if place < 0 {
+        return 0;
+    }
+    place as usize % SLOTS
+}
+
+// Puts the number of each alphabet digit into its slot; whether each has a slot of its own.
+pub fn slot_digits(alphabet: &[u8], slots: &mut [u8; SLOTS]) -> bool
+    ensures { λ r. ⌜ (r ≡ true → Slotted (now (alphabet .entry)) (now (slots .exit))) ⌝ }
+{
+    let count = layout::record_count(alphabet, 1);
+    if count > 255 {
+        return false;
+    }
+    let mut digit = 0;
+    while digit < count {
+        let slot = slot_of(digits::record_at(alphabet, digit));
+        if slots[slot] < EMPTY {
+            return false;
+        }
+        slots[slot] = digit as u8;
+        digit += 1;
+    }
+    true
+}
+
+// Whether an element is an alphabet digit, by the one in its slot.
+fn in_slots(alphabet: &[u8], slots: &[u8; SLOTS], x: [i64; 2]) -> bool
+    requires { ⌜ Within (2 ^ 58) x × Slotted (now alphabet) (now slots) ⌝ }
+    ensures { λ r. ⌜ r ≡ inAlphabet (now (alphabet .entry)) x ⌝ }
+{
+    let slot = slot_of(x);
+    let digit = wide(slots[slot]);
+    if digit < layout::record_count(alphabet, 1) {
+        return ring::equal(digits::record_at(alphabet, digit), x);
+    }
+    false
+}
+
+// Whether a fitting pair gives an alphabet digit, by the upper leaf's part of it, and by the slots where they are known.
+pub fn gives_digit(
+    alphabet: &[u8],
+    known: bool,
+    slots: &[u8; SLOTS],
+    part: [i64; 2],
+    leaves: &[u8],
+    lower: usize,
+) -> bool
+    requires { ⌜ (known ≡ true → Slotted (now alphabet) (now slots)) × Within (2 ^ 57 + 32768) part ⌝ }
+    ensures { λ r. ⌜ r ≡ inAlphabet (now (alphabet .entry)) (plus part (weightGiven (now (leaves .entry)) lower)) ⌝ }
+{
+    let digit = ring::sum(part, leaves::weight(leaves, lower));
+    if known {
+        return in_slots(alphabet, slots, digit);
+    }
+    let count = layout::record_count(alphabet, 1);
+    digits::find(alphabet, count, digit) < count
+}

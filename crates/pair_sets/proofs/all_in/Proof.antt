@@ -1,0 +1,89 @@
+use Rattle.leaves.specs.Leaf.{weightGiven}
+use borrow.Author.Tests.{not-false}
+use Rattle.digit_rules.specs.Record.{elementCount}
+use Rattle.weight_sets.proofs.Weights.{zeros-none}
+use Rattle.pair_sets.proofs.Pass.{all-next}
+use Rattle.pair_sets.proofs.Keys.{ready-words}
+use Rattle.table_rules.proofs.Fitting.{first-input}
+use Rattle.prefix_rules.proofs.Formed.{formed}
+use Rattle.lists.proofs.Test.{clash}
+use Rattle.pair_sets.specs.Runs.{AllPass}
+use Rattle.weight_sets.specs.Weights.{Judged}
+use mathlib.Core.Path.{refl, ap, _∙_}
+use Prim.Native.Nat.{ℕ, _-_, _≤_}
+use native.Mathlib.Omega.{arith}
+use lib.ListN.{getD, set}
+use borrow.Author.Needs.{needs}
+use Rattle.pair_sets.proofs.all_in.Statement.{statement}
+use Rattle.pair_sets.proofs.all_in.Tie as tie
+
+abbrev Inv-loop : tie.InvT-loop
+Inv-loop base alphabet inputs leaves words keys numbers sets first count slots made₀ good₀ leaf-count all guess₀ upper₀ made good guess upper =
+    (guess ≤ leaf-count) × AllPass base alphabet inputs leaves words upper × Judged base alphabet inputs leaves first made good
+
+abbrev μ-loop : tie.MeasureT-loop
+μ-loop base alphabet inputs leaves words keys numbers sets first count slots made₀ good₀ leaf-count all guess₀ upper₀ made good guess upper =
+    leaf-count - upper
+
+slot-digits-requires : tie.Need-slot-digits-requires Inv-loop μ-loop
+slot-digits-requires c κs = search needs
+
+returns : tie.Need-returns Inv-loop μ-loop
+returns c = λ no. clash no refl
+
+leaf-count-requires : tie.Need-leaf-count-requires Inv-loop μ-loop
+leaf-count-requires c κs = search needs
+
+all-weights-requires : tie.Need-all-weights-requires Inv-loop μ-loop
+all-weights-requires c κs = search needs
+
+loop-holds : tie.Need-loop-holds Inv-loop μ-loop
+loop-holds c = (omega arith, λ u h. absurd (omega arith), λ i d e. absurd (omega (arith, e, zeros-none 64 i)))
+
+fitting-requires : tie.Need-fitting-requires Inv-loop μ-loop
+fitting-requires c κs = (c .before .before .before .before .before .before .before .before .before .before .before .before .before .before .before .pre .3, c .before .before .before .before .before .before .before .before .before .before .before .before .before .before .before .pre .4, c .before .before .before .before .before .before .before .before .before .before .before .before .before .before .before .pre .5, omega (arith, c .before .before .before .leaf-count .ensures), formed (c .before .before .before .before .before .before .before .before .before .before .before .before .before .before .before .args .leaves .now) (c .before .before .before .before .before .before .before .before .before .before .before .before .before .before .before .args .words .now) (elementCount (c .before .before .before .before .before .before .before .before .before .before .before .before .before .before .before .args .inputs .now)) (c .before .before .before .before .before .before .before .before .before .before .before .before .before .before .before .pre .1) (c .before .before .before .before .before .before .before .before .before .before .before .before .before .before .before .pre .2) .some (c .before .loop .upper) (omega (arith, c .before .before .before .leaf-count .ensures)), formed (c .before .before .before .before .before .before .before .before .before .before .before .before .before .before .before .args .leaves .now) (c .before .before .before .before .before .before .before .before .before .before .before .before .before .before .before .args .words .now) (elementCount (c .before .before .before .before .before .before .before .before .before .before .before .before .before .before .before .args .inputs .now)) (c .before .before .before .before .before .before .before .before .before .before .before .before .before .before .before .pre .1) (c .before .before .before .before .before .before .before .before .before .before .before .before .before .before .before .pre .2) .short (c .before .loop .upper) (omega (arith, c .before .before .before .leaf-count .ensures)), omega (arith, c .before .before .before .leaf-count .ensures, c .before .loop .inv .0), λ k h. omega (arith, c .before .before .before .before .before .before .before .before .before .before .before .before .before .before .before .pre .9 k h .0, c .before .before .before .before .before .before .before .before .before .before .before .before .before .before .before .pre .6), c .before .before .before .before .before .before .before .before .before .before .before .before .before .before .before .pre .10, λ k h. c .before .before .all-weights .ensures (getD (c .before .before .before .before .before .before .before .before .before .before .before .before .before .before .before .args .numbers .now) k 0) (c .before .before .before .before .before .before .before .before .before .before .before .before .before .before .before .pre .9 k h .0))
+
+shared-slice-read-wide : tie.Need-shared-slice-read-wide Inv-loop μ-loop
+shared-slice-read-wide c = omega arith
+
+wide-requires : tie.Need-wide-requires Inv-loop μ-loop
+wide-requires c κs = search needs
+
+judged-requires : tie.Need-judged-requires Inv-loop μ-loop
+judged-requires c κs = (c .before .before .before .before .before .before .before .before .before .before .before .before .before .before .before .before .before .before .before .before .before .pre .0, c .before .before .before .before .before .before .before .before .before .before .before .slot-digits .ensures (not-false _ (c .before .before .before .before .before .before .before .before .before .before .if1 .left)), first-input (c .before .before .before .before .before .before .before .before .before .before .before .before .before .before .before .before .before .before .before .before .before .args .leaves .now) (c .before .before .before .before .before .before .before .before .before .before .before .before .before .before .before .before .before .before .before .before .before .args .words .now) (elementCount (c .before .before .before .before .before .before .before .before .before .before .before .before .before .before .before .before .before .before .before .before .before .args .inputs .now)) (c .before .before .before .before .before .before .before .before .before .before .before .before .before .before .before .before .before .before .before .before .before .pre .1) (formed (c .before .before .before .before .before .before .before .before .before .before .before .before .before .before .before .before .before .before .before .before .before .args .leaves .now) (c .before .before .before .before .before .before .before .before .before .before .before .before .before .before .before .before .before .before .before .before .before .args .words .now) (elementCount (c .before .before .before .before .before .before .before .before .before .before .before .before .before .before .before .before .before .before .before .before .before .args .inputs .now)) (c .before .before .before .before .before .before .before .before .before .before .before .before .before .before .before .before .before .before .before .before .before .pre .1) (c .before .before .before .before .before .before .before .before .before .before .before .before .before .before .before .before .before .before .before .before .before .pre .2)) (c .before .before .before .before .before .before .before .loop .upper) (omega (arith, c .before .before .before .before .before .before .before .before .before .leaf-count .ensures)), omega (arith, c .before .before .before .wide .ensures .0, c .before .before .before .before .before .before .before .before .before .before .before .before .before .before .before .before .before .before .before .before .before .pre .9 (c .before .before .before .before .before .before .before .loop .upper) (omega (arith, c .before .before .before .before .before .before .before .before .before .leaf-count .ensures)) .0, c .before .before .before .before .before .before .before .before .before .before .before .before .before .before .before .before .before .before .before .before .before .pre .6), c .before .before .before .before .before .before .before .before .before .before .before .before .before .before .before .before .before .before .before .before .before .pre .6, c .before .before .before .before .before .before .before .before .before .before .before .before .before .before .before .before .before .before .before .before .before .pre .7, ap (λ (n : ℕ). weightGiven (c .before .before .before .before .before .before .before .before .before .before .before .before .before .before .before .before .before .before .before .before .before .args .leaves .now) (getD (c .before .before .before .before .before .before .before .before .before .before .before .before .before .before .before .before .before .before .before .before .before .args .first .now) n 0)) (c .before .before .before .wide .ensures .0) ∙ c .before .before .before .before .before .before .before .before .before .before .before .before .before .before .before .before .before .before .before .before .before .pre .9 (c .before .before .before .before .before .before .before .loop .upper) (omega (arith, c .before .before .before .before .before .before .before .before .before .leaf-count .ensures)) .1, c .before .before .before .before .before .before .before .loop .inv .2)
+
+returns-2 : tie.Need-returns-2 Inv-loop μ-loop
+returns-2 c = λ no. clash no refl
+
+add-upper : tie.Need-add-upper Inv-loop μ-loop
+add-upper c = omega arith
+
+loop-less : tie.Need-loop-less Inv-loop μ-loop
+loop-less c = omega arith
+
+loop-again : tie.Need-loop-again Inv-loop μ-loop
+loop-again c = (omega (arith, c .before .before .before .before .before .before .before .fitting .ensures .0, c .before .before .before .before .before .before .before .before .before .before .before .leaf-count .ensures), all-next (c .before .before .before .before .before .before .before .before .before .before .before .before .before .before .before .before .before .before .before .before .before .before .before .args .leaves .now) (c .before .before .before .before .before .before .before .before .before .before .before .before .before .before .before .before .before .before .before .before .before .before .before .args .words .now) (elementCount (c .before .before .before .before .before .before .before .before .before .before .before .before .before .before .before .before .before .before .before .before .before .before .before .args .inputs .now)) (c .before .before .before .before .before .before .before .before .before .before .before .before .before .before .before .before .before .before .before .before .before .before .before .pre .1) (formed (c .before .before .before .before .before .before .before .before .before .before .before .before .before .before .before .before .before .before .before .before .before .before .before .args .leaves .now) (c .before .before .before .before .before .before .before .before .before .before .before .before .before .before .before .before .before .before .before .before .before .before .before .args .words .now) (elementCount (c .before .before .before .before .before .before .before .before .before .before .before .before .before .before .before .before .before .before .before .before .before .before .before .args .inputs .now)) (c .before .before .before .before .before .before .before .before .before .before .before .before .before .before .before .before .before .before .before .before .before .before .before .pre .1) (c .before .before .before .before .before .before .before .before .before .before .before .before .before .before .before .before .before .before .before .before .before .before .before .pre .2)) (c .before .before .before .before .before .before .before .before .before .before .before .before .before .before .before .before .before .before .before .before .before .before .before .args .base) (c .before .before .before .before .before .before .before .before .before .before .before .before .before .before .before .before .before .before .before .before .before .before .before .args .inputs .now) (c .before .before .before .before .before .before .before .before .before .before .before .before .before .before .before .before .before .before .before .before .before .before .before .args .alphabet .now) (c .before .before .before .before .before .before .before .before .before .before .before .before .before .before .before .before .before .before .before .before .before .before .before .args .numbers .now) (c .before .before .before .before .before .before .before .before .before .before .before .before .before .before .before .before .before .before .before .before .before .before .before .args .first .now) (c .before .before .before .before .before .before .before .before .before .before .before .before .before .before .before .before .before .before .before .before .before .before .before .args .count) (c .before .before .before .before .before .before .before .before .before .before .before .before .before .before .before .before .before .before .before .before .before .before .before .pre .9) (c .before .before .before .before .before .before .before .before .before .loop .upper) (omega (arith, c .before .before .before .before .before .before .before .before .before .before .before .leaf-count .ensures)) (c .before .before .before .before .before .before .before .fitting .result .set) (c .before .judged .result) (c .before .before .before .before .before .before .before .fitting .ensures .1 (c .before .before .before .before .before .before .before .before .before .before .before .before .before .before .before .before .before .before .before .before .before .before .before .args .words .now) (ready-words (c .before .before .before .before .before .before .before .before .before .before .before .before .before .before .before .before .before .before .before .before .before .before .before .args .leaves .now) (c .before .before .before .before .before .before .before .before .before .before .before .before .before .before .before .before .before .before .before .before .before .before .before .args .words .now) (elementCount (c .before .before .before .before .before .before .before .before .before .before .before .before .before .before .before .before .before .before .before .before .before .before .before .args .inputs .now)) (formed (c .before .before .before .before .before .before .before .before .before .before .before .before .before .before .before .before .before .before .before .before .before .before .before .args .leaves .now) (c .before .before .before .before .before .before .before .before .before .before .before .before .before .before .before .before .before .before .before .before .before .before .before .args .words .now) (elementCount (c .before .before .before .before .before .before .before .before .before .before .before .before .before .before .before .before .before .before .before .before .before .before .before .args .inputs .now)) (c .before .before .before .before .before .before .before .before .before .before .before .before .before .before .before .before .before .before .before .before .before .before .before .pre .1) (c .before .before .before .before .before .before .before .before .before .before .before .before .before .before .before .before .before .before .before .before .before .before .before .pre .2)) (λ i. omega (arith, c .before .before .before .before .before .before .before .before .before .before .before .before .before .before .before .before .before .before .before .shared-slice-known4 .given i))) (c .before .before .before .before .before .before .before .before .before .before .before .before .before .before .before .before .before .before .before .before .before .before .before .pre .8)) (omega (arith, c .if2 .left)) (c .before .judged .ensures .0) (c .before .before .before .before .before .before .before .before .before .loop .inv .1), c .before .judged .ensures .1)
+
+returns-3 : tie.Need-returns-3 Inv-loop μ-loop
+returns-3 c = λ yes u h. c .before .loop .inv .1 u (omega (arith, c .before .before .before .leaf-count .ensures))
+
+pub all-in-spec : {M : Type 1} → statement M
+all-in-spec =
+    tie.close
+    (tie.spec
+    Inv-loop
+    μ-loop
+    slot-digits-requires
+    returns
+    leaf-count-requires
+    all-weights-requires
+    loop-holds
+    fitting-requires
+    shared-slice-read-wide
+    wide-requires
+    judged-requires
+    returns-2
+    add-upper
+    loop-less
+    loop-again
+    returns-3)

@@ -1,0 +1,40 @@
+use Rattle.lists.proofs.Test.{clash}
+use mathlib.Core.Path.{refl}
+use Prim.Native.Nat.{_-_}
+use borrow.Author.Needs.{needs}
+use borrow.Author.Needs.{needs}
+use Rattle.pair_sets.proofs.all_pass.Statement.{statement}
+use Rattle.pair_sets.proofs.all_pass.Tie as tie
+
+leaf-count-requires : tie.Need-leaf-count-requires
+leaf-count-requires c κs = search needs
+
+returns : tie.Need-returns
+returns c = λ no. clash no refl
+
+look-at-few-requires : tie.Need-look-at-few-requires
+look-at-few-requires c κs = search needs
+
+returns-2 : tie.Need-returns-2
+returns-2 c = search needs
+
+look-at-many-requires : tie.Need-look-at-many-requires
+look-at-many-requires c κs = search needs
+
+returns-3 : tie.Need-returns-3
+returns-3 c = search needs
+
+returns-4 : tie.Need-returns-4
+returns-4 c = λ no. clash no refl
+
+pub all-pass-spec : {M : Type 1} → statement M
+all-pass-spec =
+    tie.close
+    (tie.spec
+    leaf-count-requires
+    returns
+    look-at-few-requires
+    returns-2
+    look-at-many-requires
+    returns-3
+    returns-4)

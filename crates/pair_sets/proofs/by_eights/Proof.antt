@@ -1,0 +1,70 @@
+use Rattle.pair_sets.proofs.Runs.{run-more}
+use Prim.Native.Nat.{ℕ, _-_, _≤_}
+use native.Mathlib.Omega.{arith}
+use lib.ListN.{set}
+use Rattle.pair_sets.specs.Runs.{InRun}
+use Rattle.weight_sets.specs.Weights.{Covers}
+use mathlib.Core.List.{List}
+use Rattle.pair_sets.proofs.by_eights.Statement.{statement}
+use Rattle.pair_sets.proofs.by_eights.Tie as tie
+
+abbrev Inv-loop : tie.InvT-loop
+Inv-loop keys sets count start last set₀ leaf₀ set leaf = (start ≤ leaf) × (leaf ≤ count) × ((numbers : List ℕ) → Covers numbers sets count 8 → InRun numbers start set leaf)
+
+abbrev μ-loop : tie.MeasureT-loop
+μ-loop keys sets count start last set₀ leaf₀ set leaf = count - leaf
+
+loop-holds : tie.Need-loop-holds Inv-loop μ-loop
+loop-holds c = (omega arith, omega arith, λ numbers covers k low high. absurd (omega arith))
+
+add-loop : tie.Need-add-loop Inv-loop μ-loop
+add-loop c = omega arith
+
+add-next : tie.Need-add-next Inv-loop μ-loop
+add-next c = omega arith
+
+mul-if1 : tie.Need-mul-if1 Inv-loop μ-loop
+mul-if1 c = omega arith
+
+shared-slice-read-if1 : tie.Need-shared-slice-read-if1 Inv-loop μ-loop
+shared-slice-read-if1 c = omega arith
+
+returns : tie.Need-returns Inv-loop μ-loop
+returns c = c .before .before .before .loop .inv
+
+mul-set : tie.Need-mul-set Inv-loop μ-loop
+mul-set c = omega arith
+
+shared-slice-read-set : tie.Need-shared-slice-read-set Inv-loop μ-loop
+shared-slice-read-set c = omega arith
+
+add-leaf : tie.Need-add-leaf Inv-loop μ-loop
+add-leaf c = omega arith
+
+loop-less : tie.Need-loop-less Inv-loop μ-loop
+loop-less c = omega arith
+
+loop-again : tie.Need-loop-again Inv-loop μ-loop
+loop-again c = (omega arith, omega arith, λ numbers covers. run-more numbers (c .before .before .before .before .before .args .count) (c .before .before .before .before .before .args .sets .now) (c .before .before .before .before .before .args .start) (c .before .before .before .before .loop .set) (c .before .before .before .before .loop .leaf) 8 (c .before .before .before .loop-test .taken) covers (c .before .before .before .before .loop .inv .2 numbers covers))
+
+returns-2 : tie.Need-returns-2 Inv-loop μ-loop
+returns-2 c = c .before .loop .inv
+
+pub by-eights-spec : {M : Type 1} → statement M
+by-eights-spec =
+    tie.close
+    (tie.spec
+    Inv-loop
+    μ-loop
+    loop-holds
+    add-loop
+    add-next
+    mul-if1
+    shared-slice-read-if1
+    returns
+    mul-set
+    shared-slice-read-set
+    add-leaf
+    loop-less
+    loop-again
+    returns-2)

@@ -1,0 +1,55 @@
+use Rattle.pair_sets.proofs.Keys.{run-has}
+use Rattle.weight_sets.specs.Weights.{Covers}
+use mathlib.Core.Path.{refl, sym, ap, subst, _∙_}
+use Prim.Native.Nat.{ℕ, _-_, _*_, _%_, _^_, pred}
+use native.Mathlib.Omega.{arith}
+use lib.ListN.{length, getD, set}
+use borrow.Author.Needs.{needs}
+use borrow.Author.Needs.{needs}
+use Rattle.pair_sets.proofs.fitting.Statement.{statement}
+use Rattle.pair_sets.proofs.fitting.Tie as tie
+
+leaf-count-requires : tie.Need-leaf-count-requires
+leaf-count-requires c κs = search needs
+
+word-length-requires : tie.Need-word-length-requires
+word-length-requires c κs = search needs
+
+returns : tie.Need-returns
+returns c = (omega (arith, c .before .before .leaf-count .ensures), λ words ready keyed l there fit. c .before .before .before .before .before .before .before .pre .9 l there)
+
+mul-tail : tie.Need-mul-tail
+mul-tail c = search needs
+
+shared-slice-read-tail : tie.Need-shared-slice-read-tail
+shared-slice-read-tail c = search needs
+
+behind-requires : tie.Need-behind-requires
+behind-requires c κs = search needs
+
+start-of-requires : tie.Need-start-of-requires
+start-of-requires c κs = search needs
+
+by-eights-requires : tie.Need-by-eights-requires
+by-eights-requires c κs = search needs
+
+one-by-one-requires : tie.Need-one-by-one-requires
+one-by-one-requires c κs = (omega (arith, c .before .before .before .before .before .before .leaf-count .ensures), omega (arith, c .before .before .before .before .before .before .leaf-count .ensures), c .by-eights .ensures .1, λ k h. c .before .before .before .before .before .before .before .before .before .before .before .pre .7 k (omega (arith, c .before .before .before .before .before .before .leaf-count .ensures)))
+
+returns-2 : tie.Need-returns-2
+returns-2 c = (omega (arith, c .one-by-one .ensures .1, c .before .before .before .before .before .before .before .leaf-count .ensures), λ words ready keyed. run-has (c .before .before .before .before .before .before .before .before .before .before .before .before .args .leaves .now) words ready (c .before .before .before .before .before .before .before .before .before .before .before .before .args .upper) (c .before .before .before .before .before .before .before .before .before .before .before .before .pre .3) (c .before .before .before .before .before .before .before .before .before .before .before .before .args .keys .now) (c .before .before .before .before .before .before .before .before .before .before .before .before .args .numbers .now) keyed ((getD (c .before .before .before .before .before .before .before .before .before .before .before .before .args .keys .now) (c .before .before .before .before .before .before .before .before .before .before .before .before .args .upper) 0 * 2 ^ 8) % 2 ^ 64) (c .before .before .before .behind .result) (c .before .before .start-of .result) (c .one-by-one .result .set) (c .one-by-one .result .end) refl (c .before .before .before .behind .ensures ∙ ap (λ (n : ℕ). 256 ^ (8 - pred n)) (c .before .before .before .before .before .before .word-length .ensures .0)) (λ h. let e = c .before .before .start-of .ensures .1 h in (omega (arith, e .0, c .before .before .before .before .before .before .before .leaf-count .ensures), e .1)) (λ h. c .one-by-one .ensures .2 (omega (arith, c .before .before .before .before .before .before .before .leaf-count .ensures))) (c .one-by-one .ensures .3 (c .before .before .start-of .result) (c .before .by-eights .ensures .2 (c .before .before .before .before .before .before .before .before .before .before .before .before .args .numbers .now) (subst (λ (n : ℕ). Covers (c .before .before .before .before .before .before .before .before .before .before .before .before .args .numbers .now) (c .before .before .before .before .before .before .before .before .before .before .before .before .args .sets .now) n 8) (sym (c .before .before .before .before .before .before .before .leaf-count .ensures)) (c .before .before .before .before .before .before .before .before .before .before .before .before .pre .8)))))
+
+pub fitting-spec : {M : Type 1} → statement M
+fitting-spec =
+    tie.close
+    (tie.spec
+    leaf-count-requires
+    word-length-requires
+    returns
+    mul-tail
+    shared-slice-read-tail
+    behind-requires
+    start-of-requires
+    by-eights-requires
+    one-by-one-requires
+    returns-2)

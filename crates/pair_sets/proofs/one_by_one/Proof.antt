@@ -1,0 +1,68 @@
+use Rattle.weight_sets.proofs.Bits.{has-single}
+use Rattle.pair_sets.proofs.Runs.{run-next}
+use mathlib.Core.Path.{sym, ap, subst, _∙_}
+use Prim.Native.Nat.{ℕ, _-_, _≤_, _^_}
+use native.Mathlib.Omega.{arith}
+use lib.ListN.{getD, set}
+use borrow.Author.Needs.{needs}
+use Rattle.pair_sets.specs.Runs.{InRun}
+use Rattle.weight_sets.specs.Bits.{Has}
+use Rattle.pair_sets.proofs.one_by_one.Statement.{statement}
+use Rattle.pair_sets.proofs.one_by_one.Tie as tie
+
+abbrev Inv-loop : tie.InvT-loop
+Inv-loop keys numbers count last set₀ leaf₀ set leaf = (leaf₀ ≤ leaf) × (leaf ≤ count) × ((start : ℕ) → InRun numbers start set₀ leaf₀ → InRun numbers start set leaf)
+
+abbrev μ-loop : tie.MeasureT-loop
+μ-loop keys numbers count last set₀ leaf₀ set leaf = count - leaf
+
+loop-holds : tie.Need-loop-holds Inv-loop μ-loop
+loop-holds c = (omega arith, omega arith, λ start before. before)
+
+mul-if1 : tie.Need-mul-if1 Inv-loop μ-loop
+mul-if1 c = omega arith
+
+shared-slice-read-if1 : tie.Need-shared-slice-read-if1 Inv-loop μ-loop
+shared-slice-read-if1 c = omega arith
+
+returns : tie.Need-returns Inv-loop μ-loop
+returns c = (c .before .before .before .loop .inv .0, c .before .before .before .loop .inv .1, λ h. c .if1 .taken, c .before .before .before .loop .inv .2)
+
+shared-slice-read-wide : tie.Need-shared-slice-read-wide Inv-loop μ-loop
+shared-slice-read-wide c = omega arith
+
+wide-requires : tie.Need-wide-requires Inv-loop μ-loop
+wide-requires c κs = search needs
+
+single-requires : tie.Need-single-requires Inv-loop μ-loop
+single-requires c κs = omega (arith, c .wide .ensures .0, c .before .before .before .before .before .before .before .before .pre .3 (c .before .before .before .before .before .loop .leaf) (c .before .before .before .before .loop-test .taken))
+
+add-leaf : tie.Need-add-leaf Inv-loop μ-loop
+add-leaf c = omega arith
+
+loop-less : tie.Need-loop-less Inv-loop μ-loop
+loop-less c = omega arith
+
+loop-again : tie.Need-loop-again Inv-loop μ-loop
+loop-again c = (omega arith, omega arith, λ start before. run-next (c .before .before .before .before .before .before .before .before .before .args .numbers .now) (c .before .before .before .before .before .before .before .before .before .args .count) start (c .before .before .before .before .before .before .loop .set) (c .before .before .before .before .before .before .loop .leaf) (c .single .result) (subst (λ (x : ℕ). Has x (getD (c .before .before .before .before .before .before .before .before .before .args .numbers .now) (c .before .before .before .before .before .before .loop .leaf) 0)) (sym (c .single .ensures ∙ ap (λ (n : ℕ). 2 ^ n) (c .before .wide .ensures .0))) (has-single (getD (c .before .before .before .before .before .before .before .before .before .args .numbers .now) (c .before .before .before .before .before .before .loop .leaf) 0))) (c .before .before .before .before .before .before .loop .inv .2 start before))
+
+returns-2 : tie.Need-returns-2 Inv-loop μ-loop
+returns-2 c = (c .before .loop .inv .0, c .before .loop .inv .1, λ h. absurd (omega arith), c .before .loop .inv .2)
+
+pub one-by-one-spec : {M : Type 1} → statement M
+one-by-one-spec =
+    tie.close
+    (tie.spec
+    Inv-loop
+    μ-loop
+    loop-holds
+    mul-if1
+    shared-slice-read-if1
+    returns
+    shared-slice-read-wide
+    wide-requires
+    single-requires
+    add-leaf
+    loop-less
+    loop-again
+    returns-2)

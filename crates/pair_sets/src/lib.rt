@@ -1,0 +1,286 @@
+// Rule 14's quick look: whether every fitting pair gives an alphabet digit, by sets of weights. It says yes or nothing.
+ghost use mathlib.Core.Path.{_≡_};
+ghost use mathlib.Core.Bool.{true};
+ghost use mathlib.Core.List.{List};
+ghost use Prim.Native.Nat.{ℕ, _+_, _-_, _<_, _≤_, _^_, pred};
+ghost use lib.ListN.{length, getD};
+ghost use Rattle.ring.specs.Matrix.{RowsWithin};
+ghost use Rattle.digit_rules.specs.Base.{BasePart, baseMatrix};
+ghost use Rattle.digit_rules.specs.Record.{elementCount};
+ghost use Rattle.numeration.specs.Pairs.{Fits};
+ghost use Rattle.leaves.specs.Leaf.{leafCount, codeOf, wordLength};
+ghost use Rattle.prefix_rules.specs.Check.{leafCheck};
+ghost use Rattle.weight_sets.specs.Bits.{Has};
+ghost use Rattle.pair_sets.specs.Runs.{Ready, Keyed, InRun, AllPass};
+ghost use Rattle.weight_sets.specs.Weights.{Numbered, Covers};
+
+// The fewest leaves that are looked at, few leaves, the most leaves, and the most different weights.
+const FEWEST: usize = 32;
+
+const FEW: usize = 512;
+
+const LEAVES: usize = 4096;
+
+const WEIGHTS: usize = 64;
+
+// The count of slots for alphabet digits, and the mark of an empty one.
+const SLOTS: usize = 256;
+
+const EMPTY: u8 = 255;
+
+// The weights of leaves that are neighbours, and where these end.
+pub struct Run {
+    set: u64,
+    end: usize,
+}
+
+// The words of all leaves as numbers.
+fn keys_of(leaves: &[u8], words: &[u8], keys: &mut [u64])
+    requires { ⌜ (leafCount (now leaves) ≤ length (now keys)) × Ready (now leaves) (now words) ⌝ }
+    ensures { λ r. ⌜ Keyed (now (leaves .entry)) (now (words .entry)) (now (keys .exit)) (leafCount (now (leaves .entry))) ⌝ }
+{
+    let count = leaves::leaf_count(leaves);
+    let mut leaf = 0;
+    while leaf < count {
+        let start = leaves::word_start(leaves, leaf);
+        let length = leaves::word_length(leaves, leaf);
+        keys[leaf] = word_numbers::word_number(words, start, length);
+        leaf += 1;
+    }
+}
+
+// What the words that begin with an upper word's tail have behind it at most, by the upper word's length.
+fn behind(length: usize) -> u64
+    requires { ⌜ (1 ≤ length) × (length ≤ 8) ⌝ }
+    ensures { λ r. ⌜ r + 1 ≡ 256 ^ (8 - pred length) ⌝ }
+{
+    18446744073709551615 >> (8 * (length - 1))
+}
+
+// The leaf from which on words may begin with a tail, or begin it: the guessed one, the one before it, or leaf 0.
+fn start_of(keys: &[u64], count: usize, guess: usize, tail: u64) -> usize
+    requires { ⌜ (count ≤ length (now keys)) × (guess ≤ count) ⌝ }
+    ensures { λ r. ⌜ (r ≤ count) × (0 < r → (r < count) × (getD (now (keys .entry)) r 0 ≤ tail)) ⌝ }
+{
+    if guess < count {
+        if keys[guess] <= tail {
+            return guess;
+        }
+    }
+    if 0 < guess {
+        let before = guess - 1;
+        if keys[before] <= tail {
+            return before;
+        }
+    }
+    0
+}
+
+// The weights from a leaf on, eight leaves at a time, while their words are at most the last one.
+fn by_eights(keys: &[u64], sets: &[u64], count: usize, start: usize, last: u64) -> Run
+    requires { ⌜ (count ≤ length (now keys)) × (count ≤ length (now sets)) × (start ≤ count) ⌝ }
+    ensures { λ r. ⌜ (start ≤ r .end) × (r .end ≤ count) × ((numbers : List ℕ) → Covers numbers (now (sets .entry)) count 8 → InRun numbers start (r .set) (r .end)) ⌝ }
+{
+    let mut set = 0;
+    let mut leaf = start;
+    while leaf + 8 <= count {
+        let next = leaf + 7;
+        if last < keys[next] {
+            return Run { set, end: leaf };
+        }
+        set = set | sets[leaf];
+        leaf += 8;
+    }
+    Run { set, end: leaf }
+}
+
+// The same leaf by leaf, up to the first whose word is above the last one.
+fn one_by_one(keys: &[u64], numbers: &[u8], count: usize, run: Run, last: u64) -> Run
+    requires { ⌜ (count ≤ length (now keys)) × (count ≤ length (now numbers)) × (run .end ≤ count) × ((k : ℕ) → k < count → getD (now numbers) k 0 < 64) ⌝ }
+    ensures { λ r. ⌜ (run .end ≤ r .end) × (r .end ≤ count) × (r .end < count → last < getD (now (keys .entry)) (r .end) 0) × ((start : ℕ) → InRun (now (numbers .entry)) start (run .set) (run .end) → InRun (now (numbers .entry)) start (r .set) (r .end)) ⌝ }
+{
+    let mut set = run.set;
+    let mut leaf = run.end;
+    while leaf < count {
+        if last < keys[leaf] {
+            return Run { set, end: leaf };
+        }
+        set = set | weight_sets::single(weight_sets::wide(numbers[leaf]));
+        leaf += 1;
+    }
+    Run { set, end: leaf }
+}
+
+// The weights of all lower leaves that fit an upper one. All leaves fit one whose word has one digit.
+fn fitting(
+    leaves: &[u8],
+    keys: &[u64],
+    numbers: &[u8],
+    sets: &[u64],
+    all: u64,
+    upper: usize,
+    guess: usize,
+) -> Run
+    requires { ⌜ (leafCount (now leaves) ≤ length (now keys)) × (leafCount (now leaves) ≤ length (now numbers)) × (leafCount (now leaves) ≤ length (now sets)) × (upper < leafCount (now leaves)) × (1 ≤ wordLength (now leaves) upper) × (wordLength (now leaves) upper ≤ 8) × (guess ≤ leafCount (now leaves)) × ((k : ℕ) → k < leafCount (now leaves) → getD (now numbers) k 0 < 64) × Covers (now numbers) (now sets) (leafCount (now leaves)) 8 × ((k : ℕ) → k < leafCount (now leaves) → Has all (getD (now numbers) k 0)) ⌝ }
+    ensures { λ r. ⌜ (r .end ≤ leafCount (now (leaves .entry))) × ((words : List ℕ) → Ready (now (leaves .entry)) words → Keyed (now (leaves .entry)) words (now (keys .entry)) (leafCount (now (leaves .entry))) → (l : ℕ) → l < leafCount (now (leaves .entry)) → Fits (codeOf (now (leaves .entry)) words) upper l → Has (r .set) (getD (now (numbers .entry)) l 0)) ⌝ }
+{
+    let count = leaves::leaf_count(leaves);
+    let length = leaves::word_length(leaves, upper);
+    if length == 1 {
+        return Run {
+            set: all,
+            end: count,
+        };
+    }
+    let tail = keys[upper] << 8;
+    let last = tail | behind(length);
+    let start = start_of(keys, count, guess, tail);
+    let run = by_eights(keys, sets, count, start, last);
+    one_by_one(keys, numbers, count, run, last)
+}
+
+// Whether every upper leaf gives alphabet digits with all lower leaves that fit.
+fn all_in(
+    base: [[i64; 2]; 2],
+    alphabet: &[u8],
+    inputs: &[u8],
+    leaves: &[u8],
+    words: &[u8],
+    keys: &[u64],
+    numbers: &[u8],
+    sets: &[u64],
+    first: &[usize],
+    count: usize,
+) -> bool
+    requires { ⌜ RowsWithin (2 ^ 24) base × (0 < elementCount (now inputs)) × (leafCheck (now leaves) (now words) (elementCount (now inputs)) .number ≡ 0) × (leafCount (now leaves) ≤ length (now keys)) × (leafCount (now leaves) ≤ length (now numbers)) × (leafCount (now leaves) ≤ length (now sets)) × (count ≤ 64) × (count ≤ length (now first)) × Keyed (now leaves) (now words) (now keys) (leafCount (now leaves)) × Numbered (now leaves) (now numbers) (now first) count (leafCount (now leaves)) × Covers (now numbers) (now sets) (leafCount (now leaves)) 8 ⌝ }
+    ensures { λ r. ⌜ (r ≡ true → AllPass base (now (alphabet .entry)) (now (inputs .entry)) (now (leaves .entry)) (now (words .entry)) (leafCount (now (leaves .entry)))) ⌝ }
+{
+    let mut slots = [EMPTY; SLOTS];
+    if !pair_digits::slot_digits(alphabet, &mut slots) {
+        return false;
+    }
+    let mut made = [0; WEIGHTS];
+    let mut good = [0; WEIGHTS];
+    let leaf_count = leaves::leaf_count(leaves);
+    let all = weight_sets::all_weights(count);
+    let mut guess = 0;
+    let mut upper = 0;
+    while upper < leaf_count {
+        let run = fitting(leaves, keys, numbers, sets, all, upper, guess);
+        let number = weight_sets::wide(numbers[upper]);
+        let known = weight_sets::judged(
+            base,
+            alphabet,
+            &slots,
+            inputs,
+            leaves,
+            words,
+            upper,
+            number,
+            first,
+            count,
+            &mut made,
+            &mut good,
+        );
+        let set = run.set;
+        if set & known != set {
+            return false;
+        }
+        guess = run.end;
+        upper += 1;
+    }
+    true
+}
+
+// The same, with room lent for what is kept of the leaves.
+fn look(
+    base: &[u8],
+    alphabet: &[u8],
+    inputs: &[u8],
+    leaves: &[u8],
+    words: &[u8],
+    keys: &mut [u64],
+    sets: &mut [u64],
+    numbers: &mut [u8],
+) -> bool
+    requires { ⌜ BasePart (now base) × (0 < elementCount (now inputs)) × (leafCheck (now leaves) (now words) (elementCount (now inputs)) .number ≡ 0) × (leafCount (now leaves) ≤ length (now keys)) × (leafCount (now leaves) ≤ length (now sets)) × (leafCount (now leaves) ≤ length (now numbers)) ⌝ }
+    ensures { λ r. ⌜ (r ≡ true → AllPass (baseMatrix (now (base .entry))) (now (alphabet .entry)) (now (inputs .entry)) (now (leaves .entry)) (now (words .entry)) (leafCount (now (leaves .entry)))) ⌝ }
+{
+    let mut first = [0; WEIGHTS];
+    let count = weight_sets::number_weights(leaves, numbers, &mut first);
+    if WEIGHTS < count {
+        return false;
+    }
+    keys_of(leaves, words, keys);
+    weight_sets::eights(numbers, leaves::leaf_count(leaves), sets);
+    let matrix = digits::base_of(base);
+    all_in(
+        matrix,
+        alphabet,
+        inputs,
+        leaves,
+        words,
+        keys,
+        numbers,
+        sets,
+        &first,
+        count,
+    )
+}
+
+// The same for few leaves, since cleared room costs time.
+fn look_at_few(base: &[u8], alphabet: &[u8], inputs: &[u8], leaves: &[u8], words: &[u8]) -> bool
+    requires { ⌜ BasePart (now base) × (0 < elementCount (now inputs)) × (leafCheck (now leaves) (now words) (elementCount (now inputs)) .number ≡ 0) × (leafCount (now leaves) ≤ 512) ⌝ }
+    ensures { λ r. ⌜ (r ≡ true → AllPass (baseMatrix (now (base .entry))) (now (alphabet .entry)) (now (inputs .entry)) (now (leaves .entry)) (now (words .entry)) (leafCount (now (leaves .entry)))) ⌝ }
+{
+    let mut keys = [0; FEW];
+    let mut sets = [0; FEW];
+    let mut numbers = [0; FEW];
+    look(
+        base,
+        alphabet,
+        inputs,
+        leaves,
+        words,
+        &mut keys,
+        &mut sets,
+        &mut numbers,
+    )
+}
+
+fn look_at_many(base: &[u8], alphabet: &[u8], inputs: &[u8], leaves: &[u8], words: &[u8]) -> bool
+    requires { ⌜ BasePart (now base) × (0 < elementCount (now inputs)) × (leafCheck (now leaves) (now words) (elementCount (now inputs)) .number ≡ 0) × (leafCount (now leaves) ≤ 4096) ⌝ }
+    ensures { λ r. ⌜ (r ≡ true → AllPass (baseMatrix (now (base .entry))) (now (alphabet .entry)) (now (inputs .entry)) (now (leaves .entry)) (now (words .entry)) (leafCount (now (leaves .entry)))) ⌝ }
+{
+    let mut keys = [0; LEAVES];
+    let mut sets = [0; LEAVES];
+    let mut numbers = [0; LEAVES];
+    look(
+        base,
+        alphabet,
+        inputs,
+        leaves,
+        words,
+        &mut keys,
+        &mut sets,
+        &mut numbers,
+    )
+}
+
+// Whether every fitting pair is seen to give an alphabet digit. Of so few leaves that the pairs are judged sooner it says nothing.
+pub fn all_pass(base: &[u8], alphabet: &[u8], inputs: &[u8], leaves: &[u8], words: &[u8]) -> bool
+    requires { ⌜ BasePart (now base) × (0 < elementCount (now inputs)) × (leafCheck (now leaves) (now words) (elementCount (now inputs)) .number ≡ 0) ⌝ }
+    ensures { λ r. ⌜ (r ≡ true → AllPass (baseMatrix (now (base .entry))) (now (alphabet .entry)) (now (inputs .entry)) (now (leaves .entry)) (now (words .entry)) (leafCount (now (leaves .entry)))) ⌝ }
+{
+    let count = leaves::leaf_count(leaves);
+    if count < FEWEST {
+        return false;
+    }
+    if count <= FEW {
+        return look_at_few(base, alphabet, inputs, leaves, words);
+    }
+    if count <= LEAVES {
+        return look_at_many(base, alphabet, inputs, leaves, words);
+    }
+    false
+}

@@ -1,0 +1,58 @@
+use Rattle.weight_sets.proofs.Bits.{has-none}
+use Rattle.weight_sets.proofs.Weights.{good-next}
+use Prim.Native.Nat.{_-_}
+use native.Mathlib.Omega.{arith}
+use lib.ListN.{set}
+use borrow.Author.Needs.{needs}
+use Rattle.weight_sets.specs.Weights.{Good}
+use Rattle.weight_sets.proofs.good_set.Statement.{statement}
+use Rattle.weight_sets.proofs.good_set.Tie as tie
+
+abbrev Inv-loop : tie.InvT-loop
+Inv-loop alphabet slots part leaves first count good₀ number₀ good number = Good alphabet leaves first part good
+
+abbrev μ-loop : tie.MeasureT-loop
+μ-loop alphabet slots part leaves first count good₀ number₀ good number = count - number
+
+loop-holds : tie.Need-loop-holds Inv-loop μ-loop
+loop-holds c = λ j h. absurd (has-none j h)
+
+mul-leaf : tie.Need-mul-leaf Inv-loop μ-loop
+mul-leaf c = omega arith
+
+shared-slice-read-leaf : tie.Need-shared-slice-read-leaf Inv-loop μ-loop
+shared-slice-read-leaf c = omega arith
+
+gives-digit-requires : tie.Need-gives-digit-requires Inv-loop μ-loop
+gives-digit-requires c κs = search needs
+
+single-if-requires : tie.Need-single-if-requires Inv-loop μ-loop
+single-if-requires c κs = search needs
+
+add-number : tie.Need-add-number Inv-loop μ-loop
+add-number c = omega arith
+
+loop-less : tie.Need-loop-less Inv-loop μ-loop
+loop-less c = omega arith
+
+loop-again : tie.Need-loop-again Inv-loop μ-loop
+loop-again c = good-next (c .before .before .before .before .before .before .before .before .args .alphabet .now) (c .before .before .before .before .before .before .before .before .args .leaves .now) (c .before .before .before .before .before .before .before .before .args .first .now) (c .before .before .before .before .before .before .before .before .args .part) (c .before .before .before .before .loop .good) (c .single-if .result) (c .before .before .before .before .loop .number) (c .before .gives-digit .result) (c .before .gives-digit .ensures) (c .single-if .ensures) (c .before .before .before .before .loop .inv)
+
+returns : tie.Need-returns Inv-loop μ-loop
+returns c = c .before .loop .inv
+
+pub good-set-spec : {M : Type 1} → statement M
+good-set-spec =
+    tie.close
+    (tie.spec
+    Inv-loop
+    μ-loop
+    loop-holds
+    mul-leaf
+    shared-slice-read-leaf
+    gives-digit-requires
+    single-if-requires
+    add-number
+    loop-less
+    loop-again
+    returns)

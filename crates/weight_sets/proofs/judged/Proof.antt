@@ -1,0 +1,82 @@
+use Rattle.leaves.specs.Leaf.{wordGiven}
+use Rattle.weight_sets.proofs.Weights.{judged-next}
+use Rattle.weight_sets.specs.Weights.{Good}
+use Rattle.digit_rules.specs.Record.{recordAt}
+use Rattle.ring.specs.Matrix.{times}
+use Rattle.ring.specs.Element.{minus}
+use mathlib.Core.Path.{sym, ap, subst, _∙_}
+use Prim.Native.Nat.{ℕ, _+_, _-_}
+use lib.ListN.{getD, set}
+use borrow.Author.Needs.{needs}
+use borrow.Author.Needs.{needs}
+use Rattle.weight_sets.proofs.judged.Statement.{statement}
+use Rattle.weight_sets.proofs.judged.Tie as tie
+
+word-requires : tie.Need-word-requires
+word-requires c κs = search needs
+
+byte-at-requires : tie.Need-byte-at-requires
+byte-at-requires c κs = search needs
+
+wide-requires : tie.Need-wide-requires
+wide-requires c κs = search needs
+
+add-digit : tie.Need-add-digit
+add-digit c = search needs
+
+mul-if1 : tie.Need-mul-if1
+mul-if1 c = search needs
+
+element-copy-out-if1 : tie.Need-element-copy-out-if1
+element-copy-out-if1 c = search needs
+
+mul-result : tie.Need-mul-result
+mul-result c = search needs
+
+element-copy-out-result : tie.Need-element-copy-out-result
+element-copy-out-result c = search needs
+
+returns : tie.Need-returns
+returns c = (subst (λ w. Good (c .before .before .before .before .before .before .before .before .before .before .before .args .alphabet .now) (c .before .before .before .before .before .before .before .before .before .before .before .args .leaves .now) (c .before .before .before .before .before .before .before .before .before .before .before .args .first .now) (minus (recordAt (c .before .before .before .before .before .before .before .before .before .before .before .args .inputs .now) (getD (wordGiven (c .before .before .before .before .before .before .before .before .before .before .before .args .leaves .now) (c .before .before .before .before .before .before .before .before .before .before .before .args .words .now) (c .before .before .before .before .before .before .before .before .before .before .before .args .upper)) 0 0)) (times (c .before .before .before .before .before .before .before .before .before .before .before .args .base) w)) (getD (c .before .before .before .before .before .before .before .before .before .before .before .args .good .now) (c .before .before .before .before .before .before .before .before .before .before .before .args .number) 0)) (c .before .before .before .before .before .before .before .before .before .before .before .pre .6) (c .before .before .before .before .before .before .before .before .before .before .before .pre .7 (c .before .before .before .before .before .before .before .before .before .before .before .args .number) (getD (wordGiven (c .before .before .before .before .before .before .before .before .before .before .before .args .leaves .now) (c .before .before .before .before .before .before .before .before .before .before .before .args .words .now) (c .before .before .before .before .before .before .before .before .before .before .before .args .upper)) 0 0) (c .before .if1 .taken ∙ ap (λ (x : ℕ). x + 1) (c .before .before .before .wide .ensures .0 ∙ c .before .before .before .before .byte-at .ensures ∙ ap (λ w. getD w 0 0) (c .before .before .before .before .before .word .ensures)))), c .before .before .before .before .before .before .before .before .before .before .before .pre .7)
+
+upper-part-requires : tie.Need-upper-part-requires
+upper-part-requires c κs = search needs
+
+good-set-requires : tie.Need-good-set-requires
+good-set-requires c κs = search needs
+
+mul-good : tie.Need-mul-good
+mul-good c = search needs
+
+element-write-good : tie.Need-element-write-good
+element-write-good c = search needs
+
+mul-made : tie.Need-mul-made
+mul-made c = search needs
+
+element-write-made : tie.Need-element-write-made
+element-write-made c = search needs
+
+returns-2 : tie.Need-returns-2
+returns-2 c = (subst (λ p. Good (c .before .before .before .before .before .before .before .before .before .before .before .before .args .alphabet .now) (c .before .before .before .before .before .before .before .before .before .before .before .before .args .leaves .now) (c .before .before .before .before .before .before .before .before .before .before .before .before .args .first .now) p (c .good-set .result)) (c .before .upper-part .ensures .0) (c .good-set .ensures), judged-next (c .before .before .before .before .before .before .before .before .before .before .before .before .args .base) (c .before .before .before .before .before .before .before .before .before .before .before .before .args .alphabet .now) (c .before .before .before .before .before .before .before .before .before .before .before .before .args .inputs .now) (c .before .before .before .before .before .before .before .before .before .before .before .before .args .leaves .now) (c .before .before .before .before .before .before .before .before .before .before .before .before .args .first .now) (c .before .before .before .before .before .before .before .before .before .before .before .before .args .made .now) (c .before .before .before .before .before .before .before .before .before .before .before .before .args .good .now) (c .before .before .before .before .before .before .before .before .before .before .before .before .args .number) (c .before .before .before .before .wide .result) (c .good-set .result) (subst (λ p. Good (c .before .before .before .before .before .before .before .before .before .before .before .before .args .alphabet .now) (c .before .before .before .before .before .before .before .before .before .before .before .before .args .leaves .now) (c .before .before .before .before .before .before .before .before .before .before .before .before .args .first .now) p (c .good-set .result)) (c .before .upper-part .ensures .0 ∙ (λ i. minus (recordAt (c .before .before .before .before .before .before .before .before .before .before .before .before .args .inputs .now) (sym (c .before .before .before .before .wide .ensures .0 ∙ c .before .before .before .before .before .byte-at .ensures ∙ ap (λ w. getD w 0 0) (c .before .before .before .before .before .before .word .ensures)) i)) (times (c .before .before .before .before .before .before .before .before .before .before .before .before .args .base) (sym (c .before .before .before .before .before .before .before .before .before .before .before .before .pre .6) i)))) (c .good-set .ensures)) (c .before .before .before .before .before .before .before .before .before .before .before .before .pre .7))
+
+pub judged-spec : {M : Type 1} → statement M
+judged-spec =
+    tie.close
+    (tie.spec
+    word-requires
+    byte-at-requires
+    wide-requires
+    add-digit
+    mul-if1
+    element-copy-out-if1
+    mul-result
+    element-copy-out-result
+    returns
+    upper-part-requires
+    good-set-requires
+    mul-good
+    element-write-good
+    mul-made
+    element-write-made
+    returns-2)

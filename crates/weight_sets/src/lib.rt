@@ -1,0 +1,193 @@
+// The different weights of leaves, by number, and sets of them: those of neighbouring leaves, and those that give alphabet digits.
+ghost use mathlib.Core.Path.{_≡_};
+ghost use mathlib.Core.Bool.{true};
+ghost use mathlib.Core.List.{List};
+ghost use Prim.Native.Nat.{ℕ, _+_, _-_, _<_, _≤_, _^_};
+ghost use lib.ListN.{length, getD};
+ghost use Rattle.ring.specs.Element.{Within};
+ghost use Rattle.ring.specs.Matrix.{RowsWithin};
+ghost use Rattle.digit_rules.specs.Record.{elementCount};
+ghost use Rattle.leaves.specs.Leaf.{leafCount, wordGiven, weightGiven};
+ghost use Rattle.table_rules.specs.Pairs.{upperPart};
+ghost use Rattle.pair_digits.specs.Slots.{Slotted};
+ghost use Rattle.weight_sets.specs.Bits.{Has};
+ghost use Rattle.weight_sets.specs.Weights.{Numbered, Covers, Good, Judged};
+
+// The most different weights.
+const WEIGHTS: usize = 64;
+
+// The count of slots for weights, and the mark of an empty one.
+const SLOTS: usize = 256;
+
+const EMPTY: u8 = 255;
+
+pub fn wide(x: u8) -> usize
+    ensures { λ r. ⌜ (r ≡ x) × (r < 256) ⌝ }
+{
+    x as usize
+}
+
+// The number of a leaf's weight, of the count that are known: the one in the weight's slot, the next one where the slot is empty, or
+// too high a one where the slot has another weight.
+fn number_in(leaves: &[u8], first: &[usize], count: usize, leaf: usize, number: usize) -> usize
+    requires { ⌜ (count ≤ 64) × (count ≤ length (now first)) ⌝ }
+    ensures { λ r. ⌜ ((r < 64 → r ≤ count) × (r < count → weightGiven (now (leaves .entry)) (getD (now (first .entry)) r 0) ≡ weightGiven (now (leaves .entry)) leaf)) ⌝ }
+{
+    if count <= number {
+        return count;
+    }
+    if ring::equal(
+        leaves::weight(leaves, first[number]),
+        leaves::weight(leaves, leaf),
+    ) {
+        return number;
+    }
+    WEIGHTS
+}
+
+// Numbers the different weights as they come up, with a leaf for each number; their count, or too high a one where there are too many
+// or two have the same slot.
+pub fn number_weights(leaves: &[u8], numbers: &mut [u8], first: &mut [usize]) -> usize
+    requires { ⌜ (leafCount (now leaves) ≤ length (now numbers)) × (64 ≤ length (now first)) ⌝ }
+    ensures { λ r. ⌜ (r ≤ 64 → Numbered (now (leaves .entry)) (now (numbers .exit)) (now (first .exit)) r (leafCount (now (leaves .entry)))) ⌝ }
+{
+    let leaf_count = leaves::leaf_count(leaves);
+    let mut slots = [EMPTY; SLOTS];
+    let mut count = 0;
+    let mut leaf = 0;
+    while leaf < leaf_count {
+        let slot = pair_digits::slot_of(leaves::weight(leaves, leaf));
+        let number = number_in(leaves, first, count, leaf, wide(slots[slot]));
+        if WEIGHTS <= number {
+            return WEIGHTS + 1;
+        }
+        if number == count {
+            first[number] = leaf;
+            slots[slot] = number as u8;
+            count += 1;
+        }
+        numbers[leaf] = number as u8;
+        leaf += 1;
+    }
+    count
+}
+
+// A set of one number.
+pub fn single(number: usize) -> u64
+    requires { ⌜ number < 64 ⌝ }
+    ensures { λ r. ⌜ r ≡ 2 ^ number ⌝ }
+{
+    1 << number
+}
+
+// Each leaf's weight as a set.
+fn singles(numbers: &[u8], count: usize, sets: &mut [u64])
+    requires { ⌜ (count ≤ length (now numbers)) × (count ≤ length (now sets)) × ((k : ℕ) → k < count → getD (now numbers) k 0 < 64) ⌝ }
+    ensures { λ r. ⌜ Covers (now (numbers .entry)) (now (sets .exit)) count 1 ⌝ }
+{
+    let mut leaf = 0;
+    while leaf < count {
+        sets[leaf] = single(wide(numbers[leaf]));
+        leaf += 1;
+    }
+}
+
+// From sets of so many neighbours to sets of twice as many.
+fn double(count: usize, sets: &mut [u64], step: usize)
+    requires { ⌜ (count ≤ length (now sets)) × (step ≤ 8) ⌝ }
+    ensures { λ r. ⌜ ((numbers : List ℕ) → Covers numbers (now (sets .entry)) count step → Covers numbers (now (sets .exit)) count (step + step)) ⌝ }
+{
+    let mut leaf = 0;
+    while leaf + step < count {
+        sets[leaf] = sets[leaf] | sets[leaf + step];
+        leaf += 1;
+    }
+}
+
+// For each leaf the weights of the eight leaves from it on.
+pub fn eights(numbers: &[u8], count: usize, sets: &mut [u64])
+    requires { ⌜ (count ≤ length (now numbers)) × (count ≤ length (now sets)) × ((k : ℕ) → k < count → getD (now numbers) k 0 < 64) ⌝ }
+    ensures { λ r. ⌜ Covers (now (numbers .entry)) (now (sets .exit)) count 8 ⌝ }
+{
+    singles(numbers, count, sets);
+    double(count, sets, 1);
+    double(count, sets, 2);
+    double(count, sets, 4);
+}
+
+// All weights, by their count.
+pub fn all_weights(count: usize) -> u64
+    requires { ⌜ count ≤ 64 ⌝ }
+    ensures { λ r. ⌜ ((j : ℕ) → j < count → Has r j) ⌝ }
+{
+    let mut set = 0;
+    let mut number = 0;
+    while number < count {
+        set = set | single(number);
+        number += 1;
+    }
+    set
+}
+
+// A number alone, or nothing.
+fn single_if(given: bool, number: usize) -> u64
+    requires { ⌜ number < 64 ⌝ }
+    ensures { λ r. ⌜ ((j : ℕ) → Has r j → (given ≡ true) × (j ≡ number)) ⌝ }
+{
+    if given {
+        return single(number);
+    }
+    0
+}
+
+// The weights that give alphabet digits with an upper leaf's part.
+fn good_set(
+    alphabet: &[u8],
+    slots: &[u8; SLOTS],
+    part: [i64; 2],
+    leaves: &[u8],
+    first: &[usize],
+    count: usize,
+) -> u64
+    requires { ⌜ Slotted (now alphabet) (now slots) × Within (2 ^ 57 + 32768) part × (count ≤ 64) × (count ≤ length (now first)) ⌝ }
+    ensures { λ r. ⌜ Good (now (alphabet .entry)) (now (leaves .entry)) (now (first .entry)) part r ⌝ }
+{
+    let mut good = 0;
+    let mut number = 0;
+    while number < count {
+        let leaf = first[number];
+        let given = pair_digits::gives_digit(alphabet, true, slots, part, leaves, leaf);
+        good = good | single_if(given, number);
+        number += 1;
+    }
+    good
+}
+
+// The same, judged once for each first digit and weight of an upper leaf: leaves come in the order of their first digits.
+pub fn judged(
+    base: [[i64; 2]; 2],
+    alphabet: &[u8],
+    slots: &[u8; SLOTS],
+    inputs: &[u8],
+    leaves: &[u8],
+    words: &[u8],
+    upper: usize,
+    number: usize,
+    first: &[usize],
+    count: usize,
+    made: &mut [usize; WEIGHTS],
+    good: &mut [u64; WEIGHTS],
+) -> u64
+    requires { ⌜ RowsWithin (2 ^ 24) base × Slotted (now alphabet) (now slots) × (getD (wordGiven (now leaves) (now words) upper) 0 0 < elementCount (now inputs)) × (number < 64) × (count ≤ 64) × (count ≤ length (now first)) × (weightGiven (now leaves) (getD (now first) number 0) ≡ weightGiven (now leaves) upper) × Judged base (now alphabet) (now inputs) (now leaves) (now first) (now made) (now good) ⌝ }
+    ensures { λ r. ⌜ Good (now (alphabet .entry)) (now (leaves .entry)) (now (first .entry)) (upperPart base (now (inputs .entry)) (now (leaves .entry)) (now (words .entry)) upper) r × Judged base (now (alphabet .entry)) (now (inputs .entry)) (now (leaves .entry)) (now (first .entry)) (now (made .exit)) (now (good .exit)) ⌝ }
+{
+    let digit = wide(leaves::byte_at(leaves::word(leaves, words, upper), 0)) + 1;
+    if made[number] == digit {
+        return good[number];
+    }
+    let part = pair_digits::upper_part(base, inputs, leaves, words, upper);
+    let set = good_set(alphabet, slots, part, leaves, first, count);
+    good[number] = set;
+    made[number] = digit;
+    set
+}
