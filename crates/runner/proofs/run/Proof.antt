@@ -1,8 +1,8 @@
 -- The shortest of the six slices, the check and the addition, then the edits where neither refused.
 use Rattle.runner.proofs.Outcome.{nothing-ran, edits-ran}
-use Rattle.runner.proofs.Steps.{length-edits}
+use Rattle.edit_list.proofs.Steps.{length-edits}
 use Rattle.runner.specs.Run.{editCount, askedEdits, runOutcome}
-use Rattle.runner.specs.Told.{groupsOf, numbersOf, valuesOf}
+use Rattle.edit_list.specs.Told.{groupsOf, numbersOf, valuesOf}
 use Rattle.runner.specs.Answer.{outcomeOf}
 use Rattle.edit_rules.specs.Run.{Ran}
 use Rattle.edit_rules.specs.Edit.{state}

@@ -4,7 +4,7 @@ use mathlib.Core.List.{List, map}
 use Prim.Native.Nat.{ℕ}
 use Rattle.faults.specs.Outcome.{Group, Outcome, facts, refused, author, rows, editor}
 use Rattle.edit_rules.specs.declared.EditedFacts.{EditedFacts}
-use Rattle.runner.specs.declared.Told.{Told}
+use Rattle.edit_list.specs.declared.Told.{Told}
 
 -- 0 is left for facts
 abbrev pub groupNumber : Group → ℕ

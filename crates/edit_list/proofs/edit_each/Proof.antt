@@ -1,14 +1,14 @@
 -- The edits one by one: after i of them the buffers and the answers are those of the first i of the list.
-use Rattle.runner.specs.Told.{toldOf}
+use Rattle.edit_list.specs.Told.{toldOf}
 use mathlib.Core.Path.{_≡_, refl, ap, subst, _∙_}
 use Prim.Native.Nat.{ℕ, _-_, _≤_}
 use native.Mathlib.Omega.{arith}
 use lib.ListN.{length, length-set}
 use Rattle.edit_rules.specs.Edit.{state}
-use Rattle.runner.proofs.Steps.{AfterEdits, after-none, after-next}
+use Rattle.edit_list.proofs.Steps.{AfterEdits, after-none, after-next}
 use borrow.Author.Needs.{needs}
-use Rattle.runner.proofs.edit_each.Statement.{statement}
-use Rattle.runner.proofs.edit_each.Tie as tie
+use Rattle.edit_list.proofs.edit_each.Statement.{statement}
+use Rattle.edit_list.proofs.edit_each.Tie as tie
 
 abbrev Inv-loop : tie.InvT-loop
 Inv-loop table first₀ second₀ sum₀ rows places digits whose₀ numbers₀ values₀ count i₀ first second sum whose numbers values i =

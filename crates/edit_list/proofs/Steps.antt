@@ -15,9 +15,9 @@ use Rattle.row_rules.specs.declared.Change.{Change}
 use Rattle.edit_rules.specs.declared.EditedFacts.{EditedFacts}
 use Rattle.edit_rules.specs.Edit.{State, editOutcome, editState}
 use Rattle.edit_rules.specs.Run.{editAll, editAnswers}
-use Rattle.runner.specs.declared.Told.{Told}
-use Rattle.runner.specs.Told.{toldOf}
-use Rattle.runner.specs.Run.{listed, editList}
+use Rattle.edit_list.specs.declared.Told.{Told}
+use Rattle.edit_list.specs.Told.{toldOf}
+use Rattle.edit_list.specs.List.{listed, editList}
 
 map-snoc : {A B : Type 0} (f : A → B) (l : List A) (a : A) → map f (l ++ (a ∷ [])) ≡ map f l ++ (f a ∷ [])
 map-snoc f [] a = refl
