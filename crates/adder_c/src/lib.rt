@@ -86,7 +86,7 @@ pub extern "C" fn yoyomyrtle_edit(
     if answer.len() < 8 {
         return 2;
     }
-    let outcome = edits::edit(
+    let outcome = editor::edit(
         table,
         first,
         second,

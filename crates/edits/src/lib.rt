@@ -1,43 +1,22 @@
-// The digit edit.
+// The digit edit on rows that pass 20 to 26.
 ghost use mathlib.Core.Path.{_≡_};
 ghost use Prim.Native.Nat.{ℕ, _+_, _-_, _≤_, _<_};
 ghost use lib.ListN.{length};
-ghost use Rattle.faults.specs.Outcome.{refused, rows, editor};
+ghost use Rattle.faults.specs.Outcome.{rows};
 ghost use Rattle.reader_rules.specs.Table.{tableCheck, tableFacts};
 ghost use Rattle.row_rules.specs.Changed.{changed};
 ghost use Rattle.row_rules.specs.Fit.{RowsFit, EditFits};
 ghost use Rattle.adder_rules.specs.Sum.{digitCount};
 ghost use Rattle.edit_rules.specs.Count.{differing};
-ghost use Rattle.edit_rules.specs.Edit.{state, renewOutcome, renewState, editOutcome, editState};
+ghost use Rattle.edit_rules.specs.Edit.{state, renewOutcome, renewState};
 ghost use Rattle.edits.specs.Answer.{outcomeOf};
 use edit_rules::EditedFacts;
 use faults::Fault;
-use faults::Refusal;
-use reader_rules::Reading;
 use row_rules::Change;
 
 pub enum Edited {
     Count(EditedFacts),
     Refused(Fault),
-}
-
-// 20 to 23 in the name of whoever lends the rows, 24 to 26 in the editor's.
-fn refused_rows(found: Refusal) -> Edited
-    ensures { λ r. ⌜ outcomeOf r ≡ refused rows (found .number) (found .place) ⌝ }
-{
-    Edited::Refused(Fault::Rows {
-        number: found.number,
-        place: found.place,
-    })
-}
-
-fn refused_edit(asked: Refusal) -> Edited
-    ensures { λ r. ⌜ outcomeOf r ≡ refused editor (asked .number) (asked .place) ⌝ }
-{
-    Edited::Refused(Fault::Editor {
-        number: asked.number,
-        place: asked.place,
-    })
 }
 
 // The lowest place that a digit at `place` depends on.
@@ -92,7 +71,7 @@ fn renew(part: &mut [u8], digits: &[u8]) -> usize
 }
 
 // The edit of rows that pass 20 to 26, or fault 27. Every digit is computed from the rows with the change before anything is stored.
-fn edit_rows(
+pub fn edit_rows(
     table: &[u8],
     first: &mut [u8],
     second: &mut [u8],
@@ -118,43 +97,4 @@ fn edit_rows(
     store(change, first, second);
     let count = renew(&mut sum[place..place + depth + 1], &digits[..depth + 1]);
     Edited::Count(EditedFacts { count })
-}
-
-// Stores a digit of a row and renews the sum places that it reaches, or a fault and nothing written.
-pub fn edit(
-    table: &[u8],
-    first: &mut [u8],
-    second: &mut [u8],
-    sum: &mut [u8],
-    row: usize,
-    place: usize,
-    digit: usize,
-) -> Edited
-    ensures { λ r. ⌜ (outcomeOf r ≡ editOutcome (now (table .entry)) (record { row = row; place = place; digit = digit }) (state (now (first .entry)) (now (second .entry)) (now (sum .entry)))) × (state (now (first .exit)) (now (second .exit)) (now (sum .exit)) ≡ editState (now (table .entry)) (record { row = row; place = place; digit = digit }) (state (now (first .entry)) (now (second .entry)) (now (sum .entry)))) ⌝ }
-{
-    let answer = reader::read(table);
-    let Reading::Facts(facts) = answer else {
-        let Reading::Refused(fault) = answer else {
-            return Edited::Refused(Fault::Author {
-                number: 0,
-                place: 0,
-            });
-        };
-        return Edited::Refused(fault);
-    };
-    let alphabet = facts.alphabet;
-    let found = rows::row_check(first, second, sum.len(), alphabet.count, facts.depth);
-    if found.number != 0 {
-        return refused_rows(found);
-    }
-    let asked = rows::edit_check(row, place, digit, first.len(), alphabet.count);
-    if asked.number != 0 {
-        return refused_edit(asked);
-    }
-    let change = Change {
-        row,
-        place,
-        digit: digit as u8,
-    };
-    edit_rows(table, first, second, sum, facts.depth, change)
 }

@@ -1,54 +1,21 @@
 // The runner: the check, the addition and a list of edits, as calls one after the other.
 ghost use mathlib.Core.Path.{_≡_};
-ghost use Prim.Native.Nat.{_≤_, min};
+ghost use Prim.Native.Nat.{min};
 ghost use lib.ListN.{length};
 ghost use Rattle.lists.specs.Overwrite.{overwrite};
 ghost use Rattle.edit_rules.specs.Edit.{state};
-ghost use Rattle.edit_rules.specs.Run.{editAll, editAnswers};
-ghost use Rattle.edits.specs.Answer.{outcomeOf as editedAs};
 ghost use Rattle.adder_rules.specs.Sum.{atExit, addSum};
-ghost use Rattle.runner_rules.specs.Told.{toldOf, groupsOf, numbersOf, valuesOf};
-ghost use Rattle.runner_rules.specs.Run.{editList, askedEdits, runOutcome, runAll};
+ghost use Rattle.runner_rules.specs.Told.{groupsOf, numbersOf, valuesOf};
+ghost use Rattle.runner_rules.specs.Run.{askedEdits, runOutcome, runAll};
 ghost use Rattle.runner.specs.Answer.{outcomeOf};
 use adder::Added;
-use edits::Edited;
 use faults::Fault;
 use runner_rules::RanFacts;
-use runner_rules::Told;
 use table::Checked;
 
 pub enum Ran {
     Edits(RanFacts),
     Refused(Fault),
-}
-
-fn told_of(answer: Edited) -> Told
-    ensures { λ r. ⌜ r ≡ toldOf (editedAs answer) ⌝ }
-{
-    match answer {
-        Edited::Count(facts) => Told {
-            whose: 0,
-            number: 0,
-            value: facts.count,
-        },
-        Edited::Refused(fault) => match fault {
-            Fault::Author { number, place } => Told {
-                whose: 1,
-                number,
-                value: place,
-            },
-            Fault::Rows { number, place } => Told {
-                whose: 2,
-                number,
-                value: place,
-            },
-            Fault::Editor { number, place } => Told {
-                whose: 3,
-                number,
-                value: place,
-            },
-        },
-    }
 }
 
 fn lower_of(a: usize, b: usize) -> usize
@@ -93,36 +60,6 @@ fn start(table: &[u8], first: &[u8], second: &[u8], sum: &mut [u8], edits: usize
     Ran::Edits(RanFacts { edits })
 }
 
-// The first `count` edits of the list, one call after the other, each answer written.
-fn edit_each(
-    table: &[u8],
-    first: &mut [u8],
-    second: &mut [u8],
-    sum: &mut [u8],
-    rows: &[usize],
-    places: &[usize],
-    digits: &[usize],
-    whose: &mut [usize],
-    numbers: &mut [usize],
-    values: &mut [usize],
-    count: usize,
-)
-    requires { ⌜ (count ≤ length (now rows)) × (count ≤ length (now places)) × (count ≤ length (now digits)) × (count ≤ length (now whose)) × (count ≤ length (now numbers)) × (count ≤ length (now values)) ⌝ }
-    ensures { λ _. ⌜ (state (now (first .exit)) (now (second .exit)) (now (sum .exit)) ≡ editAll (now (table .entry)) (editList (now (rows .entry)) (now (places .entry)) (now (digits .entry)) count) (state (now (first .entry)) (now (second .entry)) (now (sum .entry)))) × (now (whose .exit) ≡ overwrite (now (whose .entry)) 0 (groupsOf (editAnswers (now (table .entry)) (editList (now (rows .entry)) (now (places .entry)) (now (digits .entry)) count) (state (now (first .entry)) (now (second .entry)) (now (sum .entry)))))) × (now (numbers .exit) ≡ overwrite (now (numbers .entry)) 0 (numbersOf (editAnswers (now (table .entry)) (editList (now (rows .entry)) (now (places .entry)) (now (digits .entry)) count) (state (now (first .entry)) (now (second .entry)) (now (sum .entry)))))) × (now (values .exit) ≡ overwrite (now (values .entry)) 0 (valuesOf (editAnswers (now (table .entry)) (editList (now (rows .entry)) (now (places .entry)) (now (digits .entry)) count) (state (now (first .entry)) (now (second .entry)) (now (sum .entry)))))) ⌝ }
-{
-    let mut i = 0;
-    while i < count {
-        let row = rows[i];
-        let place = places[i];
-        let digit = digits[i];
-        let answer = told_of(edits::edit(table, first, second, sum, row, place, digit));
-        whose[i] = answer.whose;
-        numbers[i] = answer.number;
-        values[i] = answer.value;
-        i += 1;
-    }
-}
-
 // The check, the addition, and the edits that the three slices of numbers list, as many as the shortest of the six slices: each
 // answer is told. A fault of the check or of the addition is the answer, and then nothing is written.
 pub fn run(
@@ -144,7 +81,7 @@ pub fn run(
     let count = lower_of(listed, answered);
     let answer = start(table, first, second, sum, count);
     if let Ran::Edits(_) = answer {
-        edit_each(
+        edit_list::edit_each(
             table,
             first,
             second,

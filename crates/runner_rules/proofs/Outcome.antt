@@ -12,7 +12,8 @@ use Rattle.adder_rules.specs.Sum.{addOutcome, addSum}
 use Rattle.edit_rules.specs.Edit.{State, state}
 use Rattle.edit_rules.specs.Run.{editAll, editAnswers, run}
 use Rattle.runner_rules.specs.declared.RanFacts.{RanFacts}
-use Rattle.runner_rules.specs.Run.{editList, after, runOutcome, ranBy, runAll}
+use Rattle.runner_rules.specs.Run.{after, runOutcome, ranBy, runAll}
+use Rattle.runner_rules.specs.List.{editList}
 
 module _ (file : List ℕ) (s : State) (m : ℕ) where
   abbrev addition : Outcome AddedFacts

@@ -17,7 +17,7 @@ use Rattle.edit_rules.specs.Edit.{State, editOutcome, editState}
 use Rattle.edit_rules.specs.Run.{editAll, editAnswers}
 use Rattle.runner_rules.specs.declared.Told.{Told}
 use Rattle.runner_rules.specs.Told.{toldOf}
-use Rattle.runner_rules.specs.Run.{listed, editList}
+use Rattle.runner_rules.specs.List.{listed, editList}
 
 map-snoc : {A B : Type 0} (f : A → B) (l : List A) (a : A) → map f (l ++ (a ∷ [])) ≡ map f l ++ (f a ∷ [])
 map-snoc f [] a = refl

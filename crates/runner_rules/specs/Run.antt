@@ -2,32 +2,23 @@
 -- function of the table file, the buffers and the numbers that list the edits.
 use mathlib.Core.List.{List, []}
 use Prim.Native.Nat.{ℕ, min}
-use lib.ListN.{length, getD}
-use Rattle.lists.specs.Span.{span}
+use lib.ListN.{length}
 use Rattle.faults.specs.Outcome.{Outcome, facts, refused}
 use Rattle.row_rules.specs.declared.Change.{Change}
 use Rattle.table_rules.specs.Check.{checkOutcome}
 use Rattle.adder_rules.specs.Sum.{addOutcome}
 use Rattle.edit_rules.specs.Edit.{State}
 use Rattle.edit_rules.specs.Run.{Ran, run}
+use Rattle.runner_rules.specs.List.{editList}
 use Rattle.runner_rules.specs.declared.RanFacts.{RanFacts}
 
--- the edits that three slices list: "a row number (0 first, 1 second), a place p and a new alphabet index"
-module _ (rows places digits : List ℕ) where
-  abbrev pub listed : ℕ → Change
-  listed k = record { row = getD rows k 0; place = getD places k 0; digit = getD digits k 0 }
+-- as many edits as the shortest of six slices: these are listed whole, and there is room for their answers
+module _ (rows places digits whose numbers values : List ℕ) where
+  abbrev pub editCount : ℕ
+  editCount = min (min (length rows) (min (length places) (length digits))) (min (length whose) (min (length numbers) (length values)))
 
-  -- the first m of them
-  unfoldable pub editList : ℕ → List Change
-  editList m = span listed 0 m
-
-  -- as many as the shortest of six slices: these are listed whole, and there is room for their answers
-  module _ (whose numbers values : List ℕ) where
-    abbrev pub editCount : ℕ
-    editCount = min (min (length rows) (min (length places) (length digits))) (min (length whose) (min (length numbers) (length values)))
-
-    abbrev pub askedEdits : List Change
-    askedEdits = editList editCount
+  abbrev pub askedEdits : List Change
+  askedEdits = editList rows places digits editCount
 
 -- the fault where there is one, else what follows
 unfoldable pub after : {F G : Type 0} → Outcome F → Outcome G → Outcome G

@@ -26,7 +26,7 @@ fn edit_line(table: &[u8], first: &mut [u8], second: &mut [u8], sum: &mut [u8]) 
     let row = input::long(&numbers, 0);
     let place = input::long(&numbers, 8);
     let digit = input::long(&numbers, 16);
-    let answer = edits::edit(table, first, second, sum, row, place, digit);
+    let answer = editor::edit(table, first, second, sum, row, place, digit);
     output::edited(answer, first, second, sum)
 }
 

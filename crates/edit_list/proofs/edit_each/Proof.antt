@@ -7,8 +7,8 @@ use lib.ListN.{length, length-set}
 use Rattle.edit_rules.specs.Edit.{state}
 use Rattle.runner_rules.proofs.Steps.{AfterEdits, after-none, after-next}
 use borrow.Author.Needs.{needs}
-use Rattle.runner.proofs.edit_each.Statement.{statement}
-use Rattle.runner.proofs.edit_each.Tie as tie
+use Rattle.edit_list.proofs.edit_each.Statement.{statement}
+use Rattle.edit_list.proofs.edit_each.Tie as tie
 
 abbrev Inv-loop : tie.InvT-loop
 Inv-loop table first₀ second₀ sum₀ rows places digits whose₀ numbers₀ values₀ count i₀ first second sum whose numbers values i =

@@ -6,8 +6,8 @@ use Rattle.edits.specs.declared.Edited.{Edited}
 use Rattle.faults.specs.declared.Fault.{Fault}
 use mathlib.Core.Path.{sym, ap, _∙_}
 use borrow.Author.Needs.{needs}
-use Rattle.runner.proofs.told_of.Statement.{statement}
-use Rattle.runner.proofs.told_of.Tie as tie
+use Rattle.edit_list.proofs.told_of.Statement.{statement}
+use Rattle.edit_list.proofs.told_of.Tie as tie
 
 enum-known-answer : tie.Need-enum-known-answer
 enum-known-answer c = search needs

@@ -15,13 +15,13 @@ use Rattle.adder_rules.specs.Sum.{digitCount}
 use Rattle.edit_rules.specs.Edit.{State, state}
 use Rattle.edit_rules.proofs.Stages.{rowsFound, askedFound, table-refused, rows-refused, edit-refused, edit-passed, state-lent, state-by}
 use borrow.Author.Needs.{needs}
-use Rattle.edits.proofs.edit.Statement.{statement}
-use Rattle.edits.proofs.edit.Tie as tie
-use Rattle.edits.proofs.edit.Reads as reads
-use Rattle.edits.proofs.edit.Lts as lts
+use Rattle.editor.proofs.edit.Statement.{statement}
+use Rattle.editor.proofs.edit.Tie as tie
+use Rattle.editor.proofs.edit.Reads as reads
+use Rattle.editor.proofs.edit.Lts as lts
 use Rattle.edits.proofs.edit_rows.Reads as edit-rows-reads
-use Rattle.edits.proofs.refused_edit.Reads as refused-edit-reads
-use Rattle.edits.proofs.refused_rows.Reads as refused-rows-reads
+use Rattle.editor.proofs.refused_edit.Reads as refused-edit-reads
+use Rattle.editor.proofs.refused_rows.Reads as refused-rows-reads
 use Rattle.reader.proofs.read.Reads as read-reads
 use Rattle.rows.proofs.edit_check.Reads as edit-check-reads
 use Rattle.rows.proofs.row_check.Reads as row-check-reads
