@@ -29,7 +29,7 @@ const SLOTS: usize = 256;
 const EMPTY: u8 = 255;
 
 // The weights of leaves that are neighbours, and where these end.
-pub struct Run {
+struct Run {
     set: u64,
     end: usize,
 }
