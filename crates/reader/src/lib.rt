@@ -24,15 +24,15 @@ pub fn section(file: &[u8], number: usize) -> &[u8]
 fn layout_rules(file: &[u8]) -> Refusal
     ensures { λ r. ⌜ r ≡ layoutCheck (now (file .entry)) ⌝ }
 {
-    let directory = layout::directory(file);
+    let directory = directory::directory(file);
     if directory.number != 0 {
         return directory;
     }
-    let lengths = layout::lengths(layout::section_lengths(file));
+    let lengths = directory::lengths(layout::section_lengths(file));
     if lengths.number != 0 {
         return lengths;
     }
-    layout::limits(file)
+    limits::limits(file)
 }
 
 // Rules 5 to 8, each section handed on as its part of the file.
