@@ -141,7 +141,7 @@ fn is_inside(words: &[u8], start: usize, length: usize) -> bool
 }
 
 // Whether a leaf's word is above the window at the first place where they differ.
-fn above_any(leaves: &[u8], words: &[u8], window: &[u8; 8], leaf: usize) -> bool
+fn above(leaves: &[u8], words: &[u8], window: &[u8; 8], leaf: usize) -> bool
     requires { ⌜ leaf < leafCount (now leaves) ⌝ }
     ensures { λ r. ⌜ r ≡ windows.above (codeOf (now (leaves .entry)) (now (words .entry))) (now (window .entry)) leaf ⌝ }
 {
@@ -151,22 +151,6 @@ fn above_any(leaves: &[u8], words: &[u8], window: &[u8; 8], leaf: usize) -> bool
         return word_numbers::eight(window, 0) < word_numbers::word_number(words, start, length);
     }
     lower(window, 0, words, start, least(length, LONGEST))
-}
-
-// The same, in few steps where the word doesn't end within the first eight bytes. The compiler makes it a part of the search, being small,
-// and not the other, which has a second caller.
-fn above(leaves: &[u8], words: &[u8], window: &[u8; 8], leaf: usize) -> bool
-    requires { ⌜ leaf < leafCount (now leaves) ⌝ }
-    ensures { λ r. ⌜ r ≡ windows.above (codeOf (now (leaves .entry)) (now (words .entry))) (now (window .entry)) leaf ⌝ }
-{
-    let start = word_start(leaves, leaf);
-    let length = word_length(leaves, leaf);
-    if LONGEST <= start + length {
-        if is_inside(words, start, length) {
-            return word_numbers::eight(window, 0) < word_numbers::late_number(words, start, length);
-        }
-    }
-    above_any(leaves, words, window, leaf)
 }
 
 // Where the search goes on: in the lower half, or in the upper one. One number is chosen, without a jump that could be guessed wrong.
@@ -214,7 +198,7 @@ fn is_between(leaves: &[u8], words: &[u8], window: &[u8; 8], low: usize, high: u
     if count < high {
         return false;
     }
-    if above_any(leaves, words, window, low) {
+    if above(leaves, words, window, low) {
         return false;
     }
     if count <= high {

@@ -18,7 +18,9 @@ ghost use Rattle.row_rules.specs.Changed.{changed};
 ghost use Rattle.places.specs.Place.{inputAt, Known, partRow, alphabetIndex, indexAt, digitAllowed, Begun, Firsts};
 use row_rules::Change;
 
-// One more than the first digits of windows.
+// The slots that leaves are kept in by the windows they begin, and one more than the first digits of windows.
+const WINDOWS: usize = 256;
+
 const STARTS: usize = 257;
 
 // Fewer places than this are an edit's.
@@ -137,34 +139,50 @@ fn begins_below(
     true
 }
 
-// The leaf that begins the window below a place. Where no word has more than one digit the lower of two given leaves is tried, else the
-// leaves from it up to the other are searched; all are where that doesn't help.
+// The leaf that begins the window below a place: the guessed one where it does, else by a search of the leaves from one up to another, or of
+// all where that doesn't help.
 fn leaf_below(
     leaves: &[u8],
     words: &[u8],
     row: &[u8],
     place: usize,
     first: u8,
-    single: bool,
+    guess: u16,
     low: u16,
     high: u16,
 ) -> usize
     requires { ⌜ Begun (now leaves) (now words) (now row) × (first ≡ window (now row) place 0) ⌝ }
     ensures { λ r. ⌜ weightGiven (now (leaves .entry)) r ≡ weightInto (codeOf (now (leaves .entry)) (now (words .entry))) (now (row .entry)) place ⌝ }
 {
-    let leaf = low as usize;
-    if single {
-        if leaf < leaves::leaf_count(leaves) {
-            if begins_below(leaves, words, row, place, first, leaf) {
-                return leaf;
-            }
+    let leaf = guess as usize;
+    if leaf < leaves::leaf_count(leaves) {
+        if begins_below(leaves, words, row, place, first, leaf) {
+            return leaf;
         }
     }
-    leaves::look_up_within(leaves, words, window_below(row, place), leaf, high as usize)
+    leaves::look_up_within(
+        leaves,
+        words,
+        window_below(row, place),
+        low as usize,
+        high as usize,
+    )
 }
 
-// The weight that a place gets from below, with the parts of the leaves by first digit.
-fn weight_within(
+// The slot of the window below a place: by its first digit where no word has more, else by the first two.
+fn window_slot(row: &[u8], place: usize, first: u8, single: bool) -> usize
+    ensures { λ r. ⌜ r < 256 ⌝ }
+{
+    let mut slot = first as usize;
+    if !single {
+        slot += 16 * digit_below(row, place, 1) as usize;
+    }
+    slot % WINDOWS
+}
+
+// The weight that a place gets from below. The leaf that was found last for a window of the same slot is tried before the search, which is
+// among the leaves with the window's first digit.
+fn weight_tried(
     leaves: &[u8],
     words: &[u8],
     row: &[u8],
@@ -172,10 +190,12 @@ fn weight_within(
     first: u8,
     single: bool,
     starts: &[u16; STARTS],
+    found: &mut [u16; WINDOWS],
 ) -> [i64; 2]
     requires { ⌜ Begun (now leaves) (now words) (now row) × (first ≡ window (now row) place 0) ⌝ }
     ensures { λ r. ⌜ (r ≡ weightInto (codeOf (now (leaves .entry)) (now (words .entry))) (now (row .entry)) place) × Within 32768 r ⌝ }
 {
+    let slot = window_slot(row, place, first, single);
     let digit = leaves::wide(first);
     let leaf = leaf_below(
         leaves,
@@ -183,10 +203,11 @@ fn weight_within(
         row,
         place,
         first,
-        single,
+        found[slot],
         starts[digit],
         starts[digit + 1],
     );
+    found[slot] = (leaf % 65536) as u16;
     leaves::weight(leaves, leaf)
 }
 
@@ -253,8 +274,12 @@ fn out_index(
     index_of(alphabet, digit, slots)
 }
 
-// How many first digits are looked up beforehand: for the few places of an edit none, since that would cost more than it saves.
-fn digits_ahead(count: usize, inputs: usize) -> usize {
+// How many first digits are looked up beforehand: none for the few places of an edit, or where a first digit alone tells the leaf, since
+// that would cost more than it saves.
+fn digits_ahead(count: usize, single: bool, inputs: usize) -> usize {
+    if single {
+        return 0;
+    }
     if count < FEW {
         return 0;
     }
@@ -279,17 +304,24 @@ pub fn convert(
 {
     let size = layout::record_count(alphabet, 1);
     let single = words.len() <= leaves::leaf_count(leaves);
-    let starts = first_leaves(
-        leaves,
-        words,
-        digits_ahead(count, layout::record_count(inputs, 2)),
-    );
+    let ahead = digits_ahead(count, single, layout::record_count(inputs, 2));
+    let starts = first_leaves(leaves, words, ahead);
+    let mut found = [0u16; WINDOWS];
     let mut slots = [0u8; DIGITS];
     let mut below = weight_into(leaves, words, row, from);
     let mut k = 0;
     while k < count {
         let first = leaves::byte_at(row, from + k);
-        let own = weight_within(leaves, words, row, from + k + 1, first, single, &starts);
+        let own = weight_tried(
+            leaves,
+            words,
+            row,
+            from + k + 1,
+            first,
+            single,
+            &starts,
+            &mut found,
+        );
         let input = first as usize;
         let index = out_index(base, alphabet, inputs, input, below, own, &mut slots);
         if size <= index {

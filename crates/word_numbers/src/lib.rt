@@ -46,17 +46,8 @@ fn few(bytes: &[u8], at: usize, count: usize) -> u64
     all
 }
 
-// A word with zeros behind it, up to eight digits, that ends past the first words: the eight bytes that end with it are read at once,
-// and those in front of it are shifted out.
-pub fn late_number(words: &[u8], start: usize, length: usize) -> u64
-    requires { ⌜ (1 ≤ length) × (length ≤ 8) × (8 ≤ start + length) × (start + length ≤ lib.ListN.length (now words)) ⌝ }
-    ensures { λ r. ⌜ r ≡ aligned 256 (λ i. getD (now (words .entry)) (start + i) 0) length ⌝ }
-{
-    let end = start + length;
-    eight(words, end - LONGEST) << (8 * (LONGEST - length))
-}
-
-// A word with zeros behind it, up to eight digits.
+// A word with zeros behind it, up to eight digits. Past the first words the eight bytes that end with the word are read at once, and
+// those in front of it are shifted out.
 pub fn word_number(words: &[u8], start: usize, length: usize) -> u64
     requires { ⌜ (1 ≤ length) × (length ≤ 8) × (start + length ≤ lib.ListN.length (now words)) ⌝ }
     ensures { λ r. ⌜ r ≡ aligned 256 (λ i. getD (now (words .entry)) (start + i) 0) length ⌝ }
@@ -65,7 +56,7 @@ pub fn word_number(words: &[u8], start: usize, length: usize) -> u64
     if end < LONGEST {
         return few(words, start, length) << (8 * (LONGEST - length));
     }
-    late_number(words, start, length)
+    eight(words, end - LONGEST) << (8 * (LONGEST - length))
 }
 
 // The same, where it is known how many strings of eight bytes begin with such a word: what stands behind the word is masked out.

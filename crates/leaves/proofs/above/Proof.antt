@@ -1,44 +1,46 @@
-use Rattle.leaves.proofs.Comparison.{numbers-read}
+use Rattle.leaves.proofs.Comparison.{window-read, numbers-read}
 use native.Mathlib.Omega.{arith}
+use Prim.Native.Nat.{min}
+use mathlib.Core.Path.{_∙_, ap₂, refl}
 use borrow.Author.Needs.{needs}
 use Rattle.leaves.proofs.above.Statement.{statement}
 use Rattle.leaves.proofs.above.Tie as tie
 
--- src/lib.rt:161:9
+-- src/lib.rt:148:9
 word-start-requires : tie.Need-word-start-requires
 word-start-requires c κs = search needs
 
--- src/lib.rt:162:9
+-- src/lib.rt:149:9
 word-length-requires : tie.Need-word-length-requires
 word-length-requires c κs = search needs
 
--- src/lib.rt:163:19
-add-if1 : tie.Need-add-if1
-add-if1 c = search needs
-
--- src/lib.rt:164:12
+-- src/lib.rt:150:8
 is-inside-requires : tie.Need-is-inside-requires
 is-inside-requires c κs = search needs
 
--- src/lib.rt:165:20
+-- src/lib.rt:151:16
 eight-requires : tie.Need-eight-requires
 eight-requires c κs = search needs
 
--- src/lib.rt:165:53
-late-number-requires : tie.Need-late-number-requires
-late-number-requires c κs = let is = c .before .before .before .is-inside .ensures (c .before .before .if2 .taken) in (is .0, is .1, c .before .before .before .before .if1 .taken, is .2)
+-- src/lib.rt:151:49
+word-number-requires : tie.Need-word-number-requires
+word-number-requires c κs = c .before .before .before .is-inside .ensures (c .before .before .if1 .taken)
 
--- src/lib.rt:165:13
+-- src/lib.rt:151:9
 returns : tie.Need-returns
-returns c = numbers-read (c .before .before .before .before .before .before .before .before .before .before .args .leaves .now) (c .before .before .before .before .before .before .before .before .before .before .args .words .now) (c .before .before .before .before .before .before .before .before .before .before .args .window .now) (c .before .before .before .before .before .before .before .before .before .before .args .leaf) (c .before .before .before .before .before .before .before .word-start .result) (c .before .before .before .before .before .before .word-length .result) (c .before .eight .result) (c .late-number .result) (c .before .before .before .before .before .before .before .word-start .ensures .0) (c .before .before .before .before .before .before .word-length .ensures .0) (c .before .before .before .before .is-inside .ensures (c .before .before .before .if2 .taken) .1) (c .before .eight .ensures .1) (λ i. omega (arith, c .before .before .before .before .before .before .before .before .shared-slice-known2 .given i)) (c .before .eight .ensures .0) (c .late-number .ensures)
+returns c = numbers-read (c .before .before .before .before .before .before .before .before .before .args .leaves .now) (c .before .before .before .before .before .before .before .before .before .args .words .now) (c .before .before .before .before .before .before .before .before .before .args .window .now) (c .before .before .before .before .before .before .before .before .before .args .leaf) (c .before .before .before .before .before .before .word-start .result) (c .before .before .before .before .before .word-length .result) (c .before .eight .result) (c .word-number .result) (c .before .before .before .before .before .before .word-start .ensures .0) (c .before .before .before .before .before .word-length .ensures .0) (c .before .before .before .before .is-inside .ensures (c .before .before .before .if1 .taken) .1) (c .before .eight .ensures .1) (λ i. omega (arith, c .before .before .before .before .before .before .before .shared-slice-known2 .given i)) (c .before .eight .ensures .0) (c .word-number .ensures)
 
--- src/lib.rt:168:5
-above-any-requires : tie.Need-above-any-requires
-above-any-requires c κs = search needs
+-- src/lib.rt:153:36
+least-requires : tie.Need-least-requires
+least-requires c κs = search needs
 
--- src/lib.rt:157:1
+-- src/lib.rt:153:5
+lower-requires : tie.Need-lower-requires
+lower-requires c κs = search needs
+
+-- src/lib.rt:144:1
 returns-2 : tie.Need-returns-2
-returns-2 c = search needs
+returns-2 c = c .lower .ensures ∙ window-read (c .before .before .before .before .before .before .before .before .before .args .leaves .now) (c .before .before .before .before .before .before .before .before .before .args .words .now) (c .before .before .before .before .before .before .before .before .before .args .window .now) _ _ _ (c .before .before .before .before .before .before .word-start .ensures .0) (c .before .least .ensures ∙ ap₂ min (c .before .before .before .before .before .word-length .ensures .0) refl)
 
 pub above-spec : {M : Type 1} → statement M
 above-spec =
@@ -46,10 +48,10 @@ above-spec =
     (tie.spec
     word-start-requires
     word-length-requires
-    add-if1
     is-inside-requires
     eight-requires
-    late-number-requires
+    word-number-requires
     returns
-    above-any-requires
+    least-requires
+    lower-requires
     returns-2)

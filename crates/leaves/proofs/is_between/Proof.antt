@@ -6,43 +6,38 @@ use mathlib.Core.Path.{refl, sym, _∙_}
 use borrow.Author.Needs.{needs}
 use Rattle.leaves.proofs.is_between.Statement.{statement}
 use Rattle.leaves.proofs.is_between.Tie as tie
-use Rattle.leaves.proofs.is_between.Reads as reads
-use Rattle.leaves.proofs.is_between.Lts as lts
-use Rattle.leaves.proofs.above.Reads as above-reads
-use Rattle.leaves.proofs.above_any.Reads as above-any-reads
-use Rattle.leaves.proofs.leaf_count.Reads as leaf-count-reads
 
--- src/lib.rt:210:9
+-- src/lib.rt:194:9
 leaf-count-requires : tie.Need-leaf-count-requires
 leaf-count-requires c κs = search needs
 
--- src/lib.rt:212:9
+-- src/lib.rt:196:9
 returns : tie.Need-returns
 returns c = λ t. clash t refl
 
--- src/lib.rt:215:9
+-- src/lib.rt:199:9
 returns-2 : tie.Need-returns-2
 returns-2 c = λ t. clash t refl
 
--- src/lib.rt:217:8
-above-any-requires : tie.Need-above-any-requires
-above-any-requires c κs = omega (arith, c .before .before .leaf-count .ensures)
+-- src/lib.rt:201:8
+above-requires : tie.Need-above-requires
+above-requires c κs = omega (arith, c .before .before .leaf-count .ensures)
 
--- src/lib.rt:218:9
+-- src/lib.rt:202:9
 returns-3 : tie.Need-returns-3
 returns-3 c = λ t. clash t refl
 
--- src/lib.rt:221:9
+-- src/lib.rt:205:9
 returns-4 : tie.Need-returns-4
-returns-4 c = λ t. between-tried (codeOf (c .before .before .before .before .before .before .before .before .args .leaves .now) (c .before .before .before .before .before .before .before .before .args .words .now)) (c .before .before .before .before .before .before .before .before .args .window .now) (c .before .before .before .before .before .before .before .before .args .low) (c .before .before .before .before .before .before .before .before .args .high) (omega arith) (omega (arith, c .before .before .before .before .before .leaf-count .ensures)) (sym (c .before .before .above-any .ensures) ∙ c .before .if3 .left) (λ h. absurd (omega (arith, c .before .before .before .before .before .leaf-count .ensures)))
+returns-4 c = λ t. between-tried (codeOf (c .before .before .before .before .before .before .before .before .args .leaves .now) (c .before .before .before .before .before .before .before .before .args .words .now)) (c .before .before .before .before .before .before .before .before .args .window .now) (c .before .before .before .before .before .before .before .before .args .low) (c .before .before .before .before .before .before .before .before .args .high) (omega arith) (omega (arith, c .before .before .before .before .before .leaf-count .ensures)) (sym (c .before .before .above .ensures) ∙ c .before .if3 .left) (λ h. absurd (omega (arith, c .before .before .before .before .before .leaf-count .ensures)))
 
--- src/lib.rt:223:5
-above-requires : tie.Need-above-requires
-above-requires c κs = omega (arith, c .before .before .before .before .before .leaf-count .ensures)
+-- src/lib.rt:207:5
+above-requires-2 : tie.Need-above-requires-2
+above-requires-2 c κs = omega (arith, c .before .before .before .before .before .leaf-count .ensures)
 
--- src/lib.rt:207:1
+-- src/lib.rt:191:1
 returns-5 : tie.Need-returns-5
-returns-5 c = λ t. between-tried (codeOf (c .before .before .before .before .before .before .before .before .before .args .leaves .now) (c .before .before .before .before .before .before .before .before .before .args .words .now)) (c .before .before .before .before .before .before .before .before .before .args .window .now) (c .before .before .before .before .before .before .before .before .before .args .low) (c .before .before .before .before .before .before .before .before .before .args .high) (omega arith) (omega (arith, c .before .before .before .before .before .before .leaf-count .ensures)) (sym (c .before .before .before .above-any .ensures) ∙ c .before .before .if3 .left) (λ _. sym (c .above .ensures) ∙ t)
+returns-5 c = λ t. between-tried (codeOf (c .before .before .before .before .before .before .before .before .before .args .leaves .now) (c .before .before .before .before .before .before .before .before .before .args .words .now)) (c .before .before .before .before .before .before .before .before .before .args .window .now) (c .before .before .before .before .before .before .before .before .before .args .low) (c .before .before .before .before .before .before .before .before .before .args .high) (omega arith) (omega (arith, c .before .before .before .before .before .before .leaf-count .ensures)) (sym (c .before .before .before .above .ensures) ∙ c .before .before .if3 .left) (λ _. sym (c .above2 .ensures) ∙ t)
 
 pub is-between-spec : {M : Type 1} → statement M
 is-between-spec =
@@ -51,8 +46,8 @@ is-between-spec =
     leaf-count-requires
     returns
     returns-2
-    above-any-requires
+    above-requires
     returns-3
     returns-4
-    above-requires
+    above-requires-2
     returns-5)

@@ -8,29 +8,29 @@ use borrow.Author.Needs.{needs}
 use Rattle.places.proofs.leaf_below.Statement.{statement}
 use Rattle.places.proofs.leaf_below.Tie as tie
 
--- src/lib.rt:154:19
+-- src/lib.rt:158:15
 leaf-count-requires : tie.Need-leaf-count-requires
 leaf-count-requires c κs = search needs
 
--- src/lib.rt:155:16
+-- src/lib.rt:159:12
 begins-below-requires : tie.Need-begins-below-requires
 begins-below-requires c κs = search needs
 
--- src/lib.rt:156:17
+-- src/lib.rt:160:13
 returns : tie.Need-returns
-returns c = weight-begun (c .before .before .before .before .before .before .before .before .args .leaves .now) (c .before .before .before .before .before .before .before .before .args .words .now) (c .before .before .before .before .before .before .before .before .args .row .now) (c .before .before .before .before .before .before .before .before .pre .0) (c .before .before .before .before .before .before .before .before .args .place) (c .before .before .before .before .before .before .before .before .args .low) (omega (arith, c .before .before .before .leaf-count .ensures, c .before .before .if2 .taken)) (c .before .begins-below .ensures (c .if3 .taken))
+returns c = weight-begun (c .before .before .before .before .before .before .before .args .leaves .now) (c .before .before .before .before .before .before .before .args .words .now) (c .before .before .before .before .before .before .before .args .row .now) (c .before .before .before .before .before .before .before .pre .0) (c .before .before .before .before .before .before .before .args .place) (c .before .before .before .before .before .before .before .args .guess) (omega (arith, c .before .before .before .leaf-count .ensures, c .before .before .if1 .taken)) (c .before .begins-below .ensures (c .if2 .taken))
 
--- src/lib.rt:160:43
+-- src/lib.rt:166:9
 window-below-requires : tie.Need-window-below-requires
 window-below-requires c κs = search needs
 
--- src/lib.rt:160:5
+-- src/lib.rt:163:5
 look-up-within-requires : tie.Need-look-up-within-requires
 look-up-within-requires c κs = search needs
 
--- src/lib.rt:139:1
+-- src/lib.rt:144:1
 returns-2 : tie.Need-returns-2
-returns-2 c = weight-found (c .before .before .before .before .before .before .args .leaves .now) (c .before .before .before .before .before .before .args .words .now) (c .before .before .before .before .before .before .args .row .now) (c .before .before .before .before .before .before .pre .0) (c .before .before .before .before .before .before .args .place) (c .look-up-within .result) (subst (λ w. LookedUp (codeOf (c .before .before .before .before .before .before .args .leaves .now) (c .before .before .before .before .before .before .args .words .now)) w (c .look-up-within .result)) (c .before .window-below .ensures) (c .look-up-within .ensures))
+returns-2 c = weight-found (c .before .before .before .before .before .before .before .args .leaves .now) (c .before .before .before .before .before .before .before .args .words .now) (c .before .before .before .before .before .before .before .args .row .now) (c .before .before .before .before .before .before .before .pre .0) (c .before .before .before .before .before .before .before .args .place) (c .look-up-within .result) (subst (λ w. LookedUp (codeOf (c .before .before .before .before .before .before .before .args .leaves .now) (c .before .before .before .before .before .before .before .args .words .now)) w (c .look-up-within .result)) (c .before .window-below .ensures) (c .look-up-within .ensures))
 
 pub leaf-below-spec : {M : Type 1} → statement M
 leaf-below-spec =
