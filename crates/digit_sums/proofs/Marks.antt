@@ -9,22 +9,20 @@ use native.Mathlib.Nat.{le-antisymm}
 use native.Mathlib.Omega.{arith}
 use lib.ListN.{getD, set, replicate}
 use lib.Seq.{getD-set-other}
-use lib.IntN.{ℤ, pos, negsuc, natAbs, _+ℤ_}
+use lib.IntN.{ℤ}
 use lib.Dec.{T}
-use lib.Signed.{nonNeg}
 use borrow.Author.Tests.{lt-ltb, le-ltb}
 use Rattle.lists.proofs.Scan.{scan-all}
 use Rattle.lists.proofs.Test.{clash}
-use Rattle.integers.proofs.Machine.{Term, leaf, _⊕_, _⊗_, plain, plain-bound}
 use Rattle.faults.specs.Check.{none}
 use Rattle.faults.proofs.Check.{judge-kept}
-use Rattle.ring.specs.Element.{plus, same, Within}
+use Rattle.ring.specs.Element.{plus, same}
 use Rattle.ring.proofs.Element.{same→≡}
-use Rattle.ring.proofs.Parts.{entry}
 use Rattle.digit_rules.specs.Record.{recordAt, elementCount, indexIn}
 use Rattle.digit_rules.specs.Digits.{recordAllowed, sumIndex, sumListed, allSumsListed, inputAllowed, inputsAllowed, inputCheck}
 use Rattle.digit_rules.specs.Broken.{Broken7}
-use Rattle.digit_sums.specs.Marks.{slotOf, followed, located, FoundAt, Marked}
+use Rattle.slots.specs.Slot.{slotOf}
+use Rattle.digit_sums.specs.Marks.{followed, located, FoundAt, Marked}
 use Rattle.digit_rules.proofs.Index.{index-first}
 use Rattle.digit_rules.proofs.Allowed.{at-record, after-records}
 use Rattle.digit_rules.proofs.Sums.{record-fails, sum-passes}
@@ -43,24 +41,6 @@ nonzero-next marks n before here k h =
       | yes l ↦ before k l
       | no l ↦ λ z. here (ap (λ j. getD marks j 0) (le-antisymm {n = n} {m = k} (omega arith) (omega arith)) ∙ z)
     ]
-
--- the sum in a slot is not below zero
-module _ (x : List ℤ) (small : Within 65536 x) where
-  abbrev pub slot-product : Term
-  slot-product = leaf (pos 31) 31 (omega arith) ⊗ entry 65536 x small 1
-
-  abbrev pub slot-sum : Term
-  slot-sum = entry 65536 x small 0 ⊕ slot-product
-
-  abbrev pub slot-term : Term
-  slot-term = slot-sum ⊕ leaf (pos 4194304) 4194304 (omega arith)
-
-  pub slot-positive : T (nonNeg (plain slot-term))
-  slot-positive = positive (plain slot-sum) (omega (arith, plain-bound slot-sum))
-    where
-      positive : (z : ℤ) → natAbs z ≤ 4194304 → T (nonNeg (z +ℤ pos 4194304))
-      positive (pos n) h = tt
-      positive (negsuc n) h = rw (le-ltb 4194304 (suc n) h) tt
 
 -- what is found along the links equals the element
 pub follow-out : (inputs links : List ℕ) (x : List ℤ) (n at : ℕ) → elementCount inputs ≤ at → followed inputs links x n at ≡ elementCount inputs

@@ -3,16 +3,13 @@
 use mathlib.Core.Path.{_≡_}
 use mathlib.Core.Bool.{true, false}
 use mathlib.Core.List.{List}
-use Prim.Native.Nat.{ℕ, zero, suc, _%_, _<_}
+use Prim.Native.Nat.{ℕ, zero, suc, _<_}
 use lib.ListN.{getD}
 use lib.Dec.{ltb}
-use lib.IntN.{ℤ, pos, natAbs, _+ℤ_, _*ℤ_}
-use Rattle.ring.specs.Element.{part, plus, same}
+use lib.IntN.{ℤ}
+use Rattle.ring.specs.Element.{plus, same}
 use Rattle.digit_rules.specs.Record.{recordAt, elementCount}
-
--- the slot of an element, of 256
-unfoldable pub slotOf : List ℤ → ℕ
-slotOf x = natAbs (part x 0 +ℤ pos 31 *ℤ part x 1 +ℤ pos 4194304) % 256
+use Rattle.slots.specs.Slot.{slotOf}
 
 -- the first input digit that equals x, of at most n from one on along the links; the count where there is none
 unfoldable pub followed : List ℕ → List ℕ → List ℤ → ℕ → ℕ → ℕ

@@ -4,10 +4,10 @@ ghost use mathlib.Core.Bool.{true};
 ghost use Prim.Native.Nat.{ℕ, _+_, _≤_, _<_};
 ghost use lib.ListN.{getD};
 ghost use Rattle.faults.specs.Check.{none};
-ghost use Rattle.ring.specs.Element.{plus, Within};
+ghost use Rattle.ring.specs.Element.{plus};
 ghost use Rattle.digit_rules.specs.Record.{recordAt, elementCount};
 ghost use Rattle.digit_rules.specs.Digits.{sumsListed, inputCheck};
-ghost use Rattle.digit_sums.specs.Marks.{slotOf, followed, located, Marked};
+ghost use Rattle.digit_sums.specs.Marks.{followed, located, Marked};
 
 // The sections of digits.
 const ALPHABET: usize = 1;
@@ -26,14 +26,6 @@ fn wide(x: u8) -> usize
     x as usize
 }
 
-// The slot of an element.
-fn slot(x: [i64; 2]) -> usize
-    requires { ⌜ Within 65536 x ⌝ }
-    ensures { λ r. ⌜ (r ≡ slotOf x) × (r < 256) ⌝ }
-{
-    (x[0] + 31 * x[1] + 4194304) as usize % SLOTS
-}
-
 // Makes each input digit the first of its slot, with a link to the one that was.
 fn link(inputs: &[u8], heads: &mut [u8; SLOTS], links: &mut [u8; MOST])
     requires { ⌜ elementCount (now inputs) ≤ 136 ⌝ }
@@ -41,7 +33,7 @@ fn link(inputs: &[u8], heads: &mut [u8; SLOTS], links: &mut [u8; MOST])
     let count = layout::record_count(inputs, INPUTS);
     let mut k = 0;
     while k < count {
-        let place = slot(digits::record_at(inputs, k));
+        let place = slots::slot_of(digits::record_at(inputs, k));
         links[k] = heads[place];
         heads[place] = k as u8;
         k += 1;
@@ -85,7 +77,7 @@ fn locate(
         digits::record_at(alphabet, i),
         digits::record_at(alphabet, other),
     );
-    let place = slot(x);
+    let place = slots::slot_of(x);
     follow(inputs, links, heads[place], x)
 }
 

@@ -1,14 +1,13 @@
 -- Laws of the slots of alphabet digits.
 use mathlib.Core.Path.{_≡_, refl, sym, ap, _∙_}
-use mathlib.Core.Bool.{Bool, true, false}
+use mathlib.Core.Bool.{true, false}
 use mathlib.Core.List.{List}
-use Prim.Native.Nat.{ℕ, _+_, _%_, _<_, _≤_}
+use Prim.Native.Nat.{ℕ, _+_, _<_, _≤_}
 use native.Mathlib.Decide.{decLt, ℕ-discrete}
 use native.Mathlib.Nat.{le-antisymm}
 use native.Mathlib.Omega.{arith}
-use lib.IntN.{ℤ, pos, natAbs}
+use lib.IntN.{ℤ}
 use lib.Dec.{ltb}
-use lib.Signed.{ltZ}
 use lib.ListN.{length, getD, set, List·getD-eq-default}
 use lib.Seq.{getD-set-same, getD-set-other}
 use borrow.Author.Tests.{lt-ltb, le-ltb, ltb-true}
@@ -18,7 +17,8 @@ use Rattle.ring.proofs.Element.{same-refl, same→≡}
 use Rattle.digit_rules.specs.Record.{recordAt, elementCount, indexIn}
 use Rattle.digit_rules.proofs.Index.{index-is, index-first}
 use Rattle.table_rules.specs.Pairs.{inAlphabet}
-use Rattle.pair_digits.specs.Slots.{slotPlace, slotOf, SlottedBefore, Slotted}
+use Rattle.slots.specs.Slot.{slotOf}
+use Rattle.pair_digits.specs.Slots.{SlottedBefore, Slotted}
 
 -- one more digit, in a slot that was empty
 pub slot-next : (alphabet slots : List ℕ) (n slot : ℕ) → slot ≡ slotOf (recordAt alphabet n) → 255 ≤ getD slots slot 0 → n ≤ 255 → SlottedBefore alphabet slots n → SlottedBefore alphabet (set slots slot n) (n + 1)
@@ -63,11 +63,3 @@ module _ (alphabet slots : List ℕ) (known : Slotted alphabet slots) (x : List 
       (λ t. let h = ltb-true index (elementCount alphabet) t in ap (λ y. same y x) (ap (recordAt alphabet) (found h) ∙ index-is alphabet (elementCount alphabet) x h) ∙ same-refl x)
 
 -- ---- the slot, by the sign of the place
-
-pub slot-below : (x : List ℤ) → ltZ (slotPlace x) (pos 0) ≡ true → 0 ≡ slotOf x
-unfolding slotOf
-slot-below x h = rw (h, slotOf)
-
-pub slot-above : (x : List ℤ) → ltZ (slotPlace x) (pos 0) ≡ false → natAbs (slotPlace x) % 256 ≡ slotOf x
-unfolding slotOf
-slot-above x h = rw (h, slotOf)

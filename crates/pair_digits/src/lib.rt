@@ -6,7 +6,7 @@ ghost use Rattle.ring.specs.Matrix.{RowsWithin};
 ghost use Rattle.digit_rules.specs.Record.{elementCount};
 ghost use Rattle.leaves.specs.Leaf.{wordGiven, weightGiven};
 ghost use mathlib.Core.Bool.{true};
-ghost use Rattle.pair_digits.specs.Slots.{slotOf, Slotted};
+ghost use Rattle.pair_digits.specs.Slots.{Slotted};
 ghost use Rattle.table_rules.specs.Pairs.{inAlphabet, upperPart};
 ghost use Prim.Native.Nat.{_+_, _<_, _^_};
 
@@ -39,18 +39,6 @@ pub fn wide(x: u8) -> usize
     x as usize
 }
 
-// The slot of an element. Those of a square of 16 by 16 have different ones.
-pub fn slot_of(x: [i64; 2]) -> usize
-    requires { ⌜ Within (2 ^ 58) x ⌝ }
-    ensures { λ r. ⌜ (r ≡ slotOf x) × (r < 256) ⌝ }
-{
-    let place = x[0] + 16 * x[1] + 32768;
-    if place < 0 {
-        return 0;
-    }
-    place as usize % SLOTS
-}
-
 // Puts the number of each alphabet digit into its slot; whether each has a slot of its own.
 pub fn slot_digits(alphabet: &[u8], slots: &mut [u8; SLOTS]) -> bool
     ensures { λ r. ⌜ (r ≡ true → Slotted (now (alphabet .entry)) (now (slots .exit))) ⌝ }
@@ -61,7 +49,7 @@ pub fn slot_digits(alphabet: &[u8], slots: &mut [u8; SLOTS]) -> bool
     }
     let mut digit = 0;
     while digit < count {
-        let slot = slot_of(digits::record_at(alphabet, digit));
+        let slot = slots::slot_of(digits::record_at(alphabet, digit));
         if slots[slot] < EMPTY {
             return false;
         }
@@ -76,7 +64,7 @@ fn in_slots(alphabet: &[u8], slots: &[u8; SLOTS], x: [i64; 2]) -> bool
     requires { ⌜ Within (2 ^ 58) x × Slotted (now alphabet) (now slots) ⌝ }
     ensures { λ r. ⌜ r ≡ inAlphabet (now (alphabet .entry)) x ⌝ }
 {
-    let slot = slot_of(x);
+    let slot = slots::slot_of(x);
     let digit = wide(slots[slot]);
     if digit < layout::record_count(alphabet, 1) {
         return ring::equal(digits::record_at(alphabet, digit), x);

@@ -1,19 +1,16 @@
 -- What is tried before a search: a leaf that begins the window, and an alphabet digit that was found before.
 use mathlib.Core.Path.{_≡_, refl, sym, ap, subst, _∙_}
 use mathlib.Core.List.{List}
-use Prim.Native.Nat.{ℕ, suc, _+_, _^_, _<_, _≤_}
+use Prim.Native.Nat.{ℕ, _+_, _<_, _≤_}
 use native.Mathlib.Decide.{decLt, ℕ-discrete}
 use native.Mathlib.Numerals.{add-one}
 use native.Mathlib.Omega.{arith}
 use lib.ListN.{length, getD, set, replicate, length-set, List·getD-eq-default}
 use lib.Seq.{getD-set-same, getD-set-other}
-use lib.IntN.{ℤ, pos, negsuc, natAbs, _+ℤ_}
+use lib.IntN.{ℤ}
 use lib.Dec.{T}
-use lib.Signed.{nonNeg}
-use borrow.Author.Tests.{le-ltb}
-use Rattle.integers.proofs.Machine.{Term, leaf, _⊕_, _⊗_, plain, plain-bound}
-use Rattle.ring.specs.Element.{same, Within}
-use Rattle.ring.proofs.Parts.{entry}
+use Rattle.integers.proofs.Machine.{leaf}
+use Rattle.ring.specs.Element.{same}
 use Rattle.digit_rules.specs.Record.{recordAt, elementCount}
 use Rattle.digit_rules.proofs.Index.{index-is, index-first}
 use Rattle.numeration.specs.Code.{Begins}
@@ -35,24 +32,6 @@ unfolding weightInto
 weight-begun leaves words row is j k h b =
     let c = codeOf leaves words in
     sym (weight-there leaves k h) ∙ ap (c .weight) (sym (leafOf-unique c (ordered-separate c (is .sorted .ordered)) (window row j) k h b))
-
--- the sum in the slot of an element is not below zero
-module _ (x : List ℤ) (small : Within (2 ^ 42) x) where
-  abbrev pub slot-product : Term
-  slot-product = leaf (pos 8) 8 (omega arith) ⊗ entry (2 ^ 42) x small 1
-
-  abbrev pub slot-sum : Term
-  slot-sum = entry (2 ^ 42) x small 0 ⊕ slot-product
-
-  abbrev pub slot-term : Term
-  slot-term = slot-sum ⊕ leaf (pos 70368744177664) 70368744177664 (omega arith)
-
-  pub slot-positive : T (nonNeg (plain slot-term))
-  slot-positive = positive (plain slot-sum) (omega (arith, plain-bound slot-sum))
-    where
-      positive : (z : ℤ) → natAbs z ≤ 70368744177664 → T (nonNeg (z +ℤ pos 70368744177664))
-      positive (pos n) h = tt
-      positive (negsuc n) h = rw (le-ltb 70368744177664 (suc n) h) tt
 
 module _ (alphabet : List ℕ) where
   abbrev IsFirst : ℕ → Type 0

@@ -27,7 +27,7 @@ const STARTS: usize = 257;
 const FEW: usize = 16;
 
 // The slots that alphabet digits are kept in by their elements.
-const DIGITS: usize = 64;
+const DIGITS: usize = 256;
 
 // The input index of the sum of two rows' digits at a place, the rows read with the change made. A sum is looked for once and then
 // stands in `known`.
@@ -228,14 +228,6 @@ fn first_leaves(leaves: &[u8], words: &[u8], inputs: usize) -> [u16; STARTS] {
     starts
 }
 
-// The slot of an element. Those of a square of 8 by 8 have different ones.
-fn digit_slot(x: [i64; 2]) -> usize
-    requires { ⌜ Within (2 ^ 42) x ⌝ }
-    ensures { λ r. ⌜ r < 64 ⌝ }
-{
-    (x[0] + 8 * x[1] + 70368744177664) as usize % DIGITS
-}
-
 // The alphabet index of an element, or the alphabet's size. The digit in the element's slot is tried before the search, and a digit
 // that was found is put there.
 fn index_of(alphabet: &[u8], x: [i64; 2], slots: &mut [u8; DIGITS]) -> usize
@@ -243,7 +235,7 @@ fn index_of(alphabet: &[u8], x: [i64; 2], slots: &mut [u8; DIGITS]) -> usize
     ensures { λ r. ⌜ (r ≡ alphabetIndex (now (alphabet .entry)) x) × Firsts (now (alphabet .entry)) (now (slots .exit)) ⌝ }
 {
     let size = layout::record_count(alphabet, 1);
-    let slot = digit_slot(x);
+    let slot = slots::slot_of(x);
     let last = leaves::wide(slots[slot]);
     if last < size {
         if ring::equal(digits::record_at(alphabet, last), x) {

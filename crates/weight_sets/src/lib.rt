@@ -56,7 +56,7 @@ pub fn number_weights(leaves: &[u8], numbers: &mut [u8], first: &mut [usize]) ->
     let mut count = 0;
     let mut leaf = 0;
     while leaf < leaf_count {
-        let slot = pair_digits::slot_of(leaves::weight(leaves, leaf));
+        let slot = slots::slot_of(leaves::weight(leaves, leaf));
         let number = number_in(leaves, first, count, leaf, wide(slots[slot]));
         if WEIGHTS <= number {
             return WEIGHTS + 1;

@@ -1,7 +1,7 @@
 use Rattle.ring.proofs.Element.{within-le}
 use borrow.Author.Needs.{needs}
 use native.Mathlib.Omega.{arith}
-use Prim.Native.Nat.{_≤_, _-_}
+use Prim.Native.Nat.{_^_, _≤_, _-_}
 use Rattle.digit_sums.proofs.link.Statement.{statement}
 use Rattle.digit_sums.proofs.link.Tie as tie
 
@@ -20,11 +20,11 @@ loop-holds c = omega arith
 record-at-requires : tie.Need-record-at-requires Inv-loop μ-loop
 record-at-requires c κs = search needs
 
-slot-requires : tie.Need-slot-requires Inv-loop μ-loop
-slot-requires c κs = within-le 32768 65536 _ (omega arith) (c .record-at .ensures .1)
+slot-of-requires : tie.Need-slot-of-requires Inv-loop μ-loop
+slot-of-requires c κs = within-le 32768 (2 ^ 58) _ (omega arith) (c .record-at .ensures .1)
 
 element-copy-out-links : tie.Need-element-copy-out-links Inv-loop μ-loop
-element-copy-out-links c = omega (arith, c .slot .ensures .1)
+element-copy-out-links c = omega (arith, c .slot-of .ensures .1)
 
 element-write-links : tie.Need-element-write-links Inv-loop μ-loop
 element-write-links c = omega (arith, c .before .before .before .before .before .record-count .ensures)
@@ -33,7 +33,7 @@ cast-heads : tie.Need-cast-heads Inv-loop μ-loop
 cast-heads c = omega (arith, c .before .before .before .before .before .record-count .ensures)
 
 element-write-heads : tie.Need-element-write-heads Inv-loop μ-loop
-element-write-heads c = omega (arith, c .before .slot .ensures .1)
+element-write-heads c = omega (arith, c .before .slot-of .ensures .1)
 
 add-k : tie.Need-add-k Inv-loop μ-loop
 add-k c = search needs
@@ -56,7 +56,7 @@ link-spec =
     record-count-requires
     loop-holds
     record-at-requires
-    slot-requires
+    slot-of-requires
     element-copy-out-links
     element-write-links
     cast-heads

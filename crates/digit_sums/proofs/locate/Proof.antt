@@ -17,8 +17,8 @@ record-at-requires-2 c κs = search needs
 sum-requires : tie.Need-sum-requires
 sum-requires c κs = (within-le 32768 (2 ^ 61) _ (omega arith) (c .before .record-at .ensures .1), within-le 32768 (2 ^ 61) _ (omega arith) (c .record-at2 .ensures .1))
 
-slot-requires : tie.Need-slot-requires
-slot-requires c κs = subst (Within 65536) (sym (c .sum .ensures)) (within-plus 32768 32768 _ _ (c .before .before .record-at .ensures .1) (c .before .record-at2 .ensures .1))
+slot-of-requires : tie.Need-slot-of-requires
+slot-of-requires c κs = subst (Within (2 ^ 58)) (sym (c .sum .ensures)) (within-le 65536 (2 ^ 58) _ (omega arith) (within-plus 32768 32768 _ _ (c .before .before .record-at .ensures .1) (c .before .record-at2 .ensures .1)))
 
 element-copy-out-follow : tie.Need-element-copy-out-follow
 element-copy-out-follow c = search needs
@@ -28,7 +28,7 @@ follow-requires c κs = search needs
 
 returns : tie.Need-returns
 unfolding located
-returns c = c .follow .ensures ∙ rw (c .before .before .slot .ensures .0, c .before .before .before .sum .ensures, c .before .before .before .before .before .record-at .ensures .0, c .before .before .before .before .record-at2 .ensures .0)
+returns c = c .follow .ensures ∙ rw (c .before .before .slot-of .ensures .0, c .before .before .before .sum .ensures, c .before .before .before .before .before .record-at .ensures .0, c .before .before .before .before .record-at2 .ensures .0)
 
 pub locate-spec : {M : Type 1} → statement M
 locate-spec =
@@ -37,7 +37,7 @@ locate-spec =
     record-at-requires
     record-at-requires-2
     sum-requires
-    slot-requires
+    slot-of-requires
     element-copy-out-follow
     follow-requires
     returns)

@@ -1,5 +1,6 @@
 use Rattle.pair_digits.proofs.Slots.{slot-next}
-use Rattle.pair_digits.specs.Slots.{slotOf, SlottedBefore}
+use Rattle.slots.specs.Slot.{slotOf}
+use Rattle.pair_digits.specs.Slots.{SlottedBefore}
 use Rattle.ring.proofs.Element.{within-le}
 use Rattle.lists.proofs.Test.{clash}
 use borrow.Author.Needs.{needs}

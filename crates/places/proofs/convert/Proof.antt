@@ -49,7 +49,7 @@ weight-into-requires c κs = c .before .before .before .before .before .before .
 loop-holds : tie.Need-loop-holds Inv-loop μ-loop
 loop-holds c =
     let a = c .before .before .before .before .before .before .before .before .before .before .before .before .args in
-    (converted-start (elements degree (a .base)) (a .alphabet .now) (a .inputs .now) (a .leaves .now) (a .words .now) (a .row .now) (a .from) (a .count) (a .out .now) (c .weight-into .result) (c .weight-into .ensures .0) (c .weight-into .ensures .1), firsts-none (a .alphabet .now) 64)
+    (converted-start (elements degree (a .base)) (a .alphabet .now) (a .inputs .now) (a .leaves .now) (a .words .now) (a .row .now) (a .from) (a .count) (a .out .now) (c .weight-into .result) (c .weight-into .ensures .0) (c .weight-into .ensures .1), firsts-none (a .alphabet .now) 256)
 
 add-byte-at : tie.Need-add-byte-at Inv-loop μ-loop
 add-byte-at c = omega (arith, c .before .before .before .before .before .before .before .before .before .before .before .before .before .before .pre .5)

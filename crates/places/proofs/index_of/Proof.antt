@@ -1,8 +1,9 @@
 use native.Mathlib.Omega.{arith}
-use Prim.Native.Nat.{ℕ}
+use Prim.Native.Nat.{ℕ, _^_}
+use lib.Dec.{lit≤}
 use mathlib.Core.Path.{_≡_, sym, ap, _∙_}
 use Rattle.digit_rules.specs.Record.{recordAt, indexIn}
-use Rattle.ring.proofs.Element.{same→≡}
+use Rattle.ring.proofs.Element.{same→≡, within-le}
 use Rattle.places.proofs.Tried.{first-hit, firsts-more}
 use borrow.Author.Needs.{needs}
 use Rattle.places.proofs.index_of.Statement.{statement}
@@ -11,8 +12,8 @@ use Rattle.places.proofs.index_of.Tie as tie
 record-count-requires : tie.Need-record-count-requires
 record-count-requires c κs = search needs
 
-digit-slot-requires : tie.Need-digit-slot-requires
-digit-slot-requires c κs = search needs
+slot-of-requires : tie.Need-slot-of-requires
+slot-of-requires c κs = within-le (2 ^ 42) (2 ^ 58) _ (lit≤ tt) (c .before .before .pre .0)
 
 element-copy-out-wide : tie.Need-element-copy-out-wide
 element-copy-out-wide c = search needs
@@ -28,7 +29,7 @@ equal-requires c κs = search needs
 
 returns : tie.Need-returns
 returns c =
-    (c .before .before .before .before .wide .ensures ∙ first-hit (c .before .before .before .before .before .before .before .before .before .args .alphabet .now) (c .before .before .before .before .before .before .before .before .before .args .x) (c .before .before .before .before .before .before .before .before .before .args .slots .now) (c .before .before .before .before .before .before .before .before .before .pre .2) (c .before .before .before .before .before .before .digit-slot .result) (omega (arith, c .before .before .before .before .wide .ensures, c .before .before .before .if1 .taken, c .before .before .before .before .before .before .before .record-count .ensures)) (ap (recordAt (c .before .before .before .before .before .before .before .before .before .args .alphabet .now)) (sym (c .before .before .before .before .wide .ensures)) ∙ sym (c .before .before .record-at .ensures .0) ∙ same→≡ _ _ (sym (c .before .equal .ensures) ∙ c .if2 .taken)), c .before .before .before .before .before .before .before .before .before .pre .2)
+    (c .before .before .before .before .wide .ensures ∙ first-hit (c .before .before .before .before .before .before .before .before .before .args .alphabet .now) (c .before .before .before .before .before .before .before .before .before .args .x) (c .before .before .before .before .before .before .before .before .before .args .slots .now) (c .before .before .before .before .before .before .before .before .before .pre .2) (c .before .before .before .before .before .before .slot-of .result) (omega (arith, c .before .before .before .before .wide .ensures, c .before .before .before .if1 .taken, c .before .before .before .before .before .before .before .record-count .ensures)) (ap (recordAt (c .before .before .before .before .before .before .before .before .before .args .alphabet .now)) (sym (c .before .before .before .before .wide .ensures)) ∙ sym (c .before .before .record-at .ensures .0) ∙ same→≡ _ _ (sym (c .before .equal .ensures) ∙ c .if2 .taken)), c .before .before .before .before .before .before .before .before .before .pre .2)
 
 find-requires : tie.Need-find-requires
 find-requires c κs = search needs
@@ -42,7 +43,7 @@ element-write-slots c = search needs
 returns-2 : tie.Need-returns-2
 returns-2 c =
     let e = c .before .find .ensures ∙ ap (λ (n : ℕ). indexIn (c .before .before .before .before .before .before .before .before .args .alphabet .now) n (c .before .before .before .before .before .before .before .before .args .x)) (c .before .before .before .before .before .before .record-count .ensures) in
-    (e, firsts-more (c .before .before .before .before .before .before .before .before .args .alphabet .now) (c .before .before .before .before .before .before .before .before .args .x) (c .before .before .before .before .before .before .before .before .args .slots .now) (c .before .before .before .before .before .before .before .before .pre .2) (c .before .before .before .before .before .digit-slot .result) (c .before .find .result) e (omega (arith, c .if3 .taken, c .before .before .before .before .before .before .record-count .ensures)))
+    (e, firsts-more (c .before .before .before .before .before .before .before .before .args .alphabet .now) (c .before .before .before .before .before .before .before .before .args .x) (c .before .before .before .before .before .before .before .before .args .slots .now) (c .before .before .before .before .before .before .before .before .pre .2) (c .before .before .before .before .before .slot-of .result) (c .before .find .result) e (omega (arith, c .if3 .taken, c .before .before .before .before .before .before .record-count .ensures)))
 
 returns-3 : tie.Need-returns-3
 returns-3 c =
@@ -53,7 +54,7 @@ index-of-spec =
     tie.close
     (tie.spec
     record-count-requires
-    digit-slot-requires
+    slot-of-requires
     element-copy-out-wide
     wide-requires
     record-at-requires

@@ -1,5 +1,5 @@
-use Rattle.pair_digits.proofs.Slots.{slot-below, slot-above}
-use Rattle.pair_digits.specs.Slots.{slotPlace}
+use Rattle.slots.proofs.Slot.{slot-below, slot-above}
+use Rattle.slots.specs.Slot.{slotPlace}
 use Rattle.ring.proofs.Parts.{entry, constant}
 use Rattle.integers.proofs.Sign.{not-below-zero}
 use Rattle.integers.proofs.Machine.{Term, _⊕_, _⊗_, computed-fits, stored-is, plain-bound}
@@ -11,8 +11,8 @@ use Prim.Native.Nat.{ℕ, _+_, _*_, _%_, _^_, _<_}
 use mathlib.Core.Bool.{true, false}
 use mathlib.Core.Path.{_≡_, refl, sym, ap, _∙_}
 use borrow.Author.Needs.{needs}
-use Rattle.pair_digits.proofs.slot_of.Statement.{statement}
-use Rattle.pair_digits.proofs.slot_of.Tie as tie
+use Rattle.slots.proofs.slot_of.Statement.{statement}
+use Rattle.slots.proofs.slot_of.Tie as tie
 
 -- the second part sixteen-fold, the first part with it, and the place
 abbrev higher : tie.Start → Term

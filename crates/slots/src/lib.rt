@@ -1,0 +1,19 @@
+// A slot for each element, so that one among many is found at once.
+ghost use mathlib.Core.Path.{_≡_};
+ghost use Prim.Native.Nat.{_<_, _^_};
+ghost use Rattle.ring.specs.Element.{Within};
+ghost use Rattle.slots.specs.Slot.{slotOf};
+
+const SLOTS: usize = 256;
+
+// The slot of an element. Those of a square of 16 by 16 have different ones.
+pub fn slot_of(x: [i64; 2]) -> usize
+    requires { ⌜ Within (2 ^ 58) x ⌝ }
+    ensures { λ r. ⌜ (r ≡ slotOf x) × (r < 256) ⌝ }
+{
+    let place = x[0] + 16 * x[1] + 32768;
+    if place < 0 {
+        return 0;
+    }
+    place as usize % SLOTS
+}
