@@ -9,7 +9,7 @@ ghost use Rattle.reader_rules.specs.Table.{tableCheck, tableFacts};
 ghost use Rattle.reader_rules.specs.Ready.{inputCount};
 ghost use Rattle.row_rules.specs.Changed.{changed};
 ghost use Rattle.row_rules.specs.Fit.{RowsFit};
-ghost use Rattle.places.specs.Place.{partRow};
+ghost use Rattle.place_rules.specs.Helpers.{partRow};
 ghost use Rattle.adder_rules.specs.Sum.{inputOf, digitCount, placeCount, rowAllowed, rowPart, sumRow, digitsOutcome, addOutcome, atExit, addSum};
 ghost use Rattle.adder.specs.Answer.{outcomeOf};
 use adder_rules::AddedFacts;

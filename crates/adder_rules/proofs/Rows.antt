@@ -20,8 +20,9 @@ use Rattle.row_rules.specs.Changed.{changed, noChange}
 use Rattle.row_rules.specs.Fit.{Indexes, RowsFit}
 use Rattle.row_rules.proofs.Changed.{unchanged}
 use Rattle.table_rules.specs.Pairs.{inAlphabet}
-use Rattle.places.specs.Place.{partRow, alphabetIndex, indexAt}
-use Rattle.places.proofs.Filled.{part-in, part-behind, part-each}
+use Rattle.place_rules.specs.Place.{alphabetIndex, indexAt}
+use Rattle.place_rules.specs.Helpers.{partRow}
+use Rattle.place_rules.proofs.Part.{part-in, part-behind, part-each}
 use Rattle.adder_rules.specs.Sum.{inputOf, inputRow, digitCount, placeCount, rowDigit, rowIndex, rowAllowed}
 use Rattle.adder_rules.proofs.Table.{digits-counted}
 

@@ -33,8 +33,8 @@ use Rattle.row_rules.specs.Check.{rowCheck}
 use Rattle.row_rules.specs.Fit.{RowsFit}
 use Rattle.row_rules.proofs.Fit.{rows-fit}
 use Rattle.table_rules.specs.Pairs.{inAlphabet}
-use Rattle.places.specs.Place.{indexAt}
-use Rattle.places.proofs.Filled.{overwrite-in, overwrite-behind}
+use Rattle.place_rules.specs.Place.{indexAt}
+use Rattle.lists.proofs.Entries.{overwrite-in, overwrite-behind}
 use Rattle.adder_rules.specs.declared.AddedFacts.{AddedFacts}
 use Rattle.adder_rules.specs.Sum.{inputOf, inputRow, digitCount, placeCount, rowDigit, rowIndex, rowAllowed, rowPart, digitCheck, sumRow, digitsOutcome, addOutcome, addSum}
 use Rattle.adder_rules.specs.Summed.{Summed}

@@ -15,7 +15,7 @@ use Rattle.reader_rules.specs.Table.{basePart, alphabetPart, inputPart, leafPar
 use Rattle.reader_rules.specs.Ready.{inputCount, Ready}
 use Rattle.reader_rules.proofs.Kept.{layout-kept, table-kept}
 use Rattle.reader_rules.proofs.Ready.{ready-passed}
-use Rattle.places.specs.Place.{Begun}
+use Rattle.place_rules.specs.Helpers.{Begun}
 use Rattle.adder_rules.specs.Sum.{digitCount}
 
 module _ (file : List ℕ) (passes : tableCheck file .number ≡ 0) where

@@ -13,7 +13,7 @@ use Rattle.faults.specs.Unless.{unless}
 use Rattle.reader_rules.specs.Table.{alphabetPart, inputPart, leafPart, wordPart, tableCheck, tableFacts}
 use Rattle.reader_rules.specs.Ready.{operationsOf}
 use Rattle.row_rules.specs.Check.{rowCheck}
-use Rattle.places.specs.Place.{inputAt, digitAt, indexAt, digitAllowed}
+use Rattle.place_rules.specs.Place.{inputAt, digitAt, indexAt, digitAllowed}
 use Rattle.adder_rules.specs.declared.AddedFacts.{AddedFacts}
 
 module _ (file : List ℕ) where

@@ -30,7 +30,7 @@ use Rattle.row_rules.proofs.Changed.{length-changed, changed-elsewhere, changed
 use Rattle.table_rules.specs.Check.{checkFacts, checkOutcome}
 use Rattle.table_rules.specs.Pairs.{inAlphabet}
 use Rattle.table_rules.proofs.Demand.{demand-2, listed-test}
-use Rattle.places.specs.Place.{indexAt}
+use Rattle.place_rules.specs.Place.{indexAt}
 use Rattle.adder_rules.specs.declared.AddedFacts.{AddedFacts}
 use Rattle.adder_rules.specs.Sum.{inputOf, inputRow, digitCount, placeCount, rowDigit, rowIndex, rowPart, sumRow, addOutcome, addSum}
 use Rattle.adder_rules.proofs.Table.{digits-counted}

@@ -23,8 +23,8 @@ use Rattle.row_rules.specs.declared.Change.{Change}
 use Rattle.row_rules.specs.Changed.{changed}
 use Rattle.row_rules.specs.Fit.{RowsFit, EditFits}
 use Rattle.row_rules.proofs.Changed.{length-changed, changed-fit}
-use Rattle.places.specs.Place.{partRow}
-use Rattle.places.proofs.Filled.{overwrite-in}
+use Rattle.place_rules.specs.Helpers.{partRow}
+use Rattle.lists.proofs.Entries.{overwrite-in}
 use Rattle.adder_rules.specs.Sum.{inputOf, digitCount, rowIndex, rowAllowed, rowPart, digitCheck}
 use Rattle.adder_rules.proofs.Rows.{part-inputs, part-same}
 use Rattle.adder_rules.proofs.Part.{check-refused, check-kept, part-found, part-room}

@@ -10,7 +10,7 @@ use lib.Dec.{eqb}
 use borrow.Author.Tests.{eq-eqb, ne-eqb}
 use Rattle.lists.specs.Overwrite.{overwrite}
 use Rattle.lists.proofs.Overwrite.{overwrite-step}
-use Rattle.places.proofs.Filled.{overwrite-behind}
+use Rattle.lists.proofs.Entries.{overwrite-behind}
 use Rattle.adder_rules.proofs.Part.{written-first}
 use Rattle.edit_rules.specs.Count.{differing}
 use Rattle.edit_rules.proofs.Count.{failing-on, failing-here, failing-out}

@@ -15,8 +15,9 @@ use Rattle.numeration.specs.Code.{lower, Lower, precedes, Begins}
 use Rattle.numeration.proofs.Agreement.{lower-sound, lower-complete}
 use Rattle.radix.specs.Number.{number, aligned, Digits}
 use Rattle.radix.proofs.Order.{aligned-eight, unit-some, aligned-lower, lower-aligned}
-use Rattle.leaves.specs.Leaf.{wordStart, wordLength, codeOf}
-use Rattle.leaves.specs.Window.{digits, above}
+use Rattle.leaf_rules.specs.Leaf.{wordStart, wordLength, codeOf}
+use Rattle.leaf_rules.specs.Window.{digits}
+use Rattle.leaves.specs.Search.{above}
 
 -- two strings whose first difference was found
 module _ (v w : ℕ → ℕ) (n i : ℕ) (first : i ≡ firstFailing (λ i. eqb (v i) (w i)) 0 n) where

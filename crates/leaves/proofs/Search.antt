@@ -9,7 +9,8 @@ use Rattle.lists.proofs.Test.{clash}
 use Rattle.numeration.specs.Code.{Code, Lower, Precedes, Begins}
 use Rattle.numeration.proofs.Agreement.{lower-sound, lower-complete}
 use Rattle.numeration.proofs.Leaves.{precedes-all, ordered-separate, leafOf-unique}
-use Rattle.leaves.specs.Window.{digits, above, nextLow, Sorted, Between, LookedUp}
+use Rattle.leaf_rules.specs.Window.{digits, Sorted, LookedUp}
+use Rattle.leaves.specs.Search.{above, nextLow, Between}
 
 module _ {A : Type 0} (c : Code A) (window : List ℕ) where
   -- a leaf k that begins the window, beside any other

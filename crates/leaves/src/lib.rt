@@ -8,8 +8,9 @@ ghost use lib.Dec.{eqb};
 ghost use Rattle.lists.specs.Scan.{firstFailing};
 ghost use Rattle.ring.specs.Element.{Within};
 ghost use Rattle.numeration.specs.Code as code;
-ghost use Rattle.leaves.specs.Leaf.{leafCount, wordStart, wordLength, codeOf, wordGiven, weightGiven};
-ghost use Rattle.leaves.specs.Window as windows;
+ghost use Rattle.leaf_rules.specs.Leaf.{leafCount, wordStart, wordLength, codeOf, wordGiven, weightGiven};
+ghost use Rattle.leaf_rules.specs.Window as windows;
+ghost use Rattle.leaves.specs.Search as searches;
 
 // The bytes of a leaf: offset and length of its word, then its weight.
 const LEAF: usize = 8;
@@ -143,7 +144,7 @@ fn is_inside(words: &[u8], start: usize, length: usize) -> bool
 // Whether a leaf's word is above the window at the first place where they differ.
 fn above(leaves: &[u8], words: &[u8], window: &[u8; 8], leaf: usize) -> bool
     requires { ⌜ leaf < leafCount (now leaves) ⌝ }
-    ensures { λ r. ⌜ r ≡ windows.above (codeOf (now (leaves .entry)) (now (words .entry))) (now (window .entry)) leaf ⌝ }
+    ensures { λ r. ⌜ r ≡ searches.above (codeOf (now (leaves .entry)) (now (words .entry))) (now (window .entry)) leaf ⌝ }
 {
     let start = word_start(leaves, leaf);
     let length = word_length(leaves, leaf);
@@ -156,7 +157,7 @@ fn above(leaves: &[u8], words: &[u8], window: &[u8; 8], leaf: usize) -> bool
 // Where the search goes on: in the lower half, or in the upper one. One number is chosen, without a jump that could be guessed wrong.
 fn next_low(leaves: &[u8], words: &[u8], window: &[u8; 8], low: usize, half: usize) -> usize
     requires { ⌜ low + half < leafCount (now leaves) ⌝ }
-    ensures { λ r. ⌜ r ≡ windows.nextLow (codeOf (now (leaves .entry)) (now (words .entry))) (now (window .entry)) low half ⌝ }
+    ensures { λ r. ⌜ r ≡ searches.nextLow (codeOf (now (leaves .entry)) (now (words .entry))) (now (window .entry)) low half ⌝ }
 {
     if above(leaves, words, window, low + half) {
         low
@@ -167,7 +168,7 @@ fn next_low(leaves: &[u8], words: &[u8], window: &[u8; 8], low: usize, half: usi
 
 // The number of the leaf whose word begins the window, by binary search of the ordered words, in a part that has it.
 fn search_part(leaves: &[u8], words: &[u8], window: &[u8; 8], from: usize, count: usize) -> usize
-    requires { ⌜ windows.Between (codeOf (now leaves) (now words)) (now window) from (from + count) ⌝ }
+    requires { ⌜ searches.Between (codeOf (now leaves) (now words)) (now window) from (from + count) ⌝ }
     ensures { λ r. ⌜ windows.LookedUp (codeOf (now (leaves .entry)) (now (words .entry))) (now (window .entry)) r ⌝ }
 {
     let mut low = from;
@@ -189,7 +190,7 @@ pub fn look_up(leaves: &[u8], words: &[u8], window: [u8; 8]) -> usize
 
 // Whether the leaf that begins the window must be among those from low up to high.
 fn is_between(leaves: &[u8], words: &[u8], window: &[u8; 8], low: usize, high: usize) -> bool
-    ensures { λ r. ⌜ (r ≡ true → windows.Between (codeOf (now (leaves .entry)) (now (words .entry))) (now (window .entry)) low high) ⌝ }
+    ensures { λ r. ⌜ (r ≡ true → searches.Between (codeOf (now (leaves .entry)) (now (words .entry))) (now (window .entry)) low high) ⌝ }
 {
     let count = leaf_count(leaves);
     if high <= low {

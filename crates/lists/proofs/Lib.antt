@@ -4,3 +4,4 @@ pub mod Span
 pub mod Overwrite
 pub mod Scan
 pub mod Test
+pub mod Entries

@@ -4,7 +4,7 @@ ghost use lib.ListN.{getD};
 ghost use Rattle.ring.specs.Element.{plus, Within};
 ghost use Rattle.ring.specs.Matrix.{RowsWithin};
 ghost use Rattle.digit_rules.specs.Record.{elementCount};
-ghost use Rattle.leaves.specs.Leaf.{wordGiven, weightGiven};
+ghost use Rattle.leaf_rules.specs.Leaf.{wordGiven, weightGiven};
 ghost use mathlib.Core.Bool.{true};
 ghost use Rattle.pair_digits.specs.Slots.{Slotted};
 ghost use Rattle.table_rules.specs.Pairs.{inAlphabet, upperPart};

@@ -18,7 +18,7 @@ use Rattle.word_numbers.proofs.Shift.{shifted, eight-bits}
 use Rattle.numeration.specs.Code.{Agree, Lower}
 use Rattle.numeration.specs.Pairs.{tail, Fits}
 use Rattle.numeration.proofs.Leaves.{precedes-all}
-use Rattle.leaves.specs.Leaf.{leafCount, wordLength, codeOf}
+use Rattle.leaf_rules.specs.Leaf.{leafCount, wordLength, codeOf}
 use Rattle.prefix_rules.specs.Formed.{Formed}
 use Rattle.pair_sets.specs.Runs.{Ready, wordNumber, Keyed, InRun}
 use Rattle.weight_sets.specs.Bits.{Has}

@@ -15,7 +15,7 @@ use Rattle.numeration.specs.Elements.{elements}
 use Rattle.numeration.specs.Pairs.{fits, Fits, pairPasses}
 use Rattle.numeration.proofs.Agreement.{agree-sound, agree-complete}
 use Rattle.numeration.proofs.Runs.{unfit-passes}
-use Rattle.leaves.specs.Leaf.{leafCount, codeOf}
+use Rattle.leaf_rules.specs.Leaf.{leafCount, codeOf}
 use Rattle.prefix_rules.specs.Formed.{Formed}
 use Rattle.table_rules.specs.Pairs.{inAlphabet, upperPart}
 use Rattle.table_rules.proofs.Fitting.{pair-is}

@@ -11,7 +11,7 @@ use Rattle.layout_rules.specs.Section.{degree}
 use Rattle.numeration.specs.Code.{Precedes}
 use Rattle.numeration.specs.Elements.{elements}
 use Rattle.numeration.specs.Pairs.{pairPasses}
-use Rattle.leaves.specs.Leaf.{leafCount, wordLength, wordEnd, codeOf}
+use Rattle.leaf_rules.specs.Leaf.{leafCount, wordLength, wordEnd, codeOf}
 use Rattle.table_rules.specs.Pairs.{inAlphabet}
 use Rattle.weight_sets.specs.Bits.{Has}
 

@@ -8,7 +8,7 @@ ghost use Rattle.ring.specs.Matrix.{RowsWithin};
 ghost use Rattle.digit_rules.specs.Base.{BasePart, baseMatrix};
 ghost use Rattle.digit_rules.specs.Record.{elementCount};
 ghost use Rattle.numeration.specs.Pairs.{Fits};
-ghost use Rattle.leaves.specs.Leaf.{leafCount, codeOf, wordLength};
+ghost use Rattle.leaf_rules.specs.Leaf.{leafCount, codeOf, wordLength};
 ghost use Rattle.prefix_rules.specs.Check.{leafCheck};
 ghost use Rattle.weight_sets.specs.Bits.{Has};
 ghost use Rattle.pair_sets.specs.Runs.{Ready, Keyed, InRun, AllPass};

@@ -8,7 +8,7 @@ use Rattle.lists.proofs.Scan.{every-complete}
 use Rattle.faults.specs.Check.{none}
 use Rattle.digit_rules.specs.Base.{baseMatrix}
 use Rattle.numeration.specs.Pairs.{upperPasses}
-use Rattle.leaves.specs.Leaf.{leafCount}
+use Rattle.leaf_rules.specs.Leaf.{leafCount}
 use Rattle.table_rules.specs.Pairs.{pairCheck}
 use Rattle.table_rules.proofs.Bad.{UppersPass, pair-none, pairs-kept}
 use Rattle.pair_sets.specs.Runs.{AllPass}

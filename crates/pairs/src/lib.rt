@@ -8,7 +8,7 @@ ghost use Rattle.digit_rules.specs.Record.{recordAt, elementCount};
 ghost use Rattle.numeration.specs.Code.{agree};
 ghost use Rattle.numeration.specs.Elements.{elements};
 ghost use Rattle.numeration.specs.Pairs.{pairPasses};
-ghost use Rattle.leaves.specs.Leaf.{leafCount, codeOf};
+ghost use Rattle.leaf_rules.specs.Leaf.{leafCount, codeOf};
 ghost use Rattle.prefix_rules.specs.Check.{leafCheck};
 ghost use mathlib.Core.Bool.{true};
 ghost use Rattle.pair_digits.specs.Slots.{Slotted};

@@ -1,5 +1,3 @@
-pub mod Filled
 pub mod Known
-pub mod Place
 pub mod Loop
 pub mod Tried

@@ -16,10 +16,10 @@ use Rattle.ring.specs.Element.{Within}
 use Rattle.digit_rules.specs.Record.{elementCount}
 use Rattle.numeration.specs.Group.{Operations}
 use Rattle.numeration.specs.Conversion.{weightInto}
-use Rattle.leaves.specs.Leaf.{codeOf}
-use Rattle.places.specs.Place.{indexAt, digitAllowed}
-use Rattle.places.proofs.Filled.{first-written}
-use Rattle.places.proofs.Place.{index-in, index-out}
+use Rattle.leaf_rules.specs.Leaf.{codeOf}
+use Rattle.place_rules.specs.Place.{indexAt, digitAllowed}
+use Rattle.lists.proofs.Entries.{first-written}
+use Rattle.place_rules.proofs.Place.{index-in, index-out}
 
 module _ (o : Operations (List ℤ)) (alphabet inputs leaves words row : List ℕ) (from count : ℕ) (entry : List ℕ) where
   abbrev pub allowed : ℕ → Bool

@@ -16,10 +16,12 @@ use Rattle.digit_rules.proofs.Index.{index-is, index-first}
 use Rattle.numeration.specs.Code.{Begins}
 use Rattle.numeration.specs.Conversion.{window, weightInto}
 use Rattle.numeration.proofs.Leaves.{ordered-separate, leafOf-unique}
-use Rattle.leaves.specs.Leaf.{leafCount, codeOf, weightGiven}
-use Rattle.leaves.proofs.Leaf.{weight-there}
-use Rattle.places.specs.Place.{alphabetIndex, Begun, Firsts}
-use Rattle.places.proofs.Filled.{zeros-at}
+use Rattle.leaf_rules.specs.Leaf.{leafCount, codeOf, weightGiven}
+use Rattle.leaf_rules.proofs.Leaf.{weight-there}
+use Rattle.place_rules.specs.Place.{alphabetIndex}
+use Rattle.place_rules.specs.Helpers.{Begun}
+use Rattle.places.specs.Helpers.{Firsts}
+use Rattle.lists.proofs.Entries.{zeros-at}
 
 -- the first digit of the window below the next place
 pub window-first : (row : List ℕ) (j : ℕ) → getD row j 0 ≡ window row (j + 1) 0

@@ -13,9 +13,11 @@ ghost use Rattle.digit_rules.specs.Record.{recordAt, elementCount};
 ghost use Rattle.numeration.specs.Code.{Inputs, Begins};
 ghost use Rattle.numeration.specs.Conversion.{window, outDigit, weightInto};
 ghost use Rattle.numeration.specs.Elements.{elements};
-ghost use Rattle.leaves.specs.Leaf.{leafCount, codeOf, weightGiven};
+ghost use Rattle.leaf_rules.specs.Leaf.{leafCount, codeOf, weightGiven};
 ghost use Rattle.row_rules.specs.Changed.{changed};
-ghost use Rattle.places.specs.Place.{inputAt, Known, partRow, alphabetIndex, indexAt, digitAllowed, Begun, Firsts};
+ghost use Rattle.place_rules.specs.Place.{inputAt, alphabetIndex, indexAt, digitAllowed};
+ghost use Rattle.place_rules.specs.Helpers.{partRow, Begun};
+ghost use Rattle.places.specs.Helpers.{Known, Firsts};
 use row_rules::Change;
 
 // The slots that leaves are kept in by the windows they begin, and one more than the first digits of windows.

@@ -14,7 +14,7 @@ use Rattle.faults.specs.declared.Refusal.{Refusal}
 use Rattle.faults.proofs.Check.{judge-kept, once-kept, then-next}
 use lib.IntN.{ℤ}
 use Rattle.numeration.specs.Code.{Code, Precedes}
-use Rattle.leaves.specs.Leaf.{leafCount, wordStart, wordLength, wordEnd, codeOf}
+use Rattle.leaf_rules.specs.Leaf.{leafCount, wordStart, wordLength, wordEnd, codeOf}
 use Rattle.prefix_rules.specs.Coverage.{covered}
 use Rattle.prefix_rules.specs.Check.{expectedStart, leafAllowed, placeCheck, indexAllowed, indexCheck, orderAllowed, orderCheck, coverCheck, zeroCheck, leafCheck}
 use Rattle.radix.specs.Number.{number, aligned}

@@ -2,7 +2,7 @@
 use mathlib.Core.Path.{_≡_}
 use mathlib.Core.List.{List}
 use Prim.Native.Nat.{ℕ, _<_}
-use Rattle.leaves.specs.Leaf.{leafCount}
+use Rattle.leaf_rules.specs.Leaf.{leafCount}
 use Rattle.prefix_rules.specs.Check.{placeCheck, indexCheck, orderCheck, coverCheck}
 
 pub record CodeKept (leaves words : List ℕ) (m : ℕ) : Type 0 where

@@ -4,7 +4,7 @@ ghost use mathlib.Core.Path.{_≡_};
 ghost use Prim.Native.Nat.{ℕ, _+_, _-_, _≤_, _<_};
 ghost use mathlib.Core.Bool.{true};
 ghost use lib.ListN.{length, getD};
-ghost use Rattle.leaves.specs.Leaf.{leafCount, codeOf};
+ghost use Rattle.leaf_rules.specs.Leaf.{leafCount, codeOf};
 ghost use Rattle.prefix_rules.specs.Check.{leafAllowed, leafCheck};
 ghost use Rattle.prefix_code.specs.Numbers.{Numbered};
 ghost use Rattle.prefix_code.specs.Kept.{CodeKept};

@@ -20,7 +20,7 @@ use Rattle.ring.proofs.Element.{same-refl, same→≡}
 use Rattle.layout_rules.specs.Section.{degree}
 use Rattle.numeration.specs.Code.{Code, Below, Inputs, Precedes, HasLeaf}
 use Rattle.numeration.proofs.Leaves.{precedes-sound, precedes-complete, getD-inputs}
-use Rattle.leaves.specs.Leaf.{leafCount, wordLength, weightOf, codeOf}
+use Rattle.leaf_rules.specs.Leaf.{leafCount, wordLength, weightOf, codeOf}
 use Rattle.prefix_rules.specs.Coverage.{covered}
 use Rattle.prefix_rules.specs.Check.{leafAllowed, placeCheck, indexAllowed, indexCheck, orderAllowed, orderCheck, coverCheck, zeroCheck, leafCheck}
 use Rattle.prefix_rules.specs.Broken.{Broken9, Broken10, Broken11, Broken12, Broken13, leafRules}

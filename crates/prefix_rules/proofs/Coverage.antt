@@ -13,7 +13,7 @@ use borrow.Author.Tests.{lt-ltb, le-ltb, le-leb, lt-leb}
 use Rattle.lists.proofs.Scan.{left, scan-low, scan-high}
 use Rattle.lists.proofs.Test.{clash}
 use Rattle.numeration.specs.Code.{Code}
-use Rattle.leaves.specs.Leaf.{wordStart, codeOf}
+use Rattle.leaf_rules.specs.Leaf.{wordStart, codeOf}
 use Rattle.prefix_rules.specs.Coverage.{runEnd, everyRun, covered}
 
 -- a digit of a word by its place as it was read

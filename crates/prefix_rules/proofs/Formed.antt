@@ -11,9 +11,9 @@ use Rattle.faults.proofs.Check.{then-kept, judge-passed}
 use Rattle.ring.proofs.Element.{same→≡}
 use Rattle.numeration.specs.Code.{Code, Agree, Inputs, Precedes, Separate, HasLeaf, OrderedCode, PrefixCode, leafOf, depth}
 use Rattle.numeration.proofs.Leaves.{ordered-separate, leafOf-unique, leafOf-ext, size-depth, depth-reached, prefix-code, getD-inputs}
-use Rattle.leaves.specs.Leaf.{leafCount, wordStart, wordLength, codeOf}
+use Rattle.leaf_rules.specs.Leaf.{leafCount, wordStart, wordLength, codeOf}
 use Rattle.prefix_rules.specs.Check.{leafAllowed, placeCheck, indexAllowed, indexCheck, orderAllowed, orderCheck, coverCheck, zeroCheck, leafCheck}
-use Rattle.leaves.specs.Window.{digits, LookedUp}
+use Rattle.leaf_rules.specs.Window.{digits, LookedUp}
 use Rattle.prefix_rules.specs.Broken.{Broken12}
 use Rattle.prefix_rules.specs.Formed.{OneLeaf, Formed}
 use Rattle.prefix_rules.proofs.Place.{Placed, leaf-says, leaf-refuted, follows-expected}

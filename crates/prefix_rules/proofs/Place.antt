@@ -9,7 +9,7 @@ use lib.ListN.{length}
 use lib.Dec.{leb, ltb, eqb}
 use borrow.Author.Tests.{lt-ltb, le-ltb, le-leb, lt-leb, eq-eqb, ne-eqb, ltb-true, ltb-false, leb-true, leb-false, eqb-true, eqb-false}
 use Rattle.lists.proofs.Test.{both, either, not-both, neither}
-use Rattle.leaves.specs.Leaf.{leafCount, wordStart, wordLength, wordEnd}
+use Rattle.leaf_rules.specs.Leaf.{leafCount, wordStart, wordLength, wordEnd}
 use Rattle.prefix_rules.specs.Check.{expectedStart, leafAllowed}
 use Rattle.prefix_rules.specs.Broken.{Follows, Broken9}
 

@@ -5,7 +5,7 @@ use Prim.Native.Nat.{ℕ, _<_}
 use native.Mathlib.Omega.{arith}
 use Rattle.faults.specs.declared.Refusal.{Refusal}
 use Rattle.faults.proofs.Check.{judge-passed}
-use Rattle.leaves.specs.Leaf.{leafCount}
+use Rattle.leaf_rules.specs.Leaf.{leafCount}
 use Rattle.prefix_rules.specs.Check.{coverCheck}
 use Rattle.prefix_rules.proofs.Coverage.{covered-some}
 

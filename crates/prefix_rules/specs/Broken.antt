@@ -8,7 +8,7 @@ use Rattle.faults.specs.Rule.{Rule, rule}
 use Rattle.ring.specs.Element.{zeros}
 use Rattle.layout_rules.specs.Section.{degree}
 use Rattle.numeration.specs.Code.{Inputs, Precedes, HasLeaf}
-use Rattle.leaves.specs.Leaf.{leafCount, wordStart, wordLength, wordEnd, weightOf, codeOf}
+use Rattle.leaf_rules.specs.Leaf.{leafCount, wordStart, wordLength, wordEnd, weightOf, codeOf}
 
 -- its offset is the previous end, 0 for the first
 abbrev pub Follows : List ℕ → ℕ → Type 0

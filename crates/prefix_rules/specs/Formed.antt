@@ -6,7 +6,7 @@ use lib.ListN.{length, getD}
 use Rattle.ring.specs.Element.{zeros}
 use Rattle.layout_rules.specs.Section.{degree}
 use Rattle.numeration.specs.Code.{Code, Inputs, Begins, Precedes, Separate}
-use Rattle.leaves.specs.Leaf.{leafCount, wordLength, wordEnd, weightOf, codeOf}
+use Rattle.leaf_rules.specs.Leaf.{leafCount, wordLength, wordEnd, weightOf, codeOf}
 use Rattle.prefix_rules.specs.Broken.{Follows}
 
 -- exactly one leaf begins a string

@@ -4,7 +4,7 @@ ghost use Prim.Native.Nat.{_+_, _-_, _≤_, _<_};
 ghost use mathlib.Core.Bool.{true};
 ghost use lib.ListN.{length};
 ghost use Rattle.numeration.specs.Code as code;
-ghost use Rattle.leaves.specs.Leaf.{leafCount, codeOf};
+ghost use Rattle.leaf_rules.specs.Leaf.{leafCount, codeOf};
 ghost use Rattle.prefix_rules.specs.Coverage as coverage;
 ghost use Rattle.prefix_rules.specs.Check.{expectedStart, leafAllowed, placeCheck, indexCheck, orderCheck, coverCheck, zeroCheck, leafCheck};
 use faults::Refusal;

@@ -8,7 +8,7 @@ use Rattle.layout_rules.specs.Broken.{Follows, Allowed}
 use Rattle.ring.specs.Element.{Within}
 use Rattle.digit_rules.specs.Record.{RecordsWithin, elementCount}
 use Rattle.digit_rules.specs.Formed.{Formed as DigitsFormed}
-use Rattle.leaves.specs.Leaf.{leafCount, weightOf}
+use Rattle.leaf_rules.specs.Leaf.{leafCount, weightOf}
 use Rattle.prefix_rules.specs.Formed.{Formed as LeavesFormed}
 use Rattle.reader_rules.specs.Table.{basePart, alphabetPart, inputPart, leafPart, wordPart}
 

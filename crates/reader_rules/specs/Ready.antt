@@ -13,8 +13,8 @@ use Rattle.numeration.specs.Elements.{elements, HasParts}
 use Rattle.numeration.specs.Code.{Code, Agree, Inputs, OrderedCode, PrefixCode, leafOf}
 use Rattle.numeration.specs.Conversion.{InGroup}
 use Rattle.numeration.specs.Value.{value}
-use Rattle.leaves.specs.Leaf.{leafCount, wordLength, weightOf, codeOf}
-use Rattle.leaves.specs.Window.{digits, LookedUp}
+use Rattle.leaf_rules.specs.Leaf.{leafCount, wordLength, weightOf, codeOf}
+use Rattle.leaf_rules.specs.Window.{digits, LookedUp}
 use Rattle.reader_rules.specs.declared.Part.{Part}
 use Rattle.reader_rules.specs.Table.{basePart, alphabetPart, inputPart, leafPart, wordPart, tableFacts}
 

@@ -12,7 +12,7 @@ use Rattle.layout_rules.specs.Limit.{limitCheck}
 use Rattle.digit_rules.specs.Record.{elementCount}
 use Rattle.digit_rules.specs.Digits.{digitCheck}
 use Rattle.numeration.specs.Code.{depth}
-use Rattle.leaves.specs.Leaf.{codeOf}
+use Rattle.leaf_rules.specs.Leaf.{codeOf}
 use Rattle.prefix_rules.specs.Check.{leafCheck}
 use Rattle.reader_rules.specs.declared.Part.{Part}
 use Rattle.reader_rules.specs.declared.Table.{Table}

@@ -24,7 +24,7 @@ use Rattle.digit_rules.proofs.Index.{index-is, index-first}
 use Rattle.numeration.specs.Pairs.{fits, Fits, pairDigit, pairPasses, upperPasses, PairsConvert, RowsConvert}
 use Rattle.numeration.proofs.Agreement.{agree-sound, agree-complete}
 use Rattle.numeration.proofs.Pairs.{pairs-rows}
-use Rattle.leaves.specs.Leaf.{leafCount, codeOf}
+use Rattle.leaf_rules.specs.Leaf.{leafCount, codeOf}
 use Rattle.reader_rules.specs.Table.{basePart, alphabetPart, inputPart, leafPart, wordPart, tableCheck}
 use Rattle.reader_rules.specs.Formed.{WellFormed}
 use Rattle.reader_rules.proofs.Broken.{table-decided}

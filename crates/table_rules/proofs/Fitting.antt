@@ -27,10 +27,10 @@ use Rattle.numeration.specs.Pairs.{tail, fits, Fits, pairDigit, pairPasses}
 use Rattle.numeration.specs.Runs.{tailThenZeros, lowestFit}
 use Rattle.numeration.proofs.Agreement.{agree-sound, agree-complete}
 use Rattle.numeration.proofs.Runs.{run-first, run-below, run-on, unfit-passes, in-tail, behind-tail, string-inputs}
-use Rattle.leaves.specs.Leaf.{leafCount, wordLength, weightOf, codeOf, wordGiven, weightGiven}
+use Rattle.leaf_rules.specs.Leaf.{leafCount, wordLength, weightOf, codeOf, wordGiven, weightGiven}
 use Rattle.prefix_rules.specs.Formed.{Formed}
-use Rattle.leaves.specs.Window.{digits, LookedUp}
-use Rattle.leaves.proofs.Leaf.{word-length, word-digit, weight-there}
+use Rattle.leaf_rules.specs.Window.{digits, LookedUp}
+use Rattle.leaf_rules.proofs.Leaf.{word-length, word-digit, weight-there}
 use Rattle.prefix_rules.proofs.Formed.{complete-prefix-code, look-up-is}
 use Rattle.table_rules.specs.Pairs.{upperPart}
 

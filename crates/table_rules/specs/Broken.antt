@@ -5,7 +5,7 @@ use Rattle.faults.specs.Rule.{Rule, rule}
 use Rattle.digit_rules.specs.Record.{recordAt, elementCount}
 use Rattle.digit_rules.specs.Broken.{Listed}
 use Rattle.numeration.specs.Pairs.{Fits, pairDigit, RowsConvert}
-use Rattle.leaves.specs.Leaf.{leafCount, codeOf}
+use Rattle.leaf_rules.specs.Leaf.{leafCount, codeOf}
 use Rattle.reader_rules.specs.Table.{basePart, alphabetPart, inputPart, leafPart, wordPart}
 use Rattle.reader_rules.specs.Broken.{tableRules}
 use Rattle.table_rules.specs.Pairs.{system}

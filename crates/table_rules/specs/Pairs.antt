@@ -17,7 +17,7 @@ use Rattle.digit_rules.specs.Base.{baseMatrix}
 use Rattle.numeration.specs.Group.{Operations}
 use Rattle.numeration.specs.Elements.{elements}
 use Rattle.numeration.specs.Pairs.{pairPasses, upperPasses}
-use Rattle.leaves.specs.Leaf.{leafCount, codeOf, wordGiven, weightGiven}
+use Rattle.leaf_rules.specs.Leaf.{leafCount, codeOf, wordGiven, weightGiven}
 use Rattle.table_rules.specs.declared.Pair.{Pair}
 
 -- the ring's elements with multiplication by the base

@@ -14,7 +14,7 @@ use lib.Bits.{bitOr}
 use Rattle.ring.specs.Element.{plus, minus}
 use Rattle.ring.specs.Matrix.{times}
 use Rattle.digit_rules.specs.Record.{recordAt}
-use Rattle.leaves.specs.Leaf.{weightGiven}
+use Rattle.leaf_rules.specs.Leaf.{weightGiven}
 use Rattle.table_rules.specs.Pairs.{inAlphabet}
 use Rattle.weight_sets.specs.Bits.{Has}
 use Rattle.weight_sets.specs.Weights.{Numbered, Covers, Good, Judged}

@@ -7,7 +7,7 @@ ghost use lib.ListN.{length, getD};
 ghost use Rattle.ring.specs.Element.{Within};
 ghost use Rattle.ring.specs.Matrix.{RowsWithin};
 ghost use Rattle.digit_rules.specs.Record.{elementCount};
-ghost use Rattle.leaves.specs.Leaf.{leafCount, wordGiven, weightGiven};
+ghost use Rattle.leaf_rules.specs.Leaf.{leafCount, wordGiven, weightGiven};
 ghost use Rattle.table_rules.specs.Pairs.{upperPart};
 ghost use Rattle.pair_digits.specs.Slots.{Slotted};
 ghost use Rattle.weight_sets.specs.Bits.{Has};

@@ -9,7 +9,7 @@ use Rattle.lists.specs.Span.{span}
 use Rattle.layout_rules.specs.Section.{degree}
 use Rattle.numeration.specs.Elements.{elements}
 use Rattle.digit_rules.specs.Base.{BasePart, baseMatrix}
-use Rattle.places.specs.Place.{indexAt, digitAllowed}
+use Rattle.place_rules.specs.Place.{indexAt, digitAllowed}
 use Rattle.adder_rules.specs.Sum.{rowPart}
 use Rattle.reader_rules.proofs.Ready.{ready-passed}
 use Rattle.adder_rules.proofs.Table.{directory-kept, few-digits, few-inputs, base-small, inputs-in, windows-begun}

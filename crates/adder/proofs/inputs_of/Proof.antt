@@ -3,7 +3,8 @@ use mathlib.Core.Path.{_∙_}
 use native.Mathlib.Omega.{arith}
 use lib.Dec.{lit<}
 use Rattle.row_rules.specs.Changed.{changed}
-use Rattle.places.specs.Place.{inputAt, partRow}
+use Rattle.place_rules.specs.Place.{inputAt}
+use Rattle.place_rules.specs.Helpers.{partRow}
 use Rattle.adder_rules.proofs.Table.{directory-kept, digits-counted, few-digits, few-inputs}
 use Rattle.adder.proofs.inputs_of.Statement.{statement}
 use Rattle.adder.proofs.inputs_of.Tie as tie

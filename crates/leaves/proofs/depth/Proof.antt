@@ -4,8 +4,8 @@ use Prim.Native.Nat.{_≤_, _-_}
 use native.Mathlib.Omega.{arith}
 use borrow.Author.Needs.{needs}
 use Rattle.numeration.specs.Code.{largest}
-use Rattle.leaves.specs.Leaf.{wordLength}
-use Rattle.leaves.proofs.Leaf.{largest-next, depth-end}
+use Rattle.leaf_rules.specs.Leaf.{wordLength}
+use Rattle.leaf_rules.proofs.Leaf.{largest-next, depth-end}
 use Rattle.leaves.proofs.depth.Statement.{statement}
 use Rattle.leaves.proofs.depth.Tie as tie
 

@@ -1,5 +1,5 @@
 use Rattle.leaves.proofs.Search.{between-tried}
-use Rattle.leaves.specs.Leaf.{codeOf}
+use Rattle.leaf_rules.specs.Leaf.{codeOf}
 use Rattle.lists.proofs.Test.{clash}
 use native.Mathlib.Omega.{arith}
 use mathlib.Core.Path.{refl, sym, _∙_}

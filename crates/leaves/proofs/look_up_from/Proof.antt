@@ -1,5 +1,5 @@
 use Rattle.leaves.proofs.Search.{begins-looked-up}
-use Rattle.leaves.specs.Leaf.{codeOf}
+use Rattle.leaf_rules.specs.Leaf.{codeOf}
 use native.Mathlib.Omega.{arith}
 use borrow.Author.Needs.{needs}
 use Rattle.leaves.proofs.look_up_from.Statement.{statement}

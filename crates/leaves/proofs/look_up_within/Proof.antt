@@ -1,5 +1,5 @@
-use Rattle.leaves.specs.Window.{Between}
-use Rattle.leaves.specs.Leaf.{codeOf}
+use Rattle.leaves.specs.Search.{Between}
+use Rattle.leaf_rules.specs.Leaf.{codeOf}
 use native.Mathlib.Omega.{arith}
 use Prim.Native.Nat.{_+_, _-_}
 use mathlib.Core.Path.{_≡_, subst}

@@ -1,5 +1,5 @@
 use Rattle.leaves.proofs.Search.{next-lower, next-upper}
-use Rattle.leaves.specs.Leaf.{codeOf}
+use Rattle.leaf_rules.specs.Leaf.{codeOf}
 use mathlib.Core.Path.{sym, _∙_}
 use borrow.Author.Needs.{needs}
 use Rattle.leaves.proofs.next_low.Statement.{statement}

@@ -1,6 +1,6 @@
 use Rattle.leaves.proofs.Search.{between-next, between-one}
-use Rattle.leaves.specs.Window.{Between}
-use Rattle.leaves.specs.Leaf.{codeOf}
+use Rattle.leaves.specs.Search.{Between}
+use Rattle.leaf_rules.specs.Leaf.{codeOf}
 use native.Mathlib.Omega.{arith}
 use Prim.Native.Nat.{_+_}
 use Rattle.leaves.proofs.search_part.Statement.{statement}

@@ -2,7 +2,7 @@ use mathlib.Core.Path.{_∙_}
 use native.Mathlib.Omega.{arith}
 use borrow.Author.Needs.{needs}
 use Rattle.ring.proofs.Parts.{within-two}
-use Rattle.leaves.proofs.Leaf.{weight-there, weight-missing}
+use Rattle.leaf_rules.proofs.Leaf.{weight-there, weight-missing}
 use Rattle.leaves.proofs.weight.Statement.{statement}
 use Rattle.leaves.proofs.weight.Tie as tie
 

@@ -1,6 +1,6 @@
 use native.Mathlib.Omega.{arith}
 use borrow.Author.Needs.{needs}
-use Rattle.leaves.proofs.Leaf.{word-missing, word-outside, word-read}
+use Rattle.leaf_rules.proofs.Leaf.{word-missing, word-outside, word-read}
 use Rattle.leaves.proofs.word.Statement.{statement}
 use Rattle.leaves.proofs.word.Tie as tie
 

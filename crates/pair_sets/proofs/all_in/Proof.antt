@@ -1,4 +1,4 @@
-use Rattle.leaves.specs.Leaf.{weightGiven}
+use Rattle.leaf_rules.specs.Leaf.{weightGiven}
 use borrow.Author.Tests.{not-false}
 use Rattle.digit_rules.specs.Record.{elementCount}
 use Rattle.weight_sets.proofs.Weights.{zeros-none}

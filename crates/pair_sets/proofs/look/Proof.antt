@@ -2,7 +2,7 @@ use Rattle.pair_sets.specs.Runs.{AllPass}
 use Rattle.pair_sets.proofs.Keys.{ready-words}
 use Rattle.pair_sets.specs.Runs.{AllPass}
 use Rattle.prefix_rules.proofs.Formed.{formed}
-use Rattle.leaves.specs.Leaf.{leafCount}
+use Rattle.leaf_rules.specs.Leaf.{leafCount}
 use Rattle.digit_rules.proofs.Base.{base-within}
 use Rattle.digit_rules.specs.Record.{elementCount}
 use Rattle.ring.specs.Matrix.{RowsWithin}

@@ -17,8 +17,8 @@ use Rattle.numeration.specs.Code.{agree}
 use Rattle.numeration.specs.Elements.{elements}
 use Rattle.numeration.specs.Pairs.{fits, pairPasses}
 use Rattle.numeration.specs.Runs.{lowestFit}
-use Rattle.leaves.specs.Leaf.{leafCount, codeOf, wordGiven, weightGiven}
-use Rattle.leaves.specs.Window.{LookedUp}
+use Rattle.leaf_rules.specs.Leaf.{leafCount, codeOf, wordGiven, weightGiven}
+use Rattle.leaf_rules.specs.Window.{LookedUp}
 use Rattle.prefix_rules.specs.Formed.{Formed}
 use Rattle.prefix_rules.proofs.Formed.{formed}
 use Rattle.table_rules.specs.Pairs.{inAlphabet, upperPart}

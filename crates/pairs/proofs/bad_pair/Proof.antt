@@ -12,7 +12,7 @@ use Rattle.digit_rules.specs.Record.{recordAt}
 use Rattle.digit_rules.proofs.Base.{base-within}
 use Rattle.numeration.specs.Elements.{elements}
 use Rattle.numeration.specs.Pairs.{pairPasses}
-use Rattle.leaves.specs.Leaf.{leafCount, codeOf}
+use Rattle.leaf_rules.specs.Leaf.{leafCount, codeOf}
 use Rattle.table_rules.specs.Pairs.{inAlphabet, badLower}
 use Rattle.table_rules.proofs.Bad.{UppersPass, upper-passes, pair-found, pair-none}
 use Rattle.pairs.proofs.bad_pair.Statement.{statement}

@@ -1,8 +1,9 @@
 -- Each turn writes the index of one digit and hands its weight on to the next place.
 use Rattle.places.proofs.Tried.{window-first, firsts-none}
-use Rattle.places.proofs.Place.{index-from}
+use Rattle.place_rules.proofs.Place.{index-from}
 use Rattle.places.proofs.Loop.{Converted, converted-start, converted-next, converted-here, converted-end}
-use Rattle.places.specs.Place.{indexAt, Firsts}
+use Rattle.place_rules.specs.Place.{indexAt}
+use Rattle.places.specs.Helpers.{Firsts}
 use Rattle.numeration.proofs.Leaves.{getD-inputs}
 use Rattle.numeration.specs.Elements.{elements}
 use Rattle.digit_rules.specs.Record.{elementCount}

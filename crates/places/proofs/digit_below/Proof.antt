@@ -1,6 +1,6 @@
 -- A place at or below k has no digit there.
 use mathlib.Core.Path.{_∙_}
-use Rattle.places.proofs.Place.{window-outside, window-inside}
+use Rattle.place_rules.proofs.Place.{window-outside, window-inside}
 use borrow.Author.Needs.{needs}
 use Rattle.places.proofs.digit_below.Statement.{statement}
 use Rattle.places.proofs.digit_below.Tie as tie

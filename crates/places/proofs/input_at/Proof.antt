@@ -1,6 +1,6 @@
 use Rattle.places.proofs.Known.{looked-for, stood-there}
-use Rattle.places.proofs.Place.{sum-index-high}
-use Rattle.places.specs.Place.{Known}
+use Rattle.place_rules.proofs.Place.{sum-index-high}
+use Rattle.places.specs.Helpers.{Known}
 use Rattle.digit_rules.specs.Digits.{sumIndex}
 use lib.ListN.{getD}
 use native.Mathlib.Omega.{arith}

@@ -1,6 +1,8 @@
-use Rattle.places.proofs.Filled.{row-start, row-next}
+use Rattle.place_rules.proofs.Part.{row-start, row-next}
 use Rattle.places.proofs.Known.{known-none}
-use Rattle.places.specs.Place.{inputAt, Known, partRow}
+use Rattle.place_rules.specs.Place.{inputAt}
+use Rattle.place_rules.specs.Helpers.{partRow}
+use Rattle.places.specs.Helpers.{Known}
 use Rattle.row_rules.specs.Changed.{changed}
 use native.Mathlib.Omega.{arith}
 use native.Mathlib.Nat.{le-antisymm}

@@ -1,7 +1,7 @@
 use Rattle.places.proofs.Tried.{weight-begun}
-use Rattle.places.proofs.Place.{weight-found}
-use Rattle.leaves.specs.Window.{LookedUp}
-use Rattle.leaves.specs.Leaf.{codeOf}
+use Rattle.place_rules.proofs.Place.{weight-found}
+use Rattle.leaf_rules.specs.Window.{LookedUp}
+use Rattle.leaf_rules.specs.Leaf.{codeOf}
 use mathlib.Core.Path.{subst}
 use native.Mathlib.Omega.{arith}
 use borrow.Author.Needs.{needs}

@@ -1,6 +1,6 @@
 use Prim.Native.Nat.{_^_}
 use mathlib.Core.Path.{sym, ap, subst, _∙_}
-use Rattle.places.specs.Place.{alphabetIndex}
+use Rattle.place_rules.specs.Place.{alphabetIndex}
 use Rattle.ring.specs.Element.{Within}
 use Rattle.numeration.specs.Elements.{elements}
 use Rattle.numeration.specs.Conversion.{outDigit}

@@ -1,8 +1,8 @@
 -- The look-up's leaf begins the window, so its weight is the weight into the place.
 use mathlib.Core.Path.{subst, _∙_}
-use Rattle.leaves.specs.Window.{LookedUp}
-use Rattle.leaves.specs.Leaf.{codeOf}
-use Rattle.places.proofs.Place.{weight-found}
+use Rattle.leaf_rules.specs.Window.{LookedUp}
+use Rattle.leaf_rules.specs.Leaf.{codeOf}
+use Rattle.place_rules.proofs.Place.{weight-found}
 use borrow.Author.Needs.{needs}
 use Rattle.places.proofs.weight_into.Statement.{statement}
 use Rattle.places.proofs.weight_into.Tie as tie

@@ -6,7 +6,7 @@ use borrow.Author.Tests.{not-true, not-false}
 use borrow.Author.Needs.{needs}
 use borrow.Fn.Kinds.{In}
 use borrow.Fn.PlainCycle.{Measures, is, falls, and}
-use Rattle.leaves.specs.Leaf.{codeOf}
+use Rattle.leaf_rules.specs.Leaf.{codeOf}
 use Rattle.prefix_rules.proofs.Coverage.{run-high, runs-on, runs-here, runs-out, covered-empty, covered-leaf, covered-last, covered-deeper}
 use Rattle.prefix_scan.proofs.+covered.{statement}
 use Rattle.prefix_scan.proofs.+covered.Tie.{close}

@@ -2,7 +2,7 @@ use mathlib.Core.Path.{sym, ap, _∙_}
 use borrow.Author.Needs.{needs}
 use Rattle.faults.proofs.Check.{once-kept, once-broken}
 use Rattle.prefix_rules.specs.Check.{coverCheck}
-use Rattle.leaves.specs.Leaf.{codeOf}
+use Rattle.leaf_rules.specs.Leaf.{codeOf}
 use Rattle.prefix_scan.proofs.cover.Statement.{statement}
 use Rattle.prefix_rules.specs.Coverage as spec
 use Rattle.prefix_scan.proofs.cover.Tie as tie

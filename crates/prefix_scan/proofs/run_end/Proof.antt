@@ -6,7 +6,7 @@ use borrow.Author.Needs.{needs}
 use Rattle.lists.proofs.Scan.{scan-on, scan-here, scan-out}
 use Rattle.lists.specs.Scan.{firstFailing}
 use Rattle.prefix_rules.specs.Coverage.{runEnd}
-use Rattle.leaves.specs.Leaf.{codeOf}
+use Rattle.leaf_rules.specs.Leaf.{codeOf}
 use Rattle.prefix_rules.proofs.Coverage.{digit-read}
 use Rattle.prefix_scan.proofs.run_end.Statement.{statement}
 use Rattle.prefix_scan.proofs.run_end.Tie as tie

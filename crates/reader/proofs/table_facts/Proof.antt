@@ -1,5 +1,5 @@
 use Rattle.reader_rules.specs.Table.{wordPart, tableFacts}
-use Rattle.leaves.specs.Leaf.{codeOf}
+use Rattle.leaf_rules.specs.Leaf.{codeOf}
 use Rattle.numeration.specs.Code.{depth}
 use mathlib.Core.Path.{_≡_, ap, _∙_}
 use Rattle.reader_rules.proofs.Kept.{layout-kept}

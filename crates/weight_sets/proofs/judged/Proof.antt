@@ -1,4 +1,4 @@
-use Rattle.leaves.specs.Leaf.{wordGiven}
+use Rattle.leaf_rules.specs.Leaf.{wordGiven}
 use Rattle.weight_sets.proofs.Weights.{judged-next}
 use Rattle.weight_sets.specs.Weights.{Good}
 use Rattle.digit_rules.specs.Record.{recordAt}

@@ -19,11 +19,12 @@ use Rattle.numeration.specs.Code.{Code, HasLeaf, leafOf}
 use Rattle.numeration.specs.Conversion.{window, outDigit, weightInto, weightAt, convert}
 use Rattle.numeration.proofs.Leaves.{leafOf-ext, depth-reached}
 use Rattle.numeration.proofs.Windows.{window-by-place}
-use Rattle.leaves.specs.Leaf.{codeOf, weightGiven}
-use Rattle.leaves.specs.Window.{digits, LookedUp}
-use Rattle.leaves.proofs.Leaf.{weight-there}
+use Rattle.leaf_rules.specs.Leaf.{codeOf, weightGiven}
+use Rattle.leaf_rules.specs.Window.{digits, LookedUp}
+use Rattle.leaf_rules.proofs.Leaf.{weight-there}
 use Rattle.table_rules.specs.Pairs.{inAlphabet}
-use Rattle.places.specs.Place.{alphabetIndex, indexAt, digitAllowed, Begun}
+use Rattle.place_rules.specs.Place.{alphabetIndex, indexAt, digitAllowed}
+use Rattle.place_rules.specs.Helpers.{Begun}
 
 -- a sum's index is at most the count of input digits
 pub sum-index-high : (alphabet inputs : List ℕ) (i j : ℕ) → sumIndex alphabet inputs i j ≤ elementCount inputs
