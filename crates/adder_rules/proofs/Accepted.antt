@@ -1,16 +1,15 @@
 -- With a table that the check accepts addition never says 27.
 use mathlib.Core.Path.{_≡_, refl, sym, _∙_}
 use mathlib.Core.List.{List}
-use mathlib.Core.Logic.{⊎-elim}
-use Prim.Native.Nat.{ℕ, _+_, _<_}
+use Prim.Native.Nat.{ℕ, _+_, _<_, _≤_}
 use native.Mathlib.Decide.{ℕ-discrete}
 use native.Mathlib.Omega.{arith}
 use lib.ListN.{length}
 use Rattle.lists.proofs.Span.{length-span, getD-span}
 use Rattle.faults.specs.Check.{none}
 use Rattle.faults.specs.Outcome.{Group, facts, refused, author, rows}
-use Rattle.faults.specs.Rule.{FirstBroken}
 use Rattle.faults.specs.Unless.{unless}
+use Rattle.faults.proofs.Numbers.{number-of}
 use Rattle.faults.proofs.Rule.{exact}
 use Rattle.faults.proofs.Unless.{unless-none, unless-found}
 use Rattle.calls.proofs.Answers.{facts-no-fault, one-fault}
@@ -56,10 +55,6 @@ module _ (file : List ℕ) (accepted : checkOutcome file ≡ facts (checkFacts f
         let fit = rows-fit first second room (digitCount file) (tableFacts file .depth) z in
         sym (rows-passed file first second room accepted-passes z) ∙ unless-none author (digitCheck file (inputRow file first second) 0 (placeCount file first)) _ (no-number _ (digits-kept (inputRow file first second) (row-inputs file first second room accepted-passes fit) 0 (placeCount file first)))
 
-    row-numbers : (n p : ℕ) → FirstBroken (rowRules first second room (digitCount file) (tableFacts file .depth)) n p → n < 24
-    row-numbers n p f =
-        ⊎-elim (λ a. omega (arith, a .0)) (λ a. ⊎-elim (λ b. omega (arith, b .0)) (λ b. ⊎-elim (λ c. omega (arith, c .0)) (λ c. ⊎-elim (λ d. omega (arith, d .0)) (λ d. absurd (d .1)) (c .1)) (b .1)) (a .1)) f
-
     -- With an accepted table 27 is never said.
     pub never-27 : (g : Group) (p : ℕ) → addOutcome file first second room ≡ refused g 27 p → ⊥
     unfolding addOutcome
@@ -67,5 +62,5 @@ module _ (file : List ℕ) (accepted : checkOutcome file ≡ facts (checkFacts f
         let check = rowCheck first second room (digitCount file) (tableFacts file .depth) in
         elim (ℕ-discrete (check .number) 0) [
           | yes z ↦ facts-no-fault (addOutcome file first second room) (record { places = placeCount file first }) g 27 p (accepted-adds z) e
-          | no some ↦ let o = unless-none author (tableCheck file) (unless rows check (digitsOutcome file first second)) accepted-passes ∙ unless-found rows check (digitsOutcome file first second) some in omega (arith, one-fault (addOutcome file first second room) rows g (check .number) 27 (check .place) p o e .1, row-numbers (check .number) (check .place) (rows-exact first second room (digitCount file) (tableFacts file .depth) .refused (check .number) (check .place) (omega (arith, some)) .0 refl))
+          | no some ↦ let o = unless-none author (tableCheck file) (unless rows check (digitsOutcome file first second)) accepted-passes ∙ unless-found rows check (digitsOutcome file first second) some in omega (arith, one-fault (addOutcome file first second room) rows g (check .number) 27 (check .place) p o e .1, number-of (λ n. n ≤ 23) (rowRules first second room (digitCount file) (tableFacts file .depth)) (omega arith) (check .number) (check .place) (rows-exact first second room (digitCount file) (tableFacts file .depth) .refused (check .number) (check .place) (omega (arith, some)) .0 refl))
         ]

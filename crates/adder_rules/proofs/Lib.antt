@@ -5,3 +5,4 @@ pub mod Sum
 pub mod Demand
 pub mod Accepted
 pub mod Summed
+pub mod Reused

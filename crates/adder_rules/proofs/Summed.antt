@@ -4,7 +4,7 @@ use mathlib.Core.List.{List, map}
 use Prim.Native.Nat.{ℕ, _+_, _<_, _≤_, _-_}
 use native.Mathlib.Nat.{zero-add}
 use native.Mathlib.Omega.{arith}
-use lib.ListN.{length, getD, take}
+use lib.ListN.{length, getD, take, drop, length-take, List·getD-eq-default}
 use lib.IntN.{ℤ}
 use borrow.Author.Tests.{ltb-true}
 use Rattle.lists.specs.Span.{span}
@@ -18,14 +18,12 @@ use Rattle.layout_rules.specs.Section.{degree}
 use Rattle.ring.specs.Element.{plus}
 use Rattle.digit_rules.specs.Record.{recordAt, elementCount}
 use Rattle.digit_rules.proofs.Record.{element-parts}
-use Rattle.digit_rules.proofs.Index.{index-is}
-use Rattle.digit_rules.proofs.Formed.{sum-index-is}
 use Rattle.numeration.specs.Conversion.{convertRow}
 use Rattle.numeration.specs.Elements.{elements, HasParts}
 use Rattle.numeration.specs.Value.{value}
 use Rattle.numeration.proofs.Laws.{same-value}
 use Rattle.numeration.proofs.Sums.{value-sum}
-use Rattle.reader_rules.specs.Table.{basePart, alphabetPart, inputPart, tableCheck, tableFacts}
+use Rattle.reader_rules.specs.Table.{basePart, alphabetPart, inputPart, leafPart, wordPart, tableCheck, tableFacts}
 use Rattle.reader_rules.specs.Ready.{operationsOf, inputCount, leavesIn, valueOf}
 use Rattle.reader_rules.proofs.Formed.{well-formed}
 use Rattle.reader_rules.proofs.Ready.{ready-passed}
@@ -34,10 +32,11 @@ use Rattle.row_rules.specs.Fit.{RowsFit}
 use Rattle.row_rules.proofs.Fit.{rows-fit}
 use Rattle.table_rules.specs.Pairs.{inAlphabet}
 use Rattle.place_rules.specs.Place.{indexAt}
+use Rattle.place_rules.proofs.Place.{input-is, index-names}
 use Rattle.lists.proofs.Entries.{overwrite-in, overwrite-behind}
 use Rattle.adder_rules.specs.declared.AddedFacts.{AddedFacts}
 use Rattle.adder_rules.specs.Sum.{inputOf, inputRow, digitCount, placeCount, rowDigit, rowIndex, rowAllowed, rowPart, digitCheck, sumRow, digitsOutcome, addOutcome, addSum}
-use Rattle.adder_rules.specs.Summed.{Summed}
+use Rattle.adder_rules.specs.Summed.{DigitsAdded, Summed}
 use Rattle.adder_rules.proofs.Table.{digits-counted}
 use Rattle.adder_rules.proofs.Part.{written-first}
 use Rattle.adder_rules.proofs.Sum.{exit-written}
@@ -73,8 +72,8 @@ passed file first second room f e =
 module _ (file first second : List ℕ) (room : ℕ) (is : Passed file first second room) where
   -- the digit of the sum row is z(j)
   pub digit-is : (j : ℕ) → j < placeCount file first → recordAt (alphabetPart file) (rowIndex file (inputRow file first second) j) ≡ rowDigit file (inputRow file first second) j
-  unfolding indexAt
-  digit-is j h = index-is (alphabetPart file) (elementCount (alphabetPart file)) (rowDigit file (inputRow file first second) j) (is .digits j h)
+  digit-is j h =
+      index-names (operationsOf file) (alphabetPart file) (inputPart file) (leafPart file) (wordPart file) (inputRow file first second) j (is .digits j h)
 
   -- the sum row has the value of the row of input digits
   converted : map (recordAt (alphabetPart file)) (sumRow file first second) ≡ convertRow (operationsOf file) (recordAt (inputPart file)) (leavesIn file) (inputRow file first second)
@@ -86,13 +85,29 @@ module _ (file first second : List ℕ) (room : ℕ) (is : Passed file first sec
       ∙ span-ext (λ k. a (rowIndex file row (0 + k))) (rowDigit file row) 0 0 (placeCount file first) (λ k h. ap (λ (n : ℕ). a (rowIndex file row n)) (zero-add (0 + k)) ∙ digit-is (0 + k) (omega arith))
       ∙ ap (λ (n : ℕ). span (rowDigit file row) 0 (n + tableFacts file .depth)) (sym (length-span (inputOf file first second) 0 (length first)))
 
+  -- w(j) is the sum of the two digits at place j
+  sum-at : (k : ℕ) → k < length first → recordAt (inputPart file) (inputOf file first second k) ≡ plus (recordAt (alphabetPart file) (getD first k 0)) (recordAt (alphabetPart file) (getD second k 0))
+  sum-at k h =
+      let size = digits-counted file (is .table) (alphabetPart file) (λ i. alphabetPart file) in
+      let low : getD first k 0 < elementCount (alphabetPart file) = omega (arith, size, is .fit .first-indexes k h) in
+      let also : getD second k 0 < elementCount (alphabetPart file) = omega (arith, size, is .fit .second-indexes k (omega (arith, is .fit .same-length))) in
+      input-is (basePart file) (alphabetPart file) (inputPart file) (well-formed file .1 (is .table) .digits) first second k low also
+
+  -- and zero outside the rows
+  pub digits-added : DigitsAdded file first second
+  unfolding inputRow
+  digits-added =
+      record {
+        inside = λ j h. ap (recordAt (inputPart file)) (getD-span (inputOf file first second) 0 (length first) j 0 h ∙ ap (inputOf file first second) (zero-add j)) ∙ sum-at j h;
+        outside = λ j h. ap (recordAt (inputPart file)) (List·getD-eq-default (inputRow file first second) 0 {n = j} (omega (arith, length-span (inputOf file first second) 0 (length first)))) ∙ ready-passed file (is .table) .input-zero;
+      }
+
   summands : map (recordAt (inputPart file)) (inputRow file first second) ≡ span (λ k. operationsOf file .sum (recordAt (alphabetPart file) (getD first k 0)) (recordAt (alphabetPart file) (getD second k 0))) 0 (length first)
   unfolding inputRow elements
   summands =
-      let size = digits-counted file (is .table) (alphabetPart file) (λ i. alphabetPart file) in
       let a : ℕ → List ℤ = recordAt (alphabetPart file) in
       map-span (recordAt (inputPart file)) (inputOf file first second) 0 (length first)
-      ∙ span-ext (λ k. recordAt (inputPart file) (inputOf file first second k)) (λ k. plus (a (getD first k 0)) (a (getD second k 0))) 0 0 (length first) (λ k h. sum-index-is (basePart file) (alphabetPart file) (inputPart file) (well-formed file .1 (is .table) .digits) (getD first (0 + k) 0) (getD second (0 + k) 0) (omega (arith, size, is .fit .first-indexes (0 + k) (omega arith))) (omega (arith, size, is .fit .second-indexes (0 + k) (omega (arith, is .fit .same-length)))))
+      ∙ span-ext (λ k. recordAt (inputPart file) (inputOf file first second k)) (λ k. plus (a (getD first k 0)) (a (getD second k 0))) 0 0 (length first) (λ k h. sum-at (0 + k) (omega arith))
 
   row-digits : (row : List ℕ) → length row ≡ length first → span (λ k. recordAt (alphabetPart file) (getD row k 0)) 0 (length first) ≡ map (recordAt (alphabetPart file)) row
   row-digits row l =
@@ -122,6 +137,7 @@ summed file first second sum f e =
     let written : addSum file first second sum ≡ overwrite sum 0 row = sym (exit-written (addOutcome file first second (length sum)) f sum (overwrite sum 0 row) (sym e)) in
     let at : (j : ℕ) → j < n → getD (addSum file first second sum) j 0 ≡ rowIndex file (inputRow file first second) j = λ j h. ap (λ (s : List ℕ). getD s j 0) written ∙ ap (λ (k : ℕ). getD (overwrite sum 0 row) k 0) (sym (zero-add j)) ∙ overwrite-in sum row 0 (omega arith) j (omega arith) ∙ sum-row-at file first second j h in
     record {
+      inputs = digits-added file first second (length sum) is;
       index = at;
       in-alphabet = λ j h. omega (arith, at j h, is .digits j h, digits-counted file (is .table) (alphabetPart file) (λ i. alphabetPart file));
       digit = λ j h. ap (recordAt (alphabetPart file)) (at j h) ∙ digit-is file first second (length sum) is j h;

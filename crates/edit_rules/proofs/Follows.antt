@@ -219,6 +219,7 @@ module _ (file : List ℕ) (accepted : checkOutcome file ≡ facts (checkFacts f
       let places : placeCount file (s .first) ≡ placeCount file (r .0) = ap (λ (m : ℕ). m + tableFacts file .depth) (sym (v .1)) in
       subst (Follows file s es) (sym (buffers-are es)) (record {
         rows-stored = refl;
+        inputs = t .inputs;
         index = λ j h. ap (λ (x : List ℕ). getD x j 0) is ∙ t .index j (omega (arith, places));
         digit = λ j h. ap (λ (x : List ℕ). recordAt (alphabetPart file) (getD x j 0)) is ∙ t .digit j (omega (arith, places));
         adds = adds r v;
@@ -243,7 +244,7 @@ module _ (file : List ℕ) (accepted : checkOutcome file ≡ facts (checkFacts f
       (subst (λ (m : ℕ). Step file m e b (editState file e b) (editOutcome file e b)) (fit-of (take k es) .1) (step file accepted e b (fit-of (take k es) .0))))
 
   -- Demand 3. After a fresh addition with a table that the check accepts and any list of edits, refused ones included: after every
-  -- part of the list the rows are those of the addition with the taken digits stored in turn, the sum is in every byte what a whole
+  -- prefix of the list the rows are those of the addition with the taken digits stored in turn, the sum is in every byte what a whole
   -- addition of these rows leaves and its value the sum of their values; each edit is answered with the first of 24 to 26 that it
   -- breaks, and then nothing is changed, or else with the number of sum digits that it changed, and then nothing is changed but its
   -- place in its row and sum places p to p + h.

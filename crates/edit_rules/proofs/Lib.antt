@@ -5,3 +5,4 @@ pub mod Stages
 pub mod Demand
 pub mod Step
 pub mod Follows
+pub mod Accepted

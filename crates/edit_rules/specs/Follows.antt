@@ -1,4 +1,4 @@
--- Demand 3 of document 01: what holds after every part of a list of edits, and of each edit in it.
+-- Demand 3 of document 01: what holds after every prefix of a list of edits, and of each edit in it.
 use mathlib.Core.Path.{_≡_}
 use mathlib.Core.Bool.{_&&_}
 use mathlib.Core.List.{List, [], _∷_}
@@ -16,6 +16,7 @@ use Rattle.row_rules.specs.declared.Change.{Change}
 use Rattle.row_rules.specs.Changed.{changed, noChange}
 use Rattle.row_rules.specs.Broken.{editRules}
 use Rattle.row_rules.specs.Fit.{EditFits}
+use Rattle.adder_rules.specs.Summed.{DigitsAdded}
 use Rattle.adder_rules.specs.Sum.{inputRow, digitCount, placeCount, rowDigit, rowIndex, addOutcome, addSum}
 use Rattle.edit_rules.specs.declared.EditedFacts.{EditedFacts}
 use Rattle.edit_rules.specs.Count.{differing}
@@ -40,6 +41,8 @@ rowEdits file n =
 pub record Follows (file : List ℕ) (s : State) (es : List Change) (now : State) : Type 0 where
   -- the rows are those of the addition with the digits of the edits taken stored in turn
   pub rows-stored : (now .first, now .second) ≡ storeAll (rowEdits file (length (s .first))) es (s .first, s .second)
+  -- what is converted are the sums of the digits of the rows as they then stand, and zero outside them
+  pub inputs : DigitsAdded file (now .first) (now .second)
   -- the sum's byte j is the index of z(j) for the rows as they then stand, for every j below n + h
   pub index : (j : ℕ) → j < placeCount file (s .first) → getD (now .sum) j 0 ≡ rowIndex file (inputRow file (now .first) (now .second)) j
   pub digit : (j : ℕ) → j < placeCount file (s .first) → recordAt (alphabetPart file) (getD (now .sum) j 0) ≡ rowDigit file (inputRow file (now .first) (now .second)) j

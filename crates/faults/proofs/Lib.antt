@@ -1,3 +1,4 @@
 pub mod Check
 pub mod Rule
 pub mod Unless
+pub mod Numbers

@@ -1,12 +1,12 @@
 -- Entries of a buffer into which a run was written, place by place.
 use mathlib.Core.Path.{_≡_, sym, ap, _∙_}
 use mathlib.Core.List.{List, [], _∷_, _++_}
-use Prim.Native.Nat.{ℕ, _+_, _<_, _≤_}
+use Prim.Native.Nat.{ℕ, _+_, _-_, _<_, _≤_}
 use native.Mathlib.Omega.{arith}
 use native.Mathlib.Nat.{zero-add}
 use native.Mathlib.Decide.{decLt}
-use lib.ListN.{replicate, length, getD, take, drop, set, length-replicate, getD-replicate, List·getD-append, List·getD-eq-default}
-use lib.Seq.{length-take-le, getD-take, getD-drop, getD-append-add}
+use lib.ListN.{replicate, length, getD, take, drop, set, length-drop, length-replicate, getD-replicate, List·getD-append, List·getD-eq-default}
+use lib.Seq.{length-take-le, getD-take, getD-drop, getD-append-add, ext-getD}
 use Rattle.lists.specs.Span.{span}
 use Rattle.lists.specs.Overwrite.{overwrite}
 use Rattle.lists.proofs.Span.{length-span, span-add}
@@ -54,3 +54,8 @@ zeros-at n k =
       | yes h ↦ getD-replicate n k 0 0 h
       | no h ↦ List·getD-eq-default (replicate n 0) 0 {n = k} (omega (arith, length-replicate {A = ℕ} n 0))
     ]
+
+-- two buffers of one length that have the same entries from a place on
+pub rest-same : (s t : List ℕ) (n : ℕ) → length s ≡ length t → ((j : ℕ) → n ≤ j → getD s j 0 ≡ getD t j 0) → drop n s ≡ drop n t
+rest-same s t n long same =
+    ext-getD 0 (drop n s) (drop n t) (length-drop n s ∙ ap (λ (m : ℕ). m - n) long ∙ sym (length-drop n t)) (λ i h. getD-drop n s i 0 ∙ same (n + i) (omega arith) ∙ sym (getD-drop n t i 0))

@@ -11,9 +11,12 @@ use lib.IntN.{ℤ}
 use borrow.Author.Tests.{lt-ltb, le-ltb}
 use Rattle.lists.specs.Span.{span}
 use Rattle.lists.proofs.Span.{getD-span}
+use Rattle.ring.specs.Element.{plus}
 use Rattle.digit_rules.specs.Record.{recordAt, elementCount}
 use Rattle.digit_rules.specs.Digits.{sumIndex}
-use Rattle.digit_rules.proofs.Index.{index-high}
+use Rattle.digit_rules.specs.Formed.{Formed}
+use Rattle.digit_rules.proofs.Index.{index-high, index-is}
+use Rattle.digit_rules.proofs.Formed.{sum-index-is}
 use Rattle.numeration.specs.Group.{Operations}
 use Rattle.numeration.specs.Code.{Code, HasLeaf, leafOf}
 use Rattle.numeration.specs.Conversion.{window, outDigit, weightInto, weightAt, convert}
@@ -23,13 +26,18 @@ use Rattle.leaf_rules.specs.Leaf.{codeOf, weightGiven}
 use Rattle.leaf_rules.specs.Window.{digits, LookedUp}
 use Rattle.leaf_rules.proofs.Leaf.{weight-there}
 use Rattle.table_rules.specs.Pairs.{inAlphabet}
-use Rattle.place_rules.specs.Place.{alphabetIndex, indexAt, digitAllowed}
+use Rattle.place_rules.specs.Place.{inputAt, alphabetIndex, digitAt, indexAt, digitAllowed}
 use Rattle.place_rules.specs.Helpers.{Begun}
 
 -- a sum's index is at most the count of input digits
 pub sum-index-high : (alphabet inputs : List ℕ) (i j : ℕ) → sumIndex alphabet inputs i j ≤ elementCount inputs
 unfolding sumIndex
 sum-index-high alphabet inputs i j = index-high inputs (elementCount inputs) _
+
+-- w(j) is the sum of the two digits at place j, where both are alphabet indexes and the digits are those of a table
+pub input-is : (base alphabet inputs : List ℕ) → Formed base alphabet inputs → (first second : List ℕ) (j : ℕ) → getD first j 0 < elementCount alphabet → getD second j 0 < elementCount alphabet
+    → recordAt inputs (inputAt alphabet inputs first second j) ≡ plus (recordAt alphabet (getD first j 0)) (recordAt alphabet (getD second j 0))
+input-is base alphabet inputs is first second j low also = sum-index-is base alphabet inputs is (getD first j 0) (getD second j 0) low also
 
 -- digit k of the window below place j
 pub window-outside : (row : List ℕ) (j k : ℕ) → j ≤ k → 0 ≡ window row j k
@@ -75,6 +83,11 @@ module _ (o : Operations (List ℤ)) (alphabet inputs leaves words row : List �
   unfolding indexAt convert weightAt
   index-from j input index below own read b w e =
       e ∙ (λ i. alphabetIndex alphabet (outDigit o (recordAt inputs (read i)) (b i) ((w ∙ ap (weightInto (codeOf leaves words) row) (add-one j)) i)))
+
+  -- an alphabet index of z(j) is that of z(j)
+  pub index-names : (j : ℕ) → indexAt o alphabet inputs leaves words row j < elementCount alphabet → recordAt alphabet (indexAt o alphabet inputs leaves words row j) ≡ digitAt o alphabet inputs leaves words row j
+  unfolding indexAt
+  index-names j h = index-is alphabet (elementCount alphabet) (digitAt o alphabet inputs leaves words row j) h
 
   pub index-in : (j : ℕ) → indexAt o alphabet inputs leaves words row j < elementCount alphabet → digitAllowed o alphabet inputs leaves words row j ≡ true
   unfolding indexAt inAlphabet

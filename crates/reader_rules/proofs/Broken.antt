@@ -1,13 +1,13 @@
 -- Demand 1 for the reader: it finds the first broken rule of 1 to 13, as the plain statements have it, and nothing else.
 use mathlib.Core.Path.{_≡_}
-use mathlib.Core.List.{List, [], _∷_}
-use mathlib.Core.Logic.{inl, inr}
+use mathlib.Core.List.{List}
 use Prim.Native.Nat.{ℕ, _<_, _≤_}
 use native.Mathlib.Omega.{arith}
 use Rattle.faults.specs.Outcome.{Group, author, refused}
-use Rattle.faults.specs.Rule.{Rule, AllKept, FirstBroken, Exact}
+use Rattle.faults.specs.Rule.{AllKept, FirstBroken, Exact}
 use Rattle.faults.specs.Unless.{Answers}
 use Rattle.faults.proofs.Rule.{Decided, exact, then-decided}
+use Rattle.faults.proofs.Numbers.{number-of}
 use Rattle.faults.proofs.Unless.{unless-answers}
 use Rattle.layout_rules.proofs.Passed.{whole-records}
 use Rattle.layout_rules.proofs.Broken.{layout-decided}
@@ -45,16 +45,6 @@ table-exact file = exact _ _ (table-decided file)
 pub reader-exact : (file : List ℕ) → Answers author (tableRules file) (tableFacts file) (readOutcome file)
 unfolding readOutcome
 reader-exact file = unless-answers author (tableRules file) (tableCheck file) (tableFacts file) (table-decided file)
-
--- the number of a broken rule is that of a rule of the list
-abbrev Numbers : (ℕ → Type 0) → List Rule → Type 0
-Numbers P [] = Unit
-Numbers P (r ∷ rest) = P (r .number) × Numbers P rest
-
-number-of : (P : ℕ → Type 0) (rules : List Rule) → Numbers P rules → (n p : ℕ) → FirstBroken rules n p → P n
-number-of P [] all n p f = absurd f
-number-of P (r ∷ rest) all n p (inl f) = rw (f .0) (all .0)
-number-of P (r ∷ rest) all n p (inr f) = number-of P rest (all .1) n p (f .1)
 
 -- The reader refuses in the author's name only, and with 1 to 13
 pub reader-numbers : (file : List ℕ) (whose : Group) (n p : ℕ) → readOutcome file ≡ refused whose n p → (whose ≡ author) × (1 ≤ n) × (n ≤ 13)

@@ -1,10 +1,10 @@
 -- The table of the bytes: a well-formed file gives the numeration laws all that they ask.
-use mathlib.Core.Path.{_≡_, refl, subst}
+use mathlib.Core.Path.{_≡_, refl, ap, subst}
 use mathlib.Core.List.{List}
-use Prim.Native.Nat.{ℕ, _<_}
+use Prim.Native.Nat.{ℕ, _+_, _-_, _<_}
 use native.Mathlib.Nat.{le-antisymm, div-one}
 use native.Mathlib.Omega.{arith}
-use lib.ListN.{length}
+use lib.ListN.{length, take, drop, length-take, length-drop}
 use Rattle.faults.specs.Outcome.{facts}
 use Rattle.layout_rules.specs.Section.{degree, recordCount, partOf}
 use Rattle.layout_rules.proofs.Passed.{whole-records}
@@ -16,6 +16,7 @@ use Rattle.digit_rules.proofs.Passed.{base-ready}
 use Rattle.numeration.specs.Elements.{elements}
 use Rattle.numeration.proofs.Elements.{elements-group}
 use Rattle.prefix_rules.proofs.Formed.{ordered-code, complete-prefix-code, depth-is, look-up-is}
+use Rattle.reader_rules.specs.declared.Part.{Part}
 use Rattle.reader_rules.specs.Table.{basePart, inputPart, leafPart, wordPart, layoutCheck, tableCheck, partFacts, tableFacts, readOutcome}
 use Rattle.reader_rules.specs.Formed.{WellFormed}
 use Rattle.reader_rules.specs.Ready.{inputCount, Lies, Ready}
@@ -30,6 +31,11 @@ rows-of-base base = rw (matrix-of-two base) (length-matrix _ _)
 lies : (file : List ℕ) → WellFormed file → (section : ℕ) → section < 5 → Lies file (partFacts file section) (partOf file section) (recordCount section (partOf file section))
 unfolding partFacts
 lies file is section l = record { in-order = omega arith; inside = is .inside section l; handed-on = refl; counts = refl }
+
+-- what it means that a section lies in the file: its bytes reach from its start to its end
+pub lies-long : (file : List ℕ) (fact : Part) (bytes : List ℕ) (count : ℕ) → Lies file fact bytes count → fact .start + length bytes ≡ fact .end
+lies-long file fact bytes count is =
+    omega (arith, ap length (is .handed-on), length-take (fact .end - fact .start) (drop (fact .start) file), length-drop (fact .start) file)
 
 pub ready : (file : List ℕ) → WellFormed file → Ready file
 unfolding tableFacts elements

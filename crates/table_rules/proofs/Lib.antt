@@ -1,3 +1,4 @@
 pub mod Fitting
 pub mod Bad
 pub mod Demand
+pub mod FactsOf

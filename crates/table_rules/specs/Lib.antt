@@ -1,3 +1,4 @@
 pub mod Pairs
 pub mod Check
 pub mod Broken
+pub mod FactsOf
