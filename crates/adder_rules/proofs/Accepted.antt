@@ -12,7 +12,7 @@ use Rattle.faults.specs.Unless.{unless}
 use Rattle.faults.proofs.Numbers.{number-of}
 use Rattle.faults.proofs.Rule.{exact}
 use Rattle.faults.proofs.Unless.{unless-none, unless-found}
-use Rattle.calls.proofs.Answers.{facts-no-fault, one-fault}
+use Rattle.faults.proofs.Exit.{facts-no-fault, one-fault}
 use Rattle.numeration.specs.Code.{Inputs}
 use Rattle.reader_rules.specs.Table.{tableCheck, tableFacts}
 use Rattle.reader_rules.specs.Ready.{inputCount}

@@ -9,7 +9,7 @@ use Rattle.lists.proofs.Test.{clash, not-passed}
 use Rattle.faults.specs.Outcome.{Group, refused, author, rows}
 use Rattle.faults.specs.Rule.{rule}
 use Rattle.faults.proofs.Rule.{Decided, judge-decided}
-use Rattle.calls.specs.Answers.{StagesAnswer}
+use Rattle.calls.specs.Answers.{Answers}
 use Rattle.calls.proofs.Answers.{told-end, told-unless, told-answers}
 use Rattle.reader_rules.specs.Table.{alphabetPart, tableFacts}
 use Rattle.reader_rules.proofs.Broken.{table-decided}
@@ -37,7 +37,7 @@ digits-decided file row from count =
 
 -- Demand 1. For every list of bytes as table, rows and buffer addition refuses with whose, N and P exactly when rule N is broken at P,
 -- at no earlier place, and no rule before N in the order 1 to 13, 20 to 23, 27 is broken; else it gives n + h.
-pub demand-1 : (file first second : List ℕ) (room : ℕ) → StagesAnswer (addStages file first second room) (record { places = placeCount file first }) (addOutcome file first second room)
+pub demand-1 : (file first second : List ℕ) (room : ℕ) → Answers (addStages file first second room) (record { places = placeCount file first }) (addOutcome file first second room)
 unfolding addOutcome digitsOutcome
 demand-1 file first second room =
     told-answers (addStages file first second room) given _

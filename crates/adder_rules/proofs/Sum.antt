@@ -8,7 +8,8 @@ use lib.ListN.{length, getD, take}
 use Rattle.lists.specs.Scan.{firstFailing}
 use Rattle.lists.specs.Overwrite.{overwrite}
 use Rattle.faults.specs.declared.Refusal.{Refusal}
-use Rattle.faults.specs.Outcome.{Group, Outcome, facts, refused, author, rows}
+use Rattle.faults.specs.Outcome.{Group, Outcome, facts, refused, author, rows, atExit}
+use Rattle.faults.proofs.Exit.{exit-lent, exit-written}
 use Rattle.faults.specs.Unless.{unless}
 use Rattle.faults.specs.Check.{refusal, none}
 use Rattle.faults.proofs.Unless.{unless-found, unless-none}
@@ -16,17 +17,8 @@ use Rattle.reader_rules.specs.Table.{tableCheck, tableFacts, readOutcome}
 use Rattle.reader_rules.proofs.Answer.{read-fault}
 use Rattle.row_rules.specs.Check.{rowCheck}
 use Rattle.adder_rules.specs.declared.AddedFacts.{AddedFacts}
-use Rattle.adder_rules.specs.Sum.{inputRow, digitCount, placeCount, rowAllowed, rowPart, sumRow, digitsOutcome, addOutcome, atExit, addSum}
+use Rattle.adder_rules.specs.Sum.{inputRow, digitCount, placeCount, rowAllowed, rowPart, sumRow, digitsOutcome, addOutcome, addSum}
 use Rattle.adder_rules.proofs.Part.{check-refused, check-kept, part-found, part-room}
-
--- a call that refuses leaves the buffer as lent, one that gives facts has written it
-pub exit-lent : {F : Type 0} (o : Outcome F) (g : Group) (n p : ℕ) (lent written : List ℕ) → refused g n p ≡ o → lent ≡ atExit o lent written
-unfolding atExit
-exit-lent o g n p lent written e = ap (λ x. atExit x lent written) e
-
-pub exit-written : {F : Type 0} (o : Outcome F) (f : F) (lent written : List ℕ) → facts f ≡ o → written ≡ atExit o lent written
-unfolding atExit
-exit-written o f lent written e = ap (λ x. atExit x lent written) e
 
 module _ (file first second : List ℕ) where
   -- by a row with the entries of the row of input indexes

@@ -12,6 +12,7 @@ use Rattle.lists.specs.Overwrite.{overwrite}
 use Rattle.lists.proofs.Span.{length-span, getD-span, span-ext, span-getD, map-span}
 use Rattle.lists.proofs.Overwrite.{length-overwrite}
 use Rattle.faults.specs.Outcome.{facts, author, rows}
+use Rattle.faults.proofs.Exit.{exit-written}
 use Rattle.faults.proofs.Check.{judge-passed}
 use Rattle.calls.proofs.Answers.{unless-given}
 use Rattle.layout_rules.specs.Section.{degree}
@@ -39,7 +40,6 @@ use Rattle.adder_rules.specs.Sum.{inputOf, inputRow, digitCount, placeCo
 use Rattle.adder_rules.specs.Summed.{DigitsAdded, Summed}
 use Rattle.adder_rules.proofs.Table.{digits-counted}
 use Rattle.adder_rules.proofs.Part.{written-first}
-use Rattle.adder_rules.proofs.Sum.{exit-written}
 
 -- byte j of the sum row
 pub sum-row-at : (file first second : List ℕ) (j : ℕ) → j < placeCount file first → getD (sumRow file first second) j 0 ≡ rowIndex file (inputRow file first second) j

@@ -8,7 +8,7 @@ use Rattle.lists.specs.Span.{span}
 use Rattle.lists.specs.Overwrite.{overwrite}
 use Rattle.faults.specs.declared.Refusal.{Refusal}
 use Rattle.faults.specs.Check.{judge}
-use Rattle.faults.specs.Outcome.{Outcome, facts, refused, author, rows}
+use Rattle.faults.specs.Outcome.{Outcome, facts, author, rows, atExit}
 use Rattle.faults.specs.Unless.{unless}
 use Rattle.reader_rules.specs.Table.{alphabetPart, inputPart, leafPart, wordPart, tableCheck, tableFacts}
 use Rattle.reader_rules.specs.Ready.{operationsOf}
@@ -63,11 +63,6 @@ module _ (file : List ℕ) where
     unfoldable pub addOutcome : ℕ → Outcome AddedFacts
     addOutcome room =
         unless author (tableCheck file) (unless rows (rowCheck first second room digitCount (tableFacts file .depth)) digitsOutcome)
-
--- a buffer at exit: what the call writes, and where it refuses the buffer as lent
-unfoldable pub atExit : {F : Type 0} → Outcome F → List ℕ → List ℕ → List ℕ
-atExit (facts f) lent written = written
-atExit (refused whose number place) lent written = lent
 
 -- "Addition writes the first n + h bytes of the sum buffer, the sum row; further bytes keep their contents"
 unfoldable pub addSum : List ℕ → List ℕ → List ℕ → List ℕ → List ℕ

@@ -11,20 +11,11 @@ use Rattle.faults.specs.Outcome.{Group, Outcome, facts, refused}
 use Rattle.faults.specs.Rule.{Rule, AllKept, FirstBroken}
 use Rattle.faults.specs.Unless.{unless}
 use Rattle.faults.proofs.Rule.{Decided, passes, refuses, exact}
+use Rattle.faults.proofs.Exit.{facts-no-fault, one-fault, one-answer}
 use Rattle.faults.proofs.Unless.{unless-found, unless-none}
-use Rattle.calls.specs.Answers.{Stage, stage, StagesKept, FirstFault, StagesAnswer}
+use Rattle.calls.specs.Answers.{Stage, stage, StagesKept, FirstFault, Answers}
 
 module _ {F : Type 0} where
-  -- facts are no fault; a fault has one group, number and place
-  pub facts-no-fault : (o : Outcome F) (f : F) (g : Group) (n p : ℕ) → o ≡ facts f → o ≡ refused g n p → ⊥
-  facts-no-fault o f g n p a b = let z : _≡_ {A = ℕ} 0 1 = cc in omega arith
-
-  pub one-fault : (o : Outcome F) (g h : Group) (n m p q : ℕ) → o ≡ refused g n p → o ≡ refused h m q → (g ≡ h) × (n ≡ m) × (p ≡ q)
-  one-fault o g h n m p q a b = (cc, cc, cc)
-
-  pub one-answer : (o : Outcome F) (f k : F) → o ≡ facts f → o ≡ facts k → f ≡ k
-  one-answer o f k a b = cc
-
   -- facts come out of a stage only where it found nothing
   pub unless-given : (g : Group) (a : Refusal) (rest : Outcome F) (f : F) → unless g a rest ≡ facts f → (a .number ≡ 0) × (rest ≡ facts f)
   unless-given g a rest f e =
@@ -87,7 +78,7 @@ module _ {F : Type 0} where
       after (faults g n p is some first) = faults g n p (same ∙ is) some (inr (kept, first))
 
   -- demand 1
-  pub told-answers : (stages : List Stage) (answer : F) (o : Outcome F) → Told stages answer o → StagesAnswer stages answer o
+  pub told-answers : (stages : List Stage) (answer : F) (o : Outcome F) → Told stages answer o → Answers stages answer o
   told-answers stages answer o (gives is kept) =
       record {
         first = λ g n p h. (λ s. absurd (facts-no-fault o answer g n p is s), λ f. absurd (kept-or-fault stages g n p h kept f));
@@ -108,3 +99,7 @@ module _ {F : Type 0} where
     where
       moved : (k : Group) (m q : ℕ) → (g ≡ k) × (n ≡ m) × (p ≡ q) → FirstFault stages g n p → FirstFault stages k m q
       moved k m q e y = transport (λ i. FirstFault stages (e .0 i) (e .1 i) (e .2 i)) y
+
+-- demand 1 of a call with one stage
+pub stage-answers : {F : Type 0} (whose : Group) (rules : List Rule) (a : Refusal) (answer : F) → Decided rules a → Answers (stage whose rules ∷ []) answer (unless whose a (facts answer))
+stage-answers whose rules a answer d = told-answers _ answer _ (told-unless whose rules [] answer a (facts answer) d (λ _. told-end answer))

@@ -25,7 +25,7 @@ FirstFault [] g n p = ⊥
 FirstFault (s ∷ rest) g n p = ((g ≡ s .whose) × FirstBroken (s .rules) n p) ⊎ (AllKept (s .rules) × FirstFault rest g n p)
 
 -- the outcome is the first broken rule, exactly, and these facts exactly where none is broken; nothing else
-pub record StagesAnswer {F : Type 0} (stages : List Stage) (answer : F) (outcome : Outcome F) : Type 0 where
+pub record Answers {F : Type 0} (stages : List Stage) (answer : F) (outcome : Outcome F) : Type 0 where
   pub first : (g : Group) (n p : ℕ) → 0 < n → (outcome ≡ refused g n p) ↔ FirstFault stages g n p
   pub passed : (outcome ≡ facts answer) ↔ StagesKept stages
   pub some-number : (g : Group) (n p : ℕ) → outcome ≡ refused g n p → 0 < n

@@ -4,7 +4,7 @@ use mathlib.Core.List.{List}
 use Prim.Native.Nat.{ℕ}
 use lib.ListN.{length}
 use Rattle.faults.specs.Outcome.{Group, refused, author, rows, editor}
-use Rattle.calls.specs.Answers.{StagesAnswer}
+use Rattle.calls.specs.Answers.{Answers}
 use Rattle.calls.proofs.Answers.{told-end, told-unless, told-answers}
 use Rattle.reader_rules.specs.Table.{tableFacts}
 use Rattle.reader_rules.proofs.Broken.{table-decided}
@@ -19,7 +19,7 @@ use Rattle.edit_rules.proofs.Stages.{state-lent}
 
 -- Demand 1. For every list of bytes as table, rows and sum and every edit the call refuses with whose, N and P exactly when rule N is
 -- broken at P, at no earlier place, and no rule before N in the order 1 to 13, 20 to 26, 27 is broken; else it gives the count.
-pub demand-1 : (file : List ℕ) (e : Change) (s : State) → StagesAnswer (editStages file e s) (record { count = count file e s }) (editOutcome file e s)
+pub demand-1 : (file : List ℕ) (e : Change) (s : State) → Answers (editStages file e s) (record { count = count file e s }) (editOutcome file e s)
 unfolding editOutcome renewOutcome
 demand-1 file e s =
     told-answers (editStages file e s) given _

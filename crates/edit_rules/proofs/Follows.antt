@@ -15,6 +15,7 @@ use Rattle.lists.specs.Overwrite.{overwrite}
 use Rattle.lists.proofs.Span.{length-span, getD-span, span-ext}
 use Rattle.lists.proofs.Test.{both, clash}
 use Rattle.faults.specs.Outcome.{Outcome, facts}
+use Rattle.faults.proofs.Exit.{exit-written}
 use Rattle.digit_rules.specs.Record.{recordAt, elementCount}
 use Rattle.digit_rules.specs.Digits.{sumIndex}
 use Rattle.numeration.specs.Changes.{Changes, Local, digitRow, renewed, storeTaken, storeAll}
@@ -35,7 +36,6 @@ use Rattle.adder_rules.specs.declared.AddedFacts.{AddedFacts}
 use Rattle.adder_rules.specs.Sum.{inputOf, inputRow, digitCount, placeCount, rowDigit, rowIndex, rowPart, sumRow, addOutcome, addSum}
 use Rattle.adder_rules.proofs.Table.{digits-counted}
 use Rattle.adder_rules.proofs.Rows.{same-index}
-use Rattle.adder_rules.proofs.Sum.{exit-written}
 use Rattle.adder_rules.proofs.Summed.{sum-row-long, passed, summed}
 use Rattle.adder_rules.proofs.Accepted.{row-inputs, accepted-passes, accepted-adds}
 use Rattle.edit_rules.specs.declared.EditedFacts.{EditedFacts}

@@ -14,6 +14,7 @@ use Rattle.faults.specs.declared.Refusal.{Refusal}
 use Rattle.faults.specs.Check.{refusal, none}
 use Rattle.faults.specs.Outcome.{Group, Outcome, facts, refused, author}
 use Rattle.faults.specs.Unless.{unless}
+use Rattle.faults.proofs.Exit.{exit-lent, exit-written}
 use Rattle.faults.proofs.Unless.{unless-found, unless-none}
 use Rattle.numeration.specs.Code.{Inputs}
 use Rattle.reader_rules.specs.Table.{tableCheck, tableFacts}
@@ -30,17 +31,8 @@ use Rattle.adder_rules.proofs.Rows.{part-inputs, part-same}
 use Rattle.adder_rules.proofs.Part.{check-refused, check-kept, part-found, part-room}
 use Rattle.edit_rules.specs.declared.EditedFacts.{EditedFacts}
 use Rattle.edit_rules.specs.Count.{differing}
-use Rattle.edit_rules.specs.Edit.{State, reach, leftBy, newInputs, newSum, written, count, renewOutcome, renewState}
+use Rattle.edit_rules.specs.Edit.{State, reach, newInputs, newSum, written, count, renewOutcome, renewState}
 use Rattle.edit_rules.proofs.Count.{failing-ext}
-
--- a call that refuses leaves the buffers as lent, one that gives facts has written them
-pub left-lent : {F : Type 0} (o : Outcome F) (g : Group) (n p : ℕ) (lent written : State) → refused g n p ≡ o → lent ≡ leftBy o lent written
-unfolding leftBy
-left-lent o g n p lent written e = ap (λ x. leftBy x lent written) e
-
-pub left-written : {F : Type 0} (o : Outcome F) (f : F) (lent written : State) → facts f ≡ o → written ≡ leftBy o lent written
-unfolding leftBy
-left-written o f lent written e = ap (λ x. leftBy x lent written) e
 
 -- the digits at a count of places
 pub part-long : (file row : List ℕ) (p n : ℕ) → length (rowPart file row p n) ≡ n
@@ -63,11 +55,11 @@ module _ (file : List ℕ) (e : Change) (s : State) where
 
   pub renew-lent : (g : Group) (n p : ℕ) → refused g n p ≡ renewOutcome file e s → s ≡ renewState file e s
   unfolding renewState
-  renew-lent g n p o = left-lent (renewOutcome file e s) g n p s (written file e s) o
+  renew-lent g n p o = exit-lent (renewOutcome file e s) g n p s (written file e s) o
 
   pub renew-written : (f : EditedFacts) → facts f ≡ renewOutcome file e s → written file e s ≡ renewState file e s
   unfolding renewState
-  renew-written f o = left-written (renewOutcome file e s) f s (written file e s) o
+  renew-written f o = exit-written (renewOutcome file e s) f s (written file e s) o
 
   -- the sum after its part from p on, of d + 1 places, was rewritten
   module _ (fits : e .place + reach file ≤ length (s .sum)) (d : ℕ) (deep : d ≡ tableFacts file .depth) where

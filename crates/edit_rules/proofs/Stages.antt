@@ -4,7 +4,8 @@ use mathlib.Core.List.{List}
 use Prim.Native.Nat.{ℕ}
 use lib.ListN.{length}
 use Rattle.faults.specs.declared.Refusal.{Refusal}
-use Rattle.faults.specs.Outcome.{Group, Outcome, refused, author, rows, editor}
+use Rattle.faults.specs.Outcome.{Group, Outcome, refused, author, rows, editor, atExit}
+use Rattle.faults.proofs.Exit.{exit-lent}
 use Rattle.faults.specs.Unless.{unless}
 use Rattle.faults.proofs.Unless.{unless-found, unless-none}
 use Rattle.reader_rules.specs.Table.{tableCheck, tableFacts, readOutcome}
@@ -13,8 +14,7 @@ use Rattle.row_rules.specs.declared.Change.{Change}
 use Rattle.row_rules.specs.Check.{rowCheck, editCheck}
 use Rattle.adder_rules.specs.Sum.{digitCount}
 use Rattle.edit_rules.specs.declared.EditedFacts.{EditedFacts}
-use Rattle.edit_rules.specs.Edit.{State, leftBy, written, renewOutcome, renewState, editOutcome, editState}
-use Rattle.edit_rules.proofs.Renewed.{left-lent}
+use Rattle.edit_rules.specs.Edit.{State, written, renewOutcome, renewState, editOutcome, editState}
 
 module _ (file : List ℕ) (e : Change) (s : State) where
   -- 20 to 23 and 24 to 26, as the edit runs them
@@ -48,8 +48,8 @@ module _ (file : List ℕ) (e : Change) (s : State) where
   -- the buffers by the outcome
   pub state-lent : (g : Group) (n p : ℕ) → refused g n p ≡ editOutcome file e s → s ≡ editState file e s
   unfolding editState
-  state-lent g n p is = left-lent (editOutcome file e s) g n p s (written file e s) is
+  state-lent g n p is = exit-lent (editOutcome file e s) g n p s (written file e s) is
 
   pub state-by : renewOutcome file e s ≡ editOutcome file e s → renewState file e s ≡ editState file e s
   unfolding renewState editState
-  state-by is = ap (λ o. leftBy o s (written file e s)) is
+  state-by is = ap (λ o. atExit o s (written file e s)) is

@@ -14,8 +14,9 @@ use Rattle.lists.proofs.Overwrite.{length-overwrite}
 use Rattle.faults.specs.Check.{none}
 use Rattle.faults.specs.Outcome.{facts, editor}
 use Rattle.faults.specs.Unless.{unless}
+use Rattle.faults.proofs.Exit.{exit-written}
 use Rattle.faults.proofs.Unless.{unless-found, unless-none}
-use Rattle.calls.specs.Answers.{stage, StagesAnswer}
+use Rattle.calls.specs.Answers.{stage, Answers}
 use Rattle.calls.proofs.Answers.{told-end, told-unless, told-answers, unless-given}
 use Rattle.reader_rules.specs.Table.{tableCheck, tableFacts}
 use Rattle.reader_rules.proofs.Kept.{no-number}
@@ -34,7 +35,7 @@ use Rattle.edit_rules.specs.Count.{failing, differing}
 use Rattle.edit_rules.specs.Edit.{State, reach, newInputs, newSum, written, count, editOutcome, editState}
 use Rattle.edit_rules.specs.Follows.{Step}
 use Rattle.edit_rules.proofs.Count.{failing-zero, failing-add}
-use Rattle.edit_rules.proofs.Renewed.{left-written, part-long, renew-given, new-fit, part-fits}
+use Rattle.edit_rules.proofs.Renewed.{part-long, renew-given, new-fit, part-fits}
 use Rattle.edit_rules.proofs.Stages.{rowsFound, askedFound, edit-refused, edit-passed}
 use Rattle.edit_rules.proofs.Demand.{refused-lent}
 
@@ -107,7 +108,7 @@ module _ (file : List ℕ) (accepted : checkOutcome file ≡ facts (checkFacts f
 
   pub taken-state : Fits → editState file e s ≡ written file e s
   unfolding editState
-  taken-state asked = sym (left-written (editOutcome file e s) (record { count = count file e s }) s (written file e s) (sym (given asked)))
+  taken-state asked = sym (exit-written (editOutcome file e s) (record { count = count file e s }) s (written file e s) (sym (given asked)))
 
   count-given : Fits → count file e s ≡ wholeCount
   count-given asked =
@@ -141,7 +142,7 @@ module _ (file : List ℕ) (accepted : checkOutcome file ≡ facts (checkFacts f
   pub step : Step file (length (s .first)) e s (editState file e s) (editOutcome file e s)
   step =
       record {
-        answers = subst (StagesAnswer (stage editor (editRules (e .row) (e .place) (e .digit) (length (s .first)) (digitCount file)) ∷ []) whole) (sym answer-is) (told-answers _ whole _ (told-unless editor _ _ whole _ _ (edit-decided (e .row) (e .place) (e .digit) (length (s .first)) (digitCount file)) (λ _. told-end whole)));
+        answers = subst (Answers (stage editor (editRules (e .row) (e .place) (e .digit) (length (s .first)) (digitCount file)) ∷ []) whole) (sym answer-is) (told-answers _ whole _ (told-unless editor _ _ whole _ _ (edit-decided (e .row) (e .place) (e .digit) (length (s .first)) (digitCount file)) (λ _. told-end whole)));
         taken = (λ is. fitting (unless-given editor (askedFound file e s) (facts whole) whole (sym answer-is ∙ is) .0), λ asked. given asked ∙ (λ i. facts (record { count = count-given asked i })));
         stored = λ asked. (ap (λ (t : State). t .first) (taken-state asked), ap (λ (t : State). t .second) (taken-state asked));
         elsewhere = λ j out. either-way (λ t. getD (t .sum) j 0 ≡ getD (s .sum) j 0) (λ asked. sum-elsewhere file e s (part-fits file e s passes fit asked) j out) refl;

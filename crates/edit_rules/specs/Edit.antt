@@ -3,7 +3,7 @@ use mathlib.Core.List.{List}
 use Prim.Native.Nat.{ℕ, _+_}
 use lib.ListN.{length}
 use Rattle.lists.specs.Overwrite.{overwrite}
-use Rattle.faults.specs.Outcome.{Outcome, facts, refused, author, rows, editor}
+use Rattle.faults.specs.Outcome.{Outcome, facts, author, rows, editor, atExit}
 use Rattle.faults.specs.Unless.{unless}
 use Rattle.reader_rules.specs.Table.{tableCheck, tableFacts}
 use Rattle.row_rules.specs.declared.Change.{Change}
@@ -25,11 +25,6 @@ state first second sum = record { first = first; second = second; sum = sum }
 -- how many places there are from p to p + h
 abbrev pub reach : List ℕ → ℕ
 reach file = tableFacts file .depth + 1
-
--- the buffers at exit: what the call writes, and where it refuses the buffers as lent
-unfoldable pub leftBy : {F : Type 0} → Outcome F → State → State → State
-leftBy (facts f) lent written = written
-leftBy (refused whose number place) lent written = lent
 
 -- an edit is a row number, a place p and a new alphabet index
 module _ (file : List ℕ) (e : Change) (s : State) where
@@ -53,7 +48,7 @@ module _ (file : List ℕ) (e : Change) (s : State) where
   renewOutcome = unless author (digitCheck file newInputs (e .place) (reach file)) (facts (record { count = count }))
 
   unfoldable pub renewState : State
-  renewState = leftBy renewOutcome s written
+  renewState = atExit renewOutcome s written
 
   -- 1 to 13, then 20 to 23, then 24 to 26, then 27
   unfoldable pub editOutcome : Outcome EditedFacts
@@ -63,4 +58,4 @@ module _ (file : List ℕ) (e : Change) (s : State) where
       (unless editor (editCheck (e .row) (e .place) (e .digit) (length (s .first)) (digitCount file)) renewOutcome))
 
   unfoldable pub editState : State
-  editState = leftBy editOutcome s written
+  editState = atExit editOutcome s written

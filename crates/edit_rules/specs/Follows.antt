@@ -7,7 +7,7 @@ use Prim.Native.Nat.{ℕ, _+_, _<_, _≤_}
 use lib.ListN.{length, getD, take}
 use lib.Dec.{ltb, leb}
 use Rattle.faults.specs.Outcome.{Group, Outcome, facts, refused, editor}
-use Rattle.calls.specs.Answers.{stage, StagesAnswer}
+use Rattle.calls.specs.Answers.{stage, Answers}
 use Rattle.digit_rules.specs.Record.{recordAt}
 use Rattle.numeration.specs.Changes.{Changes, storeAll}
 use Rattle.reader_rules.specs.Table.{alphabetPart, tableFacts}
@@ -58,7 +58,7 @@ pub record Follows (file : List ℕ) (s : State) (es : List Change) (now : State
 -- one edit of rows of n digits: the buffers before and after it, and its answer
 pub record Step (file : List ℕ) (n : ℕ) (e : Change) (before after : State) (answer : Outcome EditedFacts) : Type 0 where
   -- 24, 25, 26, the first that holds, and else the number of sum digits that it changed, over the whole row
-  pub answers : StagesAnswer (stage editor (editRules (e .row) (e .place) (e .digit) n (digitCount file)) ∷ []) (record { count = differing (before .sum) (after .sum) 0 (n + tableFacts file .depth) }) answer
+  pub answers : Answers (stage editor (editRules (e .row) (e .place) (e .digit) n (digitCount file)) ∷ []) (record { count = differing (before .sum) (after .sum) 0 (n + tableFacts file .depth) }) answer
   -- it is taken exactly so
   pub taken : (answer ≡ facts (record { count = differing (before .sum) (after .sum) 0 (n + tableFacts file .depth) })) ↔ EditFits (e .row) (e .place) (e .digit) n (digitCount file)
   -- a taken edit changed nothing but its place in its row and sum places p to p + h

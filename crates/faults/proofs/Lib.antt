@@ -1,4 +1,5 @@
 pub mod Check
 pub mod Rule
+pub mod Exit
 pub mod Unless
 pub mod Numbers

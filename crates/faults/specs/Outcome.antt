@@ -12,6 +12,11 @@ pub data Outcome (F : Type 0) : Type 0 where
   facts : F → Outcome F
   refused : Group → ℕ → ℕ → Outcome F
 
+-- a lent buffer, or several, at exit: what the call writes, and where it refuses what was lent
+unfoldable pub atExit : {F S : Type 0} → Outcome F → S → S → S
+atExit (facts f) lent written = written
+atExit (refused whose number place) lent written = lent
+
 -- whose a fault is, its number and its place
 abbrev pub whose : Fault → Group
 whose (Author n p) = author

@@ -6,7 +6,5 @@ pub mod Ends
 pub mod Pairs
 pub mod Runs
 pub mod Changes
-pub mod Exercises
 pub mod Laws
-pub mod Examples
 pub mod Elements

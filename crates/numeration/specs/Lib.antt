@@ -5,5 +5,4 @@ pub mod Pairs
 pub mod Runs
 pub mod Value
 pub mod Changes
-pub mod Exercises
 pub mod Elements

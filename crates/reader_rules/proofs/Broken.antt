@@ -1,14 +1,15 @@
 -- Demand 1 for the reader: it finds the first broken rule of 1 to 13, as the plain statements have it, and nothing else.
 use mathlib.Core.Path.{_≡_}
-use mathlib.Core.List.{List}
+use mathlib.Core.List.{List, [], _∷_}
+use mathlib.Core.Logic.{⊎-elim}
 use Prim.Native.Nat.{ℕ, _<_, _≤_}
 use native.Mathlib.Omega.{arith}
 use Rattle.faults.specs.Outcome.{Group, author, refused}
 use Rattle.faults.specs.Rule.{AllKept, FirstBroken, Exact}
-use Rattle.faults.specs.Unless.{Answers}
 use Rattle.faults.proofs.Rule.{Decided, exact, then-decided}
 use Rattle.faults.proofs.Numbers.{number-of}
-use Rattle.faults.proofs.Unless.{unless-answers}
+use Rattle.calls.specs.Answers.{stage, Answers}
+use Rattle.calls.proofs.Answers.{stage-answers}
 use Rattle.layout_rules.proofs.Passed.{whole-records}
 use Rattle.layout_rules.proofs.Broken.{layout-decided}
 use Rattle.digit_rules.specs.Record.{elementCount}
@@ -42,13 +43,16 @@ pub table-exact : (file : List ℕ) → Exact (tableRules file) (tableCheck file
 table-exact file = exact _ _ (table-decided file)
 
 -- Demand 1 for the reader's outcome, for every list of bytes
-pub reader-exact : (file : List ℕ) → Answers author (tableRules file) (tableFacts file) (readOutcome file)
+pub reader-exact : (file : List ℕ) → Answers (stage author (tableRules file) ∷ []) (tableFacts file) (readOutcome file)
 unfolding readOutcome
-reader-exact file = unless-answers author (tableRules file) (tableCheck file) (tableFacts file) (table-decided file)
+reader-exact file = stage-answers author (tableRules file) (tableCheck file) (tableFacts file) (table-decided file)
 
 -- The reader refuses in the author's name only, and with 1 to 13
 pub reader-numbers : (file : List ℕ) (whose : Group) (n p : ℕ) → readOutcome file ≡ refused whose n p → (whose ≡ author) × (1 ≤ n) × (n ≤ 13)
-reader-numbers file whose n p e =
-    let (own, some) = reader-exact file .only-group whose n p e in
-    let first : FirstBroken (tableRules file) n p = reader-exact file .first n p some .0 (rw (← own) e) in
-    (own, some, number-of (λ n. n ≤ 13) (tableRules file) (omega arith) n p first)
+reader-numbers file whose n p e = (own .0, some, number-of (λ n. n ≤ 13) (tableRules file) (omega arith) n p (own .1))
+  where
+    some : 0 < n
+    some = reader-exact file .some-number whose n p e
+
+    own : (whose ≡ author) × FirstBroken (tableRules file) n p
+    own = ⊎-elim (λ f. f) (λ f. absurd (f .1)) (reader-exact file .first whose n p some .0 e)

@@ -128,6 +128,6 @@ well-formed file = (λ is. no-number _ (passes file is), formed file)
 
 pub well-formed-read : (file : List ℕ) → WellFormed file ↔ (readOutcome file ≡ facts (tableFacts file))
 well-formed-read file = (
-  λ is. reader-exact file .passed .1 (table-exact file .passed .0 (passes file is)),
-  λ e. formed file (no-number _ (table-exact file .passed .1 (reader-exact file .passed .0 e))),
+  λ is. reader-exact file .passed .1 (table-exact file .passed .0 (passes file is), tt),
+  λ e. formed file (no-number _ (table-exact file .passed .1 (reader-exact file .passed .0 e .0))),
 )

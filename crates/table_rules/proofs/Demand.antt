@@ -13,11 +13,13 @@ use Rattle.lists.proofs.Test.{clash}
 use Rattle.faults.specs.Check.{judge, _then_}
 use Rattle.faults.specs.Rule.{Rule, rule, Exact}
 use Rattle.faults.specs.Outcome.{facts, author}
-use Rattle.faults.specs.Unless.{unless, Answers}
+use Rattle.faults.specs.Unless.{unless}
 use Rattle.faults.specs.declared.Refusal.{Refusal}
 use Rattle.faults.proofs.Rule.{Decided, exact, then-decided, places-decided}
 use Rattle.faults.proofs.Check.{then-kept, then-next, judge-passed}
-use Rattle.faults.proofs.Unless.{unless-none, unless-then, unless-answers, accepted-nothing}
+use Rattle.faults.proofs.Unless.{unless-none, unless-then, accepted-nothing}
+use Rattle.calls.specs.Answers.{Answers}
+use Rattle.calls.proofs.Answers.{stage-answers}
 use Rattle.digit_rules.specs.Record.{recordAt, elementCount, indexIn}
 use Rattle.digit_rules.specs.Broken.{Listed}
 use Rattle.digit_rules.proofs.Index.{index-is, index-first}
@@ -32,7 +34,7 @@ use Rattle.reader_rules.proofs.Formed.{well-formed}
 use Rattle.reader_rules.proofs.Ready.{ready-passed}
 use Rattle.table_rules.specs.Pairs.{system, inAlphabet, pairCheck}
 use Rattle.table_rules.specs.Check.{pairsOf, checkFacts, checkOutcome}
-use Rattle.table_rules.specs.Broken.{Broken14, checkRules, RowsConverted}
+use Rattle.table_rules.specs.Broken.{Broken14, checkRules, checkStages, RowsConverted}
 
 -- the alphabet's test says what it tests
 pub listed-test : (alphabet : List ℕ) (x : List ℤ) → (inAlphabet alphabet x ≡ true) ↔ Listed alphabet x
@@ -104,9 +106,9 @@ check-decided file =
 
 -- Demand 1. For every list of bytes the check refuses with N at P exactly when rule N of 1 to 14 is broken at P, at no earlier
 -- place, and no rule before N is broken; else it accepts, with depth, leaf count and alphabet size.
-pub demand-1 : (file : List ℕ) → Answers author (checkRules file) (checkFacts file) (checkOutcome file)
+pub demand-1 : (file : List ℕ) → Answers (checkStages file) (checkFacts file) (checkOutcome file)
 demand-1 file =
-    subst (Answers author (checkRules file) (checkFacts file)) (sym (whole file)) (unless-answers author (checkRules file) (tableCheck file then pairsOf file) (checkFacts file) (check-decided file))
+    subst (Answers (checkStages file) (checkFacts file)) (sym (whole file)) (stage-answers author (checkRules file) (tableCheck file then pairsOf file) (checkFacts file) (check-decided file))
 
 -- Demand 2. For every list of bytes the outcome is accepted exactly when the file is well formed and every finite row of its input
 -- digits is converted into alphabet digits at every place.

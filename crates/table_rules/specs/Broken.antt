@@ -1,7 +1,9 @@
 -- What rule 14 and the check as a whole mean, in the paper's words.
 use mathlib.Core.List.{List, [], _∷_, _++_}
 use Prim.Native.Nat.{ℕ, _<_}
+use Rattle.faults.specs.Outcome.{author}
 use Rattle.faults.specs.Rule.{Rule, rule}
+use Rattle.calls.specs.Answers.{Stage, stage}
 use Rattle.digit_rules.specs.Record.{recordAt, elementCount}
 use Rattle.digit_rules.specs.Broken.{Listed}
 use Rattle.numeration.specs.Pairs.{Fits, pairDigit, RowsConvert}
@@ -20,6 +22,10 @@ Broken14 base alphabet inputs leaves words p =
 abbrev pub checkRules : List ℕ → List Rule
 checkRules file =
     tableRules file ++ (rule 14 (Broken14 (basePart file) (alphabetPart file) (inputPart file) (leafPart file) (wordPart file)) ∷ [])
+
+-- all of them in the author's name
+abbrev pub checkStages : List ℕ → List Stage
+checkStages file = stage author (checkRules file) ∷ []
 
 -- "every finite row of input digits is converted into alphabet digits", at every place
 abbrev pub RowsConverted : List ℕ → Type 0

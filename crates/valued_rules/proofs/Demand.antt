@@ -10,7 +10,7 @@ use Rattle.faults.specs.Outcome.{facts, author, rows}
 use Rattle.faults.specs.Unless.{unless}
 use Rattle.faults.proofs.Rule.{Decided, then-decided}
 use Rattle.faults.proofs.Unless.{unless-then}
-use Rattle.calls.specs.Answers.{StagesAnswer, stage}
+use Rattle.calls.specs.Answers.{Answers, stage}
 use Rattle.calls.proofs.Answers.{Told, told-end, told-unless, told-answers}
 use Rattle.ring.proofs.Matrix.{length-matrix}
 use Rattle.layout_rules.specs.Section.{degree}
@@ -49,7 +49,7 @@ module _ (table row : List ℕ) where
 
   -- Demand 1. For every table and row, as lists of bytes, the call refuses with whose, N and P exactly when rule N is broken at P, at
   -- no earlier place, and no rule before N in the order 1 to 13, 20, 21, 28 is broken; else it gives the value of the row.
-  pub demand-1 : StagesAnswer (valueStages table row) (valueOf table row) (valueOutcome table row)
+  pub demand-1 : Answers (valueStages table row) (valueOf table row) (valueOutcome table row)
   unfolding valueOutcome
   demand-1 =
       told-answers (valueStages table row) (valueOf table row) _

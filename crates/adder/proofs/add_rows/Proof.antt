@@ -11,7 +11,8 @@ use native.Mathlib.Omega.{arith}
 use lib.Dec.{lit<}
 use lib.Seq.{length-take-le}
 use Rattle.lists.specs.Overwrite.{overwrite}
-use Rattle.adder_rules.proofs.Sum.{exit-lent, exit-written, digits-refused, digits-given, digits-found, digits-room}
+use Rattle.faults.proofs.Exit.{exit-lent, exit-written}
+use Rattle.adder_rules.proofs.Sum.{digits-refused, digits-given, digits-found, digits-room}
 use Rattle.adder_rules.proofs.Rows.{read-unchanged, row-held, few-places}
 use borrow.Author.Needs.{needs}
 use Rattle.adder.proofs.add_rows.Statement.{statement}
