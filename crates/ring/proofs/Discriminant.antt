@@ -6,15 +6,10 @@ use Prim.Native.Nat.{ℕ, _*_}
 use native.Mathlib.Omega.{arith}
 use lib.IntN.{ℤ, pos, negsuc, natAbs, _+ℤ_, _-ℤ_, _*ℤ_, -ℤ-+ℤ-cancel, +ℤ-invr}
 use Rattle.integers.proofs.Laws.{ -zero→≡}
-use Rattle.integers.proofs.Size.{natAbs-*}
+use Rattle.integers.proofs.Size.{natAbs-*, square-size}
 use Rattle.integers.proofs.Half.{half, twice-half}
 use Rattle.integers.proofs.Solver.{Expression, var, num, _⊕_, _⊖_, _⊗_, meaning, solve}
 use Rattle.ring.specs.Base.{discriminant, Square}
-
--- a whole number's square, from its size
-square-size : (a : ℤ) → pos (natAbs a * natAbs a) ≡ a *ℤ a
-square-size (pos n) = refl
-square-size (negsuc n) = refl
 
 no-size : (z : ℤ) → natAbs z ≡ 0 → z ≡ pos 0
 no-size (pos n) h = ap pos h

@@ -4,4 +4,5 @@ pub mod Matrix
 pub mod Determinant
 pub mod Base
 pub mod Discriminant
+pub mod Conjugates
 pub mod Parts
