@@ -12,7 +12,7 @@ use lib.Signed.{mag}
 use borrow.Author.Tests.{lt-ltb}
 use Rattle.lists.specs.Span.{span}
 use Rattle.layout_rules.specs.Number.{unsignedAt, toSigned}
-use Rattle.layout_rules.specs.Section.{recordSize, sectionStart, sectionLength}
+use Rattle.layout_rules.specs.Section.{recordSize, elementStart, sectionStart, sectionLength}
 use Rattle.layout_rules.proofs.Number.{signed-low, signed-high}
 
 -- two bytes, wherever they stand: the lower first
@@ -66,3 +66,7 @@ signed-bits u =
 pub record-sizes : span recordSize 0 5 ≡ 4 ∷ 4 ∷ 4 ∷ 8 ∷ 1 ∷ []
 unfolding span
 record-sizes = refl
+
+-- a leaf's weight stands behind the offset and the length of its word
+pub weight-start : (index : ℕ) → elementStart 3 index ≡ 8 * index + 4
+weight-start index = omega arith
