@@ -1,4 +1,5 @@
 pub mod Record
+pub mod Written
 pub mod Index
 pub mod Base
 pub mod Allowed

@@ -1,3 +1,4 @@
+pub mod Outcome
 pub mod Check
 pub mod Rule
 pub mod Exit

@@ -4,3 +4,4 @@ pub mod Test
 pub mod Solver
 pub mod Machine
 pub mod Sign
+pub mod Half

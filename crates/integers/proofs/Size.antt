@@ -41,6 +41,11 @@ natAbs-* (pos a) (negsuc b) = natAbs-neg (pos (a * suc b))
 natAbs-* (negsuc a) (pos b) = natAbs-neg (pos (suc a * b))
 natAbs-* (negsuc a) (negsuc b) = refl
 
+-- a square, from the size
+pub square-size : (a : ℤ) → pos (natAbs a * natAbs a) ≡ a *ℤ a
+square-size (pos n) = refl
+square-size (negsuc n) = refl
+
 -- a product of two bounded factors
 pub natAbs-*≤ : (a b : ℤ) (m n : ℕ) → natAbs a ≤ m → natAbs b ≤ n → natAbs (a *ℤ b) ≤ m * n
 natAbs-*≤ a b m n h k = rw (natAbs-* a b) (mul-le-mul h k)

@@ -1,4 +1,5 @@
 pub mod Number
+pub mod Written
 pub mod Pair
 pub mod Laid
 pub mod Length

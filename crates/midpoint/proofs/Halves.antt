@@ -1,11 +1,11 @@
 -- A half rounded down: what it is, and that halves of sums stay in range.
-use mathlib.Core.Path.{_≡_, refl, sym, ap, _∙_}
-use mathlib.Core.Logic.{_⊎_, inl, inr}
-use Prim.Native.Nat.{ℕ, suc, _+_, _/_, _<_}
+use mathlib.Core.Path.{_≡_, refl}
+use mathlib.Core.Logic.{_⊎_}
+use Prim.Native.Nat.{ℕ, _+_, _<_}
 use native.Mathlib.Omega.{arith}
-use native.Mathlib.Decide.{ℕ-discrete}
-use lib.IntN.{ℤ, pos, negsuc, _+ℤ_, +ℤ-one}
+use lib.IntN.{ℤ, pos, negsuc, _+ℤ_}
 use lib.Signed.{mag, shrZ}
+use Rattle.integers.proofs.Half.{twice-half}
 use Rattle.ring.specs.Element.{part}
 use Rattle.midpoint.specs.declared.Element.{Element}
 use Rattle.midpoint.specs.Midpoint.{parts, halved}
@@ -13,16 +13,8 @@ use Rattle.midpoint.specs.Midpoint.{parts, halved}
 -- the number is twice its half, or one more: the half is rounded down
 pub half-of : (z : ℤ) → (z ≡ halved z +ℤ halved z) ⊎ (z ≡ halved z +ℤ halved z +ℤ pos 1)
 unfolding halved
-half-of (pos n) =
-    elim (ℕ-discrete n (n / 2 + n / 2)) [
-      | yes e ↦ inl (ap pos e)
-      | no m ↦ let e : n ≡ n / 2 + n / 2 + 1 = omega arith in inr (ap pos e)
-    ]
-half-of (negsuc n) =
-    elim (ℕ-discrete n (suc (n / 2 + n / 2))) [
-      | yes e ↦ inl (ap negsuc e)
-      | no m ↦ let e : n ≡ n / 2 + n / 2 = omega arith in inr (ap negsuc e ∙ sym (+ℤ-one (negsuc (suc (n / 2 + n / 2)))))
-    ]
+half-of (pos n) = twice-half (pos n)
+half-of (negsuc n) = twice-half (negsuc n)
 
 pub mag-halved : (z : ℤ) (n : ℕ) → mag z < n + n → mag (halved z) < n
 unfolding halved

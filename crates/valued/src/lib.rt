@@ -2,7 +2,8 @@
 ghost use mathlib.Core.Path.{_≡_};
 ghost use Rattle.digit_rules.specs.Base.{BasePart, baseMatrix};
 ghost use Rattle.digit_rules.specs.Record.{elementCount};
-ghost use Rattle.worth_rules.specs.Total.{Indexed, worthOf};
+ghost use Rattle.row_rules.specs.Fit.{Indexes};
+ghost use Rattle.worth_rules.specs.Total.{worthOf};
 ghost use Rattle.reader_rules.specs.Table.{alphabetPart, tableCheck};
 ghost use Rattle.valued_rules.specs.Value.{rowOutcome, valueOutcome};
 ghost use Rattle.valued.specs.Answer.{valuedAs};
@@ -19,7 +20,7 @@ pub enum Valued {
 
 // Rule 28, and the value of a row of alphabet indexes.
 fn total(base: &[u8], alphabet: &[u8], row: &[u8]) -> Valued
-    requires { ⌜ BasePart (now base) × Indexed (now alphabet) (now row) ⌝ }
+    requires { ⌜ BasePart (now base) × Indexes (elementCount (now alphabet)) (now row) ⌝ }
     ensures { λ r. ⌜ valuedAs r ≡ worthOf (baseMatrix (now (base .entry))) (now (alphabet .entry)) (now (row .entry)) ⌝ }
 {
     match worth::row_value(digits::base_of(base), alphabet, row) {

@@ -8,7 +8,9 @@ ghost use Rattle.ring.specs.Element.{zeros, Within};
 ghost use Rattle.ring.specs.Matrix.{RowsWithin};
 ghost use Rattle.layout_rules.specs.Section.{degree};
 ghost use Rattle.midpoint.specs.Midpoint.{parts};
-ghost use Rattle.worth_rules.specs.Total.{largest, limited, Indexed, digitAt, worthOf};
+ghost use Rattle.row_rules.specs.Fit.{Indexes};
+ghost use Rattle.digit_rules.specs.Record.{elementCount};
+ghost use Rattle.worth_rules.specs.Total.{largest, limited, digitAt, worthOf};
 ghost use Rattle.worth.specs.Answer.{outcomeOf};
 use midpoint::Element;
 
@@ -36,7 +38,7 @@ fn is_limited(x: [i64; 2]) -> bool
 
 // The digit at a place of a row.
 fn digit_at(alphabet: &[u8], row: &[u8], place: usize) -> [i64; 2]
-    requires { ⌜ (place < length (now row)) × Indexed (now alphabet) (now row) ⌝ }
+    requires { ⌜ (place < length (now row)) × Indexes (elementCount (now alphabet)) (now row) ⌝ }
     ensures { λ r. ⌜ (r ≡ digitAt (now (alphabet .entry)) (now (row .entry)) place) × Within 32768 r ⌝ }
 {
     digits::record_at(alphabet, row[place] as usize)
@@ -68,7 +70,7 @@ fn counted_places(alphabet: &[u8], row: &[u8]) -> usize
 
 // The value of a row, from the top place down: base times total plus digit.
 pub fn row_value(base: [[i64; 2]; 2], alphabet: &[u8], row: &[u8]) -> Worth
-    requires { ⌜ RowsWithin (2 ^ 24) base × Indexed (now alphabet) (now row) ⌝ }
+    requires { ⌜ RowsWithin (2 ^ 24) base × Indexes (elementCount (now alphabet)) (now row) ⌝ }
     ensures { λ r. ⌜ outcomeOf r ≡ worthOf base (now (alphabet .entry)) (now (row .entry)) ⌝ }
 {
     let mut total: [i64; 2] = [0, 0];

@@ -1,7 +1,7 @@
 -- The value of a row from the top place down, with rule 28 ("Value, midpoint, program" of document 01).
 use mathlib.Core.Bool.{Bool, true, false, _&&_}
 use mathlib.Core.List.{List, [], _∷_}
-use Prim.Native.Nat.{ℕ, zero, suc, _<_}
+use Prim.Native.Nat.{ℕ, zero, suc}
 use lib.ListN.{length, getD}
 use lib.IntN.{ℤ, natAbs}
 use lib.Dec.{leb}
@@ -9,7 +9,7 @@ use Rattle.ring.specs.Element.{zeros, plus}
 use Rattle.ring.specs.Matrix.{times}
 use Rattle.faults.specs.Outcome.{Outcome, facts, refused, rows}
 use Rattle.layout_rules.specs.Section.{degree}
-use Rattle.digit_rules.specs.Record.{elementCount, recordAt}
+use Rattle.digit_rules.specs.Record.{recordAt}
 
 -- a part of a total is within ±2,147,483,647
 abbrev pub largest : ℕ
@@ -18,10 +18,6 @@ largest = 2147483647
 unfoldable pub limited : List ℤ → Bool
 limited [] = true
 limited (a ∷ x) = leb (natAbs a) largest && limited x
-
--- every byte of a row is an alphabet index
-abbrev pub Indexed : List ℕ → List ℕ → Type 0
-Indexed alphabet row = (k : ℕ) → k < length row → getD row k 0 < elementCount alphabet
 
 -- the digit at a place of a row
 abbrev pub digitAt : List ℕ → List ℕ → ℕ → List ℤ

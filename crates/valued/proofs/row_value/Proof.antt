@@ -10,7 +10,8 @@ use Rattle.reader_rules.proofs.Kept.{stage-nothing, layout-kept, table-kept, se
 use Rattle.reader_rules.specs.Table.{alphabetPart}
 use Rattle.row_rules.proofs.Fit.{row-fits}
 use Rattle.row_rules.specs.Check.{oneRowCheck}
-use Rattle.worth_rules.specs.Total.{Indexed, worthOf}
+use Rattle.row_rules.specs.Fit.{Indexes}
+use Rattle.worth_rules.specs.Total.{worthOf}
 use Rattle.valued_rules.specs.Value.{rowOutcome}
 use borrow.Author.Needs.{needs}
 use Rattle.valued.proofs.row_value.Statement.{statement}
@@ -36,7 +37,7 @@ total-requires c κs =
     let row = c .before .before .before .before .before .before .before .args .row .now in
     let digits = elementCount (alphabetPart (c .before .before .before .before .before .before .before .args .table .now)) in
     let kept = stage-nothing _ (oneRowCheck row digits) (c .before .before .before .before .one-row-check .ensures ∙ ap (oneRowCheck row) (c .before .before .before .before .before .before .before .pre .1)) (c .before .before .if1 .left) in
-    (subst BasePart (sym (c .before .section .ensures)) (sections (c .before .before .before .before .before .before .before .args .table .now) (c .before .before .before .before .before .before .before .pre .0) .base), subst (λ a. Indexed a row) (sym (c .section2 .ensures)) (row-fits row digits kept .indexes))
+    (subst BasePart (sym (c .before .section .ensures)) (sections (c .before .before .before .before .before .before .before .args .table .now) (c .before .before .before .before .before .before .before .pre .0) .base), subst (λ a. Indexes (elementCount a) row) (sym (c .section2 .ensures)) (row-fits row digits kept .indexes))
 
 returns-2 : tie.Need-returns-2
 unfolding rowOutcome
