@@ -25,8 +25,8 @@ use Rattle.row_rules.proofs.Fit.{rows-fit}
 use Rattle.row_rules.proofs.Broken.{rows-exact}
 use Rattle.table_rules.specs.Check.{checkFacts, checkOutcome}
 use Rattle.table_rules.proofs.Demand.{demand-2}
-use Rattle.adder_rules.specs.Sum.{inputOf, inputRow, digitCount, placeCount, digitCheck, digitsOutcome, addOutcome}
-use Rattle.adder_rules.specs.Broken.{digitRules}
+use Rattle.adder_rules.specs.Sum.{inputOf, inputRow, digitCount, placeCount, outputCheck, digitsOutcome, addOutcome}
+use Rattle.adder_rules.specs.Broken.{outputRules}
 use Rattle.adder_rules.proofs.Rows.{inputs-below}
 use Rattle.adder_rules.proofs.Sum.{rows-passed}
 use Rattle.adder_rules.proofs.Demand.{digits-decided}
@@ -43,9 +43,9 @@ module _ (file : List ℕ) (accepted : checkOutcome file ≡ facts (checkFacts f
   accepted-passes = well-formed file .0 (demand-2 file .0 accepted .0)
 
   -- no place of any row of input indexes breaks 27
-  pub digits-kept : (row : List ℕ) → Inputs (inputCount file) row → (from count : ℕ) → digitCheck file row from count ≡ none
+  pub digits-kept : (row : List ℕ) → Inputs (inputCount file) row → (from count : ℕ) → outputCheck file row from count ≡ none
   digits-kept row inputs from count =
-      exact (digitRules file row from count) _ (digits-decided file row from count) .passed .1 (λ p b. b .2 (demand-2 file .0 accepted .1 row inputs p), tt)
+      exact (outputRules file row from count) _ (digits-decided file row from count) .passed .1 (λ p b. b .2 (demand-2 file .0 accepted .1 row inputs p), tt)
 
   module _ (first second : List ℕ) (room : ℕ) where
     -- rows that pass 20 to 23 get their sum
@@ -53,7 +53,7 @@ module _ (file : List ℕ) (accepted : checkOutcome file ≡ facts (checkFacts f
     unfolding digitsOutcome
     accepted-adds z =
         let fit = rows-fit first second room (digitCount file) (tableFacts file .depth) z in
-        sym (rows-passed file first second room accepted-passes z) ∙ unless-none author (digitCheck file (inputRow file first second) 0 (placeCount file first)) _ (no-number _ (digits-kept (inputRow file first second) (row-inputs file first second room accepted-passes fit) 0 (placeCount file first)))
+        sym (rows-passed file first second room accepted-passes z) ∙ unless-none author (outputCheck file (inputRow file first second) 0 (placeCount file first)) _ (no-number _ (digits-kept (inputRow file first second) (row-inputs file first second room accepted-passes fit) 0 (placeCount file first)))
 
     -- With an accepted table 27 is never said.
     pub never-27 : (g : Group) (p : ℕ) → addOutcome file first second room ≡ refused g 27 p → ⊥

@@ -16,13 +16,13 @@ use Rattle.reader_rules.proofs.Broken.{table-decided}
 use Rattle.row_rules.proofs.Broken.{rows-decided}
 use Rattle.table_rules.proofs.Demand.{listed-test}
 use Rattle.adder_rules.specs.declared.AddedFacts.{AddedFacts}
-use Rattle.adder_rules.specs.Sum.{inputRow, digitCount, placeCount, rowDigit, rowAllowed, digitCheck, digitsOutcome, addOutcome, addSum}
-use Rattle.adder_rules.specs.Broken.{Broken27, digitRules, addStages}
+use Rattle.adder_rules.specs.Sum.{inputRow, digitCount, placeCount, rowDigit, rowAllowed, outputCheck, digitsOutcome, addOutcome, addSum}
+use Rattle.adder_rules.specs.Broken.{Broken27, outputRules, addStages}
 use Rattle.adder_rules.proofs.Sum.{sum-lent}
 
 -- 27 over the places from p on
-pub digits-decided : (file row : List ℕ) (from count : ℕ) → Decided (digitRules file row from count) (digitCheck file row from count)
-unfolding digitCheck
+pub digits-decided : (file row : List ℕ) (from count : ℕ) → Decided (outputRules file row from count) (outputCheck file row from count)
+unfolding outputCheck
 digits-decided file row from count =
     judge-decided (rule 27 (Broken27 file row from count)) (λ k. from + k) (λ k. rowAllowed file row (from + k)) count (omega arith) (λ j k h l. omega arith) (λ p. (to p, from-test p))
   where

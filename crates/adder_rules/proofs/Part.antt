@@ -15,7 +15,7 @@ use Rattle.lists.proofs.Overwrite.{length-overwrite}
 use Rattle.faults.specs.Check.{refusal, none}
 use Rattle.faults.proofs.Check.{judge-broken, judge-kept}
 use Rattle.reader_rules.specs.Table.{tableFacts}
-use Rattle.adder_rules.specs.Sum.{rowIndex, rowAllowed, rowPart, digitCheck}
+use Rattle.adder_rules.specs.Sum.{rowIndex, rowAllowed, rowPart, outputCheck}
 use Rattle.adder_rules.proofs.Rows.{same-index, same-allowed}
 
 -- the part of a buffer that was written first
@@ -32,12 +32,12 @@ module _ (file row inputs : List ℕ) (p count : ℕ) (same : (k : ℕ) → p �
   at = first-outside ∙ scan-ext (λ k. rowAllowed file row (p + k)) (λ k. rowAllowed file inputs (p + k)) 0 count (λ k l h. same-allowed file row inputs (p + k) (near k (omega arith)))
 
   -- 27 at the first place whose digit isn't in the alphabet
-  pub check-refused : found < count → digitCheck file inputs p count ≡ refusal 27 (p + found)
-  unfolding digitCheck
+  pub check-refused : found < count → outputCheck file inputs p count ≡ refusal 27 (p + found)
+  unfolding outputCheck
   check-refused h = judge-broken 27 (λ k. p + k) (λ k. rowAllowed file inputs (p + k)) count found at h
 
-  pub check-kept : count ≤ found → digitCheck file inputs p count ≡ none
-  unfolding digitCheck
+  pub check-kept : count ≤ found → outputCheck file inputs p count ≡ none
+  unfolding outputCheck
   check-kept h = judge-kept 27 (λ k. p + k) (λ k. rowAllowed file inputs (p + k)) count found at h
 
   -- the digits found, as a buffer's first bytes hold them

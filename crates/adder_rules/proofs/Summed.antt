@@ -36,7 +36,7 @@ use Rattle.place_rules.specs.Place.{indexAt}
 use Rattle.place_rules.proofs.Place.{input-is, index-names}
 use Rattle.lists.proofs.Entries.{overwrite-in, overwrite-behind}
 use Rattle.adder_rules.specs.declared.AddedFacts.{AddedFacts}
-use Rattle.adder_rules.specs.Sum.{inputOf, inputRow, digitCount, placeCount, rowDigit, rowIndex, rowAllowed, rowPart, digitCheck, sumRow, digitsOutcome, addOutcome, addSum}
+use Rattle.adder_rules.specs.Sum.{inputOf, inputRow, digitCount, placeCount, rowDigit, rowIndex, rowAllowed, rowPart, outputCheck, sumRow, digitsOutcome, addOutcome, addSum}
 use Rattle.adder_rules.specs.Summed.{DigitsAdded, Summed}
 use Rattle.adder_rules.proofs.Table.{digits-counted}
 use Rattle.adder_rules.proofs.Part.{written-first}
@@ -58,11 +58,11 @@ pub record Passed (file first second : List ℕ) (room : ℕ) : Type 0 where
   pub digits : (j : ℕ) → j < placeCount file first → rowIndex file (inputRow file first second) j < elementCount (alphabetPart file)
 
 pub passed : (file first second : List ℕ) (room : ℕ) (f : AddedFacts) → addOutcome file first second room ≡ facts f → Passed file first second room
-unfolding addOutcome digitsOutcome digitCheck indexAt inAlphabet
+unfolding addOutcome digitsOutcome outputCheck indexAt inAlphabet
 passed file first second room f e =
     let a = unless-given author (tableCheck file) _ f e in
     let b = unless-given rows (rowCheck first second room (digitCount file) (tableFacts file .depth)) _ f (a .1) in
-    let d = unless-given author (digitCheck file (inputRow file first second) 0 (placeCount file first)) _ f (b .1) in
+    let d = unless-given author (outputCheck file (inputRow file first second) 0 (placeCount file first)) _ f (b .1) in
     record {
       table = a .0;
       fit = rows-fit first second room (digitCount file) (tableFacts file .depth) (b .0);

@@ -14,13 +14,13 @@ use Rattle.adder_rules.specs.Sum.{inputRow, digitCount, placeCount, rowD
 abbrev pub Broken27 : List ℕ → List ℕ → ℕ → ℕ → ℕ → Type 0
 Broken27 file row from count p = (from ≤ p) × (p < from + count) × ¬ (Listed (alphabetPart file) (rowDigit file row p))
 
-abbrev pub digitRules : List ℕ → List ℕ → ℕ → ℕ → List Rule
-digitRules file row from count = rule 27 (Broken27 file row from count) ∷ []
+abbrev pub outputRules : List ℕ → List ℕ → ℕ → ℕ → List Rule
+outputRules file row from count = rule 27 (Broken27 file row from count) ∷ []
 
 -- 1 to 13, 20 to 23, and "Last, in addition over all places": 27
 abbrev pub addStages : List ℕ → List ℕ → List ℕ → ℕ → List Stage
 addStages file first second room =
     stage author (tableRules file)
     ∷ stage rows (rowRules first second room (digitCount file) (tableFacts file .depth))
-    ∷ stage author (digitRules file (inputRow file first second) 0 (placeCount file first))
+    ∷ stage author (outputRules file (inputRow file first second) 0 (placeCount file first))
     ∷ []

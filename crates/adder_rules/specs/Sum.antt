@@ -47,8 +47,8 @@ module _ (file : List ℕ) where
     rowPart p count = span (λ k. rowIndex (p + k)) 0 count
 
     -- 27 over these places: a sum digit isn't in the alphabet (place)
-    unfoldable pub digitCheck : ℕ → ℕ → Refusal
-    digitCheck p count = judge 27 (λ k. p + k) (λ k. rowAllowed (p + k)) count
+    unfoldable pub outputCheck : ℕ → ℕ → Refusal
+    outputCheck p count = judge 27 (λ k. p + k) (λ k. rowAllowed (p + k)) count
 
   module _ (first second : List ℕ) where
     -- "the sum row": z(j) for j from 0 to n + h − 1
@@ -57,7 +57,7 @@ module _ (file : List ℕ) where
 
     -- 27 over all places, then n + h
     unfoldable pub digitsOutcome : Outcome AddedFacts
-    digitsOutcome = unless author (digitCheck (inputRow first second) 0 (placeCount first)) (facts (record { places = placeCount first }))
+    digitsOutcome = unless author (outputCheck (inputRow first second) 0 (placeCount first)) (facts (record { places = placeCount first }))
 
     -- 1 to 13, then 20 to 23 with the sum buffer's length, then 27
     unfoldable pub addOutcome : ℕ → Outcome AddedFacts

@@ -21,7 +21,7 @@ use Rattle.digit_rules.specs.Record.{recordAt, elementCount, indexIn}
 use Rattle.digit_rules.specs.Base.{discriminantAllowed, expandingBase, baseCheck}
 use Rattle.digit_rules.specs.Digits.{recordAllowed, alphabetCheck, sumIndex, inputsAllowed, inputCheck, digitCheck}
 use Rattle.digit_rules.specs.Broken.{Broken7, Broken8}
-use Rattle.digit_rules.specs.Formed.{DigitList, Formed}
+use Rattle.digit_rules.specs.Formed.{DigitList, DigitsFormed}
 use Rattle.digit_rules.proofs.Record.{element-parts}
 use Rattle.digit_rules.proofs.Index.{index-is, index-first}
 use Rattle.digit_rules.proofs.Allowed.{after-records}
@@ -48,7 +48,7 @@ digits-kept part list p b =
     (λ r. omega (arith, r .1, list .distinct p (r .0) (b .0) (omega (arith, b .0, r .1)) (r .2))) (b .1)
 
 module _ (base alphabet inputs : List ℕ) where
-  pub formed : digitCheck base alphabet inputs .number ≡ 0 → Formed base alphabet inputs
+  pub formed : digitCheck base alphabet inputs .number ≡ 0 → DigitsFormed base alphabet inputs
   unfolding digitCheck baseCheck alphabetCheck inputCheck discriminantAllowed expandingBase
   formed h =
       let a = then-kept (baseCheck base) _ h in
@@ -64,7 +64,7 @@ module _ (base alphabet inputs : List ℕ) where
         all-sums = sum-listed-in alphabet inputs (sym (after-records alphabet inputs (elementCount inputs) (omega arith)) ∙ input (elementCount inputs) (omega arith));
       }
 
-  pub formed-passes : Formed base alphabet inputs → digitCheck base alphabet inputs ≡ none
+  pub formed-passes : DigitsFormed base alphabet inputs → digitCheck base alphabet inputs ≡ none
   formed-passes is = digits-exact base alphabet inputs .passed .1 (λ p b. is .no-square (b .1), (λ p b. b .1 (is .expands), (digits-kept alphabet (is .alphabet-digits), (inputs-are, tt))))
     where
       inputs-are : (p : ℕ) → Broken8 alphabet inputs p → ⊥
@@ -79,7 +79,7 @@ index-unique part list k l =
     list .distinct _ k (omega arith) l (index-is part (elementCount part) (recordAt part k) (omega arith))
 
 -- the input index of a sum is that of an input digit, and that digit is the sum
-module _ (base alphabet inputs : List ℕ) (is : Formed base alphabet inputs) where
+module _ (base alphabet inputs : List ℕ) (is : DigitsFormed base alphabet inputs) where
   module _ (i j : ℕ) (l : i < elementCount alphabet) (m : j < elementCount alphabet) where
     pub sum-index-below : sumIndex alphabet inputs i j < elementCount inputs
     unfolding sumIndex

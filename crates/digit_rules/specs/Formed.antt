@@ -16,7 +16,7 @@ pub record DigitList (part : List ℕ) : Type 0 where
   pub distinct : (i j : ℕ) → i < elementCount part → j < elementCount part → recordAt part i ≡ recordAt part j → i ≡ j
 
 -- "The input digits are exactly the sums of two alphabet digits, each once"
-pub record Formed (base alphabet inputs : List ℕ) : Type 0 where
+pub record DigitsFormed (base alphabet inputs : List ℕ) : Type 0 where
   pub no-square : ¬ (Square (discriminant (sOf base) (tOf base)))
   pub expands : Expanding (sOf base) (tOf base) (uOf base) (vOf base)
   pub alphabet-digits : DigitList alphabet

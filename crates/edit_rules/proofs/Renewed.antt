@@ -26,7 +26,7 @@ use Rattle.row_rules.specs.Fit.{RowsFit, EditFits}
 use Rattle.row_rules.proofs.Changed.{length-changed, changed-fit}
 use Rattle.place_rules.specs.Helpers.{partRow}
 use Rattle.lists.proofs.Entries.{overwrite-in}
-use Rattle.adder_rules.specs.Sum.{inputOf, digitCount, rowIndex, rowAllowed, rowPart, digitCheck}
+use Rattle.adder_rules.specs.Sum.{inputOf, digitCount, rowIndex, rowAllowed, rowPart, outputCheck}
 use Rattle.adder_rules.proofs.Rows.{part-inputs, part-same}
 use Rattle.adder_rules.proofs.Part.{check-refused, check-kept, part-found, part-room}
 use Rattle.edit_rules.specs.declared.EditedFacts.{EditedFacts}
@@ -41,13 +41,13 @@ part-long file row p n = length-span (λ k. rowIndex file row (p + k)) 0 n
 
 module _ (file : List ℕ) (e : Change) (s : State) where
   -- 27 over p to p + h, and the buffers
-  pub renew-refused : (place : ℕ) → digitCheck file (newInputs file e s) (e .place) (reach file) ≡ refusal 27 place → refused author 27 place ≡ renewOutcome file e s
+  pub renew-refused : (place : ℕ) → outputCheck file (newInputs file e s) (e .place) (reach file) ≡ refusal 27 place → refused author 27 place ≡ renewOutcome file e s
   unfolding renewOutcome
   renew-refused place is =
       let given : Outcome EditedFacts = facts (record { count = count file e s }) in
       sym (ap (λ (r : Refusal). unless author r given) is ∙ unless-found author (refusal 27 place) given (λ z. omega (arith, z)))
 
-  pub renew-given : (n : ℕ) → n ≡ count file e s → digitCheck file (newInputs file e s) (e .place) (reach file) ≡ none → facts (record { count = n }) ≡ renewOutcome file e s
+  pub renew-given : (n : ℕ) → n ≡ count file e s → outputCheck file (newInputs file e s) (e .place) (reach file) ≡ none → facts (record { count = n }) ≡ renewOutcome file e s
   unfolding renewOutcome
   renew-given n c is =
       let given : Outcome EditedFacts = facts (record { count = count file e s }) in
@@ -141,7 +141,7 @@ module _ (file : List ℕ) (e : Change) (s : State) (passes : tableCheck file .n
         outside-found h =
             renew-refused file e s (e .place + found) (check-refused file row (newInputs file e s) (e .place) (reach file) row-same found at (omega arith))
 
-        pub none-outside : d < found → digitCheck file (newInputs file e s) (e .place) (reach file) ≡ none
+        pub none-outside : d < found → outputCheck file (newInputs file e s) (e .place) (reach file) ≡ none
         none-outside h = check-kept file row (newInputs file e s) (e .place) (reach file) row-same found at (omega arith)
 
         pub digits-found : (t : List ℕ) → d < found → take (d + 1) (overwrite t 0 (rowPart file row (e .place) found)) ≡ rowPart file (newInputs file e s) (e .place) (reach file)

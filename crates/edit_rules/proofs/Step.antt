@@ -28,7 +28,7 @@ use Rattle.row_rules.proofs.Fit.{edit-fits}
 use Rattle.row_rules.proofs.Broken.{rows-pass, edit-passes, edit-decided}
 use Rattle.table_rules.specs.Check.{checkFacts, checkOutcome}
 use Rattle.lists.proofs.Entries.{overwrite-before, overwrite-behind}
-use Rattle.adder_rules.specs.Sum.{digitCount, rowPart, digitCheck}
+use Rattle.adder_rules.specs.Sum.{digitCount, rowPart, outputCheck}
 use Rattle.adder_rules.proofs.Accepted.{row-inputs, accepted-passes, digits-kept}
 use Rattle.edit_rules.specs.declared.EditedFacts.{EditedFacts}
 use Rattle.edit_rules.specs.Count.{failing, differing}
@@ -102,7 +102,7 @@ module _ (file : List ℕ) (accepted : checkOutcome file ≡ facts (checkFacts f
   -- a taken edit: no digit is outside the alphabet
   given : Fits → editOutcome file e s ≡ facts (record { count = count file e s })
   given asked =
-      let kept : digitCheck file (newInputs file e s) (e .place) (reach file) ≡ none = digits-kept file accepted (newInputs file e s) (row-inputs file (changed e 0 (s .first)) (changed e 1 (s .second)) (length (s .sum)) passes (new-fit file e s passes fit asked)) (e .place) (reach file) in
+      let kept : outputCheck file (newInputs file e s) (e .place) (reach file) ≡ none = digits-kept file accepted (newInputs file e s) (row-inputs file (changed e 0 (s .first)) (changed e 1 (s .second)) (length (s .sum)) passes (new-fit file e s passes fit asked)) (e .place) (reach file) in
       let known : askedFound file e s .number ≡ 0 = no-number _ (edit-passes (e .row) (e .place) (e .digit) (length (s .first)) (digitCount file) asked) in
       sym (edit-passed file e s passes rows-none known) ∙ sym (renew-given file e s (count file e s) refl kept)
 

@@ -9,7 +9,7 @@ use Rattle.reader_rules.specs.Broken.{tableRules}
 use Rattle.row_rules.specs.declared.Change.{Change}
 use Rattle.row_rules.specs.Broken.{rowRules, editRules}
 use Rattle.adder_rules.specs.Sum.{digitCount}
-use Rattle.adder_rules.specs.Broken.{digitRules}
+use Rattle.adder_rules.specs.Broken.{outputRules}
 use Rattle.edit_rules.specs.Edit.{State, newInputs, reach}
 
 -- 1 to 13, 20 to 23, 24 to 26, and "in the edit over p to p + h": 27
@@ -18,5 +18,5 @@ editStages file e s =
     stage author (tableRules file)
     ∷ stage rows (rowRules (s .first) (s .second) (length (s .sum)) (digitCount file) (tableFacts file .depth))
     ∷ stage editor (editRules (e .row) (e .place) (e .digit) (length (s .first)) (digitCount file))
-    ∷ stage author (digitRules file (newInputs file e s) (e .place) (reach file))
+    ∷ stage author (outputRules file (newInputs file e s) (e .place) (reach file))
     ∷ []

@@ -9,7 +9,7 @@ use Rattle.reader_rules.specs.Table.{tableCheck, tableFacts}
 use Rattle.row_rules.specs.declared.Change.{Change}
 use Rattle.row_rules.specs.Changed.{changed}
 use Rattle.row_rules.specs.Check.{rowCheck, editCheck}
-use Rattle.adder_rules.specs.Sum.{inputRow, digitCount, rowPart, digitCheck}
+use Rattle.adder_rules.specs.Sum.{inputRow, digitCount, rowPart, outputCheck}
 use Rattle.edit_rules.specs.declared.EditedFacts.{EditedFacts}
 use Rattle.edit_rules.specs.Count.{differing}
 
@@ -45,7 +45,7 @@ module _ (file : List ℕ) (e : Change) (s : State) where
 
   -- 27 over p to p + h, then the count
   unfoldable pub renewOutcome : Outcome EditedFacts
-  renewOutcome = unless author (digitCheck file newInputs (e .place) (reach file)) (facts (record { count = count }))
+  renewOutcome = unless author (outputCheck file newInputs (e .place) (reach file)) (facts (record { count = count }))
 
   unfoldable pub renewState : State
   renewState = atExit renewOutcome s written

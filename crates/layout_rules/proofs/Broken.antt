@@ -18,7 +18,7 @@ use Rattle.layout_rules.specs.Section.{recordSize, sectionStart, section
 use Rattle.layout_rules.specs.Directory.{sizeAllowed, expectedStart, pairAllowed, directoryCheck}
 use Rattle.layout_rules.specs.Length.{leastRecords, mostRecords, lengthAllowed, sectionAllowed, lengthCheck, sectionLengths}
 use Rattle.layout_rules.specs.Limit.{limitCheck}
-use Rattle.layout_rules.specs.Broken.{Broken1, Follows, Broken2, Allowed, Broken3, directoryRules, lengthRules, limitRules}
+use Rattle.layout_rules.specs.Broken.{Broken1, PairFollows, Broken2, Allowed, Broken3, directoryRules, lengthRules, limitRules}
 use Rattle.layout_rules.proofs.Laid.{size-says, Placed, pair-says, laid}
 use Rattle.layout_rules.proofs.Outside.{limit-decided}
 
@@ -34,7 +34,7 @@ size-decided file =
     (λ p h t. (omega arith, size-fails _ t))
 
 -- rule 2
-pub follows-expected : (file : List ℕ) (p : ℕ) → Follows file p ↔ (sectionStart file p ≡ expectedStart file p)
+pub follows-expected : (file : List ℕ) (p : ℕ) → PairFollows file p ↔ (sectionStart file p ≡ expectedStart file p)
 unfolding expectedStart
 follows-expected file zero = (λ e. e, λ e. e)
 follows-expected file (suc p) = (λ e. e, λ e. e)
@@ -50,7 +50,7 @@ pair-fails file p l h =
 pair-decided : (file : List ℕ) → Decided (rule 2 (Broken2 file) ∷ []) (judge 2 (λ k. k) (pairAllowed file) 5)
 pair-decided file = places-decided (rule 2 (Broken2 file)) (pairAllowed file) 5 (omega arith) (λ p b. (b .0, λ t. refuted p (pair-says file p t) (b .1))) (pair-fails file)
   where
-    refuted : (p : ℕ) → Placed file p → (¬ (Follows file p) ⊎ (length file < sectionStart file p + sectionLength file p) ⊎ ((p ≡ 4) × ¬ (sectionStart file p + sectionLength file p ≡ length file))) → ⊥
+    refuted : (p : ℕ) → Placed file p → (¬ (PairFollows file p) ⊎ (length file < sectionStart file p + sectionLength file p) ⊎ ((p ≡ 4) × ¬ (sectionStart file p + sectionLength file p ≡ length file))) → ⊥
     refuted p is (inl f) = f (follows-expected file p .1 (is .follows))
     refuted p is (inr (inl h)) = omega (arith, is .inside)
     refuted p is (inr (inr h)) = h .1 (is .last (omega (arith, h .0)))

@@ -14,15 +14,15 @@ abbrev pub Broken1 : List ℕ → ℕ → Type 0
 Broken1 file p = (p ≡ 0) × ((length file < 20) ⊎ (65535 < length file))
 
 -- "The first offset is 20, each next offset is the end of the pair before"
-abbrev pub Follows : List ℕ → ℕ → Type 0
-Follows file zero = sectionStart file 0 ≡ 20
-Follows file (suc i) = sectionStart file (suc i) ≡ sectionStart file i + sectionLength file i
+abbrev pub PairFollows : List ℕ → ℕ → Type 0
+PairFollows file zero = sectionStart file 0 ≡ 20
+PairFollows file (suc i) = sectionStart file (suc i) ≡ sectionStart file i + sectionLength file i
 
 -- 2: a directory pair breaks its rule, ends past the file, or is last and doesn't end it (pair)
 abbrev pub Broken2 : List ℕ → ℕ → Type 0
 Broken2 file p =
     (p < 5)
-    × (¬ (Follows file p)
+    × (¬ (PairFollows file p)
     ⊎ (length file < sectionStart file p + sectionLength file p)
     ⊎ ((p ≡ 4) × ¬ (sectionStart file p + sectionLength file p ≡ length file)))
 

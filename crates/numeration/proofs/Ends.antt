@@ -6,7 +6,7 @@ use native.Mathlib.Omega.{arith}
 use lib.ListN.{length, getD, List·getD-eq-default}
 use Rattle.lists.specs.Span.{span}
 use Rattle.lists.proofs.Span.{map-span, span-getD}
-use Rattle.numeration.specs.Group.{Operations, Group}
+use Rattle.numeration.specs.Group.{Operations, AdditiveGroup}
 use Rattle.numeration.specs.Code.{Code, PrefixCode, leafOf, depth}
 use Rattle.numeration.specs.Conversion.{window, weightInto, weightAt, convert, convertRow, InGroup}
 use Rattle.numeration.specs.Value.{value, topDown}
@@ -28,7 +28,7 @@ module _ {A : Type 0} (c : Code A) (m : ℕ) (p : PrefixCode c m) where
   weight-above row j high =
       weight-zeros row j (λ k h. window-by-place (λ d e. d ≡ 0) row row j k (λ low. refl) (λ i e. List·getD-eq-default row 0 {n = i} (omega arith)))
 
-module _ {A : Type 0} (o : Operations A) (Element : A → Type 0) (g : Group o Element) (input : ℕ → A) (c : Code A) (m : ℕ) (p : PrefixCode c m) (i : InGroup o Element input c) where
+module _ {A : Type 0} (o : Operations A) (Element : A → Type 0) (g : AdditiveGroup o Element) (input : ℕ → A) (c : Code A) (m : ℕ) (p : PrefixCode c m) (i : InGroup o Element input c) where
   pub convert-above : (row : List ℕ) (j : ℕ) → length row + depth c ≤ j → convert o input c row j ≡ o .none
   unfolding convert weightAt
   convert-above row j h =

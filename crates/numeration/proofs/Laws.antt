@@ -9,7 +9,7 @@ use lib.IntN.{ℤ}
 use Rattle.ring.specs.Element.{product}
 use Rattle.ring.specs.Matrix.{matrixOf}
 use Rattle.ring.proofs.Matrix.{length-matrix, matrix-product}
-use Rattle.numeration.specs.Group.{Operations, Group}
+use Rattle.numeration.specs.Group.{Operations, AdditiveGroup}
 use Rattle.numeration.specs.Elements.{elements, HasParts}
 use Rattle.numeration.proofs.Elements.{elements-group}
 use Rattle.numeration.specs.Code.{Code, Below, Begins, leafOf, depth, OrderedCode, PrefixCode}
@@ -32,7 +32,7 @@ one-leaf c n m r =
     let p : PrefixCode c m = prefix-code c n m r in
     (p, (λ w h. let (low, b) = leafOf-begins c w (p .complete w h) in (low, b, λ k hk d. sym (leafOf-unique c (p .separate) w k hk d))), leafOf-unique c (p .separate) (λ i. 0) 0 (p .some-leaf) (p .zeros))
 
-module _ {A : Type 0} (o : Operations A) (Element : A → Type 0) (g : Group o Element) (input : ℕ → A) (c : Code A) (m : ℕ) (p : PrefixCode c m) (i : InGroup o Element input c) where
+module _ {A : Type 0} (o : Operations A) (Element : A → Type 0) (g : AdditiveGroup o Element) (input : ℕ → A) (c : Code A) (m : ℕ) (p : PrefixCode c m) (i : InGroup o Element input c) where
   -- 2. Ends. The weight q(−1) below place 0 is zero; from place n + h − 1 up the weights are zero; digits from n + h on are zero.
   pub ends : (row : List ℕ) → (weightInto c row 0 ≡ o .none) × ((j : ℕ) → length row + depth c ≤ suc j → weightAt c row j ≡ o .none) × ((j : ℕ) → length row + depth c ≤ j → convert o input c row j ≡ o .none)
   unfolding weightAt
@@ -70,7 +70,7 @@ list-of-digit-changes o input c alphabet n m p pairs =
     changeAll-right (rowChanges o input c alphabet n m) (InputRow n m) (rowChanges-local o input c alphabet n m (pairs-rows o input c m p (λ x. alphabet x ≡ true) .0 pairs))
 
 -- 7. Instance. Elements of any degree with multiplication by the base β are such a group, the map being the product β · x.
-pub elements-of-any-degree : (r β : List ℤ) → 1 ≤ length r → length β ≡ length r → Group (elements (length r) (matrixOf r β)) (HasParts (length r)) × ((x : List ℤ) → HasParts (length r) x → elements (length r) (matrixOf r β) .base x ≡ product r β x)
+pub elements-of-any-degree : (r β : List ℤ) → 1 ≤ length r → length β ≡ length r → AdditiveGroup (elements (length r) (matrixOf r β)) (HasParts (length r)) × ((x : List ℤ) → HasParts (length r) x → elements (length r) (matrixOf r β) .base x ≡ product r β x)
 unfolding elements
 elements-of-any-degree r β positive h =
     (elements-group (length r) (matrixOf r β) (length-matrix r β), λ x k. matrix-product r positive β x h k)

@@ -8,11 +8,11 @@ use native.Mathlib.Nat.{add-zero, zero-add, add-suc, suc-add}
 use lib.ListN.{List·getD-eq-default}
 use Rattle.lists.specs.Span.{span}
 use Rattle.lists.proofs.Span.{length-span, getD-span}
-use Rattle.numeration.specs.Group.{Operations, Group}
+use Rattle.numeration.specs.Group.{Operations, AdditiveGroup}
 use Rattle.numeration.specs.Conversion.{outDigit}
 use Rattle.numeration.specs.Value.{Elements, power, valueFrom, value, topDown}
 
-module _ {A : Type 0} (o : Operations A) (Element : A → Type 0) (g : Group o Element) where
+module _ {A : Type 0} (o : Operations A) (Element : A → Type 0) (g : AdditiveGroup o Element) where
   pub unit-right : {x : A} → Element x → o .sum x (o .none) ≡ x
   unit-right x = g .comm x (g .element-none) ∙ g .unit x
 

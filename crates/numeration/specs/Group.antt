@@ -9,7 +9,7 @@ pub record Operations (A : Type 0) : Type 0 where
   pub base : A → A
 
 -- the laws, for the values of A that are elements
-pub record Group {A : Type 0} (o : Operations A) (Element : A → Type 0) : Type 0 where
+pub record AdditiveGroup {A : Type 0} (o : Operations A) (Element : A → Type 0) : Type 0 where
   pub element-none : Element (o .none)
   pub element-sum : {x y : A} → Element x → Element y → Element (o .sum x y)
   pub element-difference : {x y : A} → Element x → Element y → Element (o .difference x y)

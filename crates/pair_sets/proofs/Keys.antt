@@ -19,8 +19,8 @@ use Rattle.numeration.specs.Code.{Agree, Lower}
 use Rattle.numeration.specs.Pairs.{tail, Fits}
 use Rattle.numeration.proofs.Leaves.{precedes-all}
 use Rattle.leaf_rules.specs.Leaf.{leafCount, wordLength, codeOf}
-use Rattle.prefix_rules.specs.Formed.{Formed}
-use Rattle.pair_sets.specs.Runs.{Ready, wordNumber, Keyed, InRun}
+use Rattle.prefix_rules.specs.Formed.{LeavesFormed}
+use Rattle.pair_sets.specs.Runs.{WordsOrdered, wordNumber, Keyed, InRun}
 use Rattle.weight_sets.specs.Bits.{Has}
 
 -- all that eight bytes have behind the first k, at most
@@ -67,7 +67,7 @@ last-number w k behind e =
     ap (λ (x : ℕ). bitOr (number 256 w k * x) behind) bits ∙ or-shifted (number 256 w k) (8 * (8 - k)) behind (omega arith) ∙ ap (λ (x : ℕ). number 256 w k * x + behind) (sym bits) in
     omega arith
 
-module _ (leaves words : List ℕ) (ready : Ready leaves words) where
+module _ (leaves words : List ℕ) (ready : WordsOrdered leaves words) where
   abbrev N : ℕ
   N = leafCount leaves
 
@@ -131,7 +131,7 @@ module _ (leaves words : List ℕ) (ready : Ready leaves words) where
           ]
         ]
 
-pub ready-words : (leaves words : List ℕ) (m : ℕ) → Formed leaves words m → ((i : ℕ) → getD words i 0 < 256) → Ready leaves words
+pub ready-words : (leaves words : List ℕ) (m : ℕ) → LeavesFormed leaves words m → ((i : ℕ) → getD words i 0 < 256) → WordsOrdered leaves words
 ready-words leaves words m is bytes =
     record {
       some = is .some;

@@ -16,15 +16,15 @@ use Rattle.numeration.specs.Pairs.{fits, Fits, pairPasses}
 use Rattle.numeration.proofs.Agreement.{agree-sound, agree-complete}
 use Rattle.numeration.proofs.Runs.{unfit-passes}
 use Rattle.leaf_rules.specs.Leaf.{leafCount, codeOf}
-use Rattle.prefix_rules.specs.Formed.{Formed}
+use Rattle.prefix_rules.specs.Formed.{LeavesFormed}
 use Rattle.table_rules.specs.Pairs.{inAlphabet, upperPart}
 use Rattle.table_rules.proofs.Fitting.{pair-is}
 use Rattle.weight_sets.specs.Bits.{Has}
 use Rattle.pair_sets.specs.Runs.{AllPass}
-use Rattle.weight_sets.specs.Weights.{Numbered, Good}
+use Rattle.weight_sets.specs.Weights.{WeightsNumbered, Good}
 use Rattle.weight_sets.proofs.Bits.{has-part}
 
-module _ (leaves words : List ℕ) (m : ℕ) (input : 0 < m) (is : Formed leaves words m) (matrix : List (List ℤ)) (inputs alphabet numbers first : List ℕ) (count : ℕ) (numbered : Numbered leaves numbers first count (leafCount leaves)) where
+module _ (leaves words : List ℕ) (m : ℕ) (input : 0 < m) (is : LeavesFormed leaves words m) (matrix : List (List ℤ)) (inputs alphabet numbers first : List ℕ) (count : ℕ) (numbered : WeightsNumbered leaves numbers first count (leafCount leaves)) where
   module _ (u : ℕ) (hu : u < leafCount leaves) (lower known : ℕ) (covered : (l : ℕ) → l < leafCount leaves → Fits (codeOf leaves words) u l → Has lower (getD numbers l 0)) (among : bitAnd lower known ≡ lower) (good : Good alphabet leaves first (upperPart matrix inputs leaves words u) known) where
     abbrev passes : ℕ → Bool
     passes l = pairPasses (elements degree matrix) (recordAt inputs) (codeOf leaves words) (inAlphabet alphabet) u l

@@ -16,7 +16,7 @@ use Rattle.table_rules.specs.Pairs.{inAlphabet}
 use Rattle.weight_sets.specs.Bits.{Has}
 
 -- what the words' numbers need of leaves and words: one to eight digits, in section 4, each word above the previous one, and bytes
-pub record Ready (leaves words : List ℕ) : Type 0 where
+pub record WordsOrdered (leaves words : List ℕ) : Type 0 where
   pub some : (k : ℕ) → k < leafCount leaves → 1 ≤ wordLength leaves k
   pub short : (k : ℕ) → k < leafCount leaves → wordLength leaves k ≤ 8
   pub inside : (k : ℕ) → k < leafCount leaves → wordEnd leaves k ≤ length words

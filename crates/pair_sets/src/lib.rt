@@ -11,8 +11,8 @@ ghost use Rattle.numeration.specs.Pairs.{Fits};
 ghost use Rattle.leaf_rules.specs.Leaf.{leafCount, codeOf, wordLength};
 ghost use Rattle.prefix_rules.specs.Check.{leafCheck};
 ghost use Rattle.weight_sets.specs.Bits.{Has};
-ghost use Rattle.pair_sets.specs.Runs.{Ready, Keyed, InRun, AllPass};
-ghost use Rattle.weight_sets.specs.Weights.{Numbered, Covers};
+ghost use Rattle.pair_sets.specs.Runs.{WordsOrdered, Keyed, InRun, AllPass};
+ghost use Rattle.weight_sets.specs.Weights.{WeightsNumbered, Covers};
 
 // The fewest leaves that are looked at, few leaves, the most leaves, and the most different weights.
 const FEWEST: usize = 32;
@@ -36,7 +36,7 @@ struct Run {
 
 // The words of all leaves as numbers.
 fn keys_of(leaves: &[u8], words: &[u8], keys: &mut [u64])
-    requires { ⌜ (leafCount (now leaves) ≤ length (now keys)) × Ready (now leaves) (now words) ⌝ }
+    requires { ⌜ (leafCount (now leaves) ≤ length (now keys)) × WordsOrdered (now leaves) (now words) ⌝ }
     ensures { λ r. ⌜ Keyed (now (leaves .entry)) (now (words .entry)) (now (keys .exit)) (leafCount (now (leaves .entry))) ⌝ }
 {
     let count = leaves::leaf_count(leaves);
@@ -122,7 +122,7 @@ fn fitting(
     guess: usize,
 ) -> Run
     requires { ⌜ (leafCount (now leaves) ≤ length (now keys)) × (leafCount (now leaves) ≤ length (now numbers)) × (leafCount (now leaves) ≤ length (now sets)) × (upper < leafCount (now leaves)) × (1 ≤ wordLength (now leaves) upper) × (wordLength (now leaves) upper ≤ 8) × (guess ≤ leafCount (now leaves)) × ((k : ℕ) → k < leafCount (now leaves) → getD (now numbers) k 0 < 64) × Covers (now numbers) (now sets) (leafCount (now leaves)) 8 × ((k : ℕ) → k < leafCount (now leaves) → Has all (getD (now numbers) k 0)) ⌝ }
-    ensures { λ r. ⌜ (r .end ≤ leafCount (now (leaves .entry))) × ((words : List ℕ) → Ready (now (leaves .entry)) words → Keyed (now (leaves .entry)) words (now (keys .entry)) (leafCount (now (leaves .entry))) → (l : ℕ) → l < leafCount (now (leaves .entry)) → Fits (codeOf (now (leaves .entry)) words) upper l → Has (r .set) (getD (now (numbers .entry)) l 0)) ⌝ }
+    ensures { λ r. ⌜ (r .end ≤ leafCount (now (leaves .entry))) × ((words : List ℕ) → WordsOrdered (now (leaves .entry)) words → Keyed (now (leaves .entry)) words (now (keys .entry)) (leafCount (now (leaves .entry))) → (l : ℕ) → l < leafCount (now (leaves .entry)) → Fits (codeOf (now (leaves .entry)) words) upper l → Has (r .set) (getD (now (numbers .entry)) l 0)) ⌝ }
 {
     let count = leaves::leaf_count(leaves);
     let length = leaves::word_length(leaves, upper);
@@ -152,7 +152,7 @@ fn all_in(
     first: &[usize],
     count: usize,
 ) -> bool
-    requires { ⌜ RowsWithin (2 ^ 24) base × (0 < elementCount (now inputs)) × (leafCheck (now leaves) (now words) (elementCount (now inputs)) .number ≡ 0) × (leafCount (now leaves) ≤ length (now keys)) × (leafCount (now leaves) ≤ length (now numbers)) × (leafCount (now leaves) ≤ length (now sets)) × (count ≤ 64) × (count ≤ length (now first)) × Keyed (now leaves) (now words) (now keys) (leafCount (now leaves)) × Numbered (now leaves) (now numbers) (now first) count (leafCount (now leaves)) × Covers (now numbers) (now sets) (leafCount (now leaves)) 8 ⌝ }
+    requires { ⌜ RowsWithin (2 ^ 24) base × (0 < elementCount (now inputs)) × (leafCheck (now leaves) (now words) (elementCount (now inputs)) .number ≡ 0) × (leafCount (now leaves) ≤ length (now keys)) × (leafCount (now leaves) ≤ length (now numbers)) × (leafCount (now leaves) ≤ length (now sets)) × (count ≤ 64) × (count ≤ length (now first)) × Keyed (now leaves) (now words) (now keys) (leafCount (now leaves)) × WeightsNumbered (now leaves) (now numbers) (now first) count (leafCount (now leaves)) × Covers (now numbers) (now sets) (leafCount (now leaves)) 8 ⌝ }
     ensures { λ r. ⌜ (r ≡ true → AllPass base (now (alphabet .entry)) (now (inputs .entry)) (now (leaves .entry)) (now (words .entry)) (leafCount (now (leaves .entry)))) ⌝ }
 {
     let mut slots = [EMPTY; SLOTS];

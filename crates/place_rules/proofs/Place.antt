@@ -14,7 +14,7 @@ use Rattle.lists.proofs.Span.{getD-span}
 use Rattle.ring.specs.Element.{plus}
 use Rattle.digit_rules.specs.Record.{recordAt, elementCount}
 use Rattle.digit_rules.specs.Digits.{sumIndex}
-use Rattle.digit_rules.specs.Formed.{Formed}
+use Rattle.digit_rules.specs.Formed.{DigitsFormed}
 use Rattle.digit_rules.proofs.Index.{index-high, index-is}
 use Rattle.digit_rules.proofs.Formed.{sum-index-is}
 use Rattle.numeration.specs.Group.{Operations}
@@ -35,7 +35,7 @@ unfolding sumIndex
 sum-index-high alphabet inputs i j = index-high inputs (elementCount inputs) _
 
 -- w(j) is the sum of the two digits at place j, where both are alphabet indexes and the digits are those of a table
-pub input-is : (base alphabet inputs : List ℕ) → Formed base alphabet inputs → (first second : List ℕ) (j : ℕ) → getD first j 0 < elementCount alphabet → getD second j 0 < elementCount alphabet
+pub input-is : (base alphabet inputs : List ℕ) → DigitsFormed base alphabet inputs → (first second : List ℕ) (j : ℕ) → getD first j 0 < elementCount alphabet → getD second j 0 < elementCount alphabet
     → recordAt inputs (inputAt alphabet inputs first second j) ≡ plus (recordAt alphabet (getD first j 0)) (recordAt alphabet (getD second j 0))
 input-is base alphabet inputs is first second j low also = sum-index-is base alphabet inputs is (getD first j 0) (getD second j 0) low also
 

@@ -16,10 +16,10 @@ use lib.IntN.{ℤ}
 use Rattle.numeration.specs.Code.{Code, Precedes}
 use Rattle.leaf_rules.specs.Leaf.{leafCount, wordStart, wordLength, wordEnd, codeOf}
 use Rattle.prefix_rules.specs.Coverage.{covered}
-use Rattle.prefix_rules.specs.Check.{expectedStart, leafAllowed, placeCheck, indexAllowed, indexCheck, orderAllowed, orderCheck, coverCheck, zeroCheck, leafCheck}
+use Rattle.prefix_rules.specs.Check.{expectedWordStart, leafAllowed, placeCheck, wordIndexAllowed, wordIndexCheck, orderAllowed, orderCheck, coverCheck, zeroCheck, leafCheck}
 use Rattle.radix.specs.Number.{number, aligned}
 use Rattle.radix.proofs.Order.{aligned-high}
-use Rattle.prefix_code.specs.Numbers.{sum, numberOf, floorOf, stringsOf, Numbered}
+use Rattle.prefix_code.specs.Numbers.{sum, wordNumberOf, floorOf, stringsOf, Numbered}
 use Rattle.prefix_code.specs.Kept.{CodeKept}
 use Rattle.prefix_rules.proofs.Place.{Placed, leaf-says}
 use Rattle.prefix_rules.proofs.Broken.{order-holds}
@@ -34,7 +34,7 @@ one-more P i so-far here k h = elim (ℕ-discrete k i) [ yes e ↦ subst P (sym 
 pub record Near (leaves : List ℕ) (n k : ℕ) : Type 0 where
   pub some : 1 ≤ wordLength leaves k
   pub short : wordLength leaves k ≤ 8
-  pub follows : wordStart leaves k ≡ expectedStart leaves k
+  pub follows : wordStart leaves k ≡ expectedWordStart leaves k
   pub inside : wordEnd leaves k ≤ n
 
 placed-allowed : (leaves : List ℕ) (n k : ℕ) → Placed leaves n k → leafAllowed leaves n k ≡ true
@@ -46,30 +46,30 @@ placed-allowed leaves n k p =
     ]
 
 -- the end of a word is where the next one must start
-pub end-expected : (leaves : List ℕ) (k end : ℕ) → end ≡ wordEnd leaves k → end ≡ expectedStart leaves (k + 1)
-unfolding expectedStart
-end-expected leaves k end e = e ∙ ap (expectedStart leaves) (sym (add-one k))
+pub end-expected : (leaves : List ℕ) (k end : ℕ) → end ≡ wordEnd leaves k → end ≡ expectedWordStart leaves (k + 1)
+unfolding expectedWordStart
+end-expected leaves k end e = e ∙ ap (expectedWordStart leaves) (sym (add-one k))
 
-pub near-allowed : (leaves : List ℕ) (n count end : ℕ) → count ≡ leafCount leaves → ((k : ℕ) → k < count → Near leaves n k) → end ≡ expectedStart leaves count → end ≡ n
+pub near-allowed : (leaves : List ℕ) (n count end : ℕ) → count ≡ leafCount leaves → ((k : ℕ) → k < count → Near leaves n k) → end ≡ expectedWordStart leaves count → end ≡ n
     → (k : ℕ) → k < leafCount leaves → leafAllowed leaves n k ≡ true
 near-allowed leaves n count end all near e whole k h =
     let p = near k (omega arith) in
-    let last : leafCount leaves ≤ k + 1 → wordEnd leaves k ≡ n = λ l. let c : k + 1 ≡ count = omega arith in end-expected leaves k (wordEnd leaves k) refl ∙ ap (expectedStart leaves) c ∙ sym e ∙ whole in
+    let last : leafCount leaves ≤ k + 1 → wordEnd leaves k ≡ n = λ l. let c : k + 1 ≡ count = omega arith in end-expected leaves k (wordEnd leaves k) refl ∙ ap (expectedWordStart leaves) c ∙ sym e ∙ whole in
     placed-allowed leaves n k (record { some = p .some; short = p .short; follows = p .follows; inside = p .inside; last = last })
 
 -- the leaves below a number, as far as the quick look keeps them: where the next must start, what its number must reach, and how many
 -- strings of eight they begin
 pub record SoFar (leaves words : List ℕ) (m leaf end floor strings : ℕ) : Type 0 where
   pub within : leaf ≤ leafCount leaves
-  pub ends : end ≡ expectedStart leaves leaf
+  pub ends : end ≡ expectedWordStart leaves leaf
   pub near : (k : ℕ) → k < leaf → Near leaves (length words) k
   pub floors : floor ≡ floorOf (codeOf leaves words) leaf
-  pub rising : (k : ℕ) → k < leaf → floorOf (codeOf leaves words) k ≤ numberOf (codeOf leaves words) k
+  pub rising : (k : ℕ) → k < leaf → floorOf (codeOf leaves words) k ≤ wordNumberOf (codeOf leaves words) k
   pub counted : strings ≡ sum (stringsOf (codeOf leaves words) m) leaf
   pub small : strings ≤ leaf * 860542568759296
 
 pub so-far-first : (leaves words : List ℕ) (m : ℕ) → SoFar leaves words m 0 0 0 0
-unfolding expectedStart floorOf sum
+unfolding expectedWordStart floorOf sum
 so-far-first leaves words m =
     record { within = omega arith; ends = refl; near = λ k h. absurd (nothing k h); floors = refl; rising = λ k h. absurd (nothing k h); counted = refl; small = omega arith }
   where
@@ -91,7 +91,7 @@ strings-room m share h e =
 pub strings-all : (m share strings : ℕ) → share ≡ m ^ (8 - 1) → strings ≡ share * m → strings ≡ m ^ 8
 strings-all m share strings e s = s ∙ ap (λ (x : ℕ). x * m) e ∙ sym (pow-suc m 7)
 
-floor-next : {A : Type 0} (c : Code A) (k : ℕ) → numberOf c k + 256 ^ (8 - c .size k) ≡ floorOf c (k + 1)
+floor-next : {A : Type 0} (c : Code A) (k : ℕ) → wordNumberOf c k + 256 ^ (8 - c .size k) ≡ floorOf c (k + 1)
 unfolding floorOf
 floor-next c k = ap (floorOf c) (sym (add-one k))
 
@@ -103,7 +103,7 @@ first-digit w = omega arith
 module _ (leaves words : List ℕ) (m leaf end floor strings start size number unit share : ℕ) (so-far : SoFar leaves words m leaf end floor strings) (h : leaf < leafCount leaves)
     (starts : start ≡ wordStart leaves leaf) (sizes : size ≡ wordLength leaves leaf) (lies : (start ≡ end) × (1 ≤ size) × (size ≤ 8) × (start + size ≤ length words))
     (numbers : number ≡ aligned 256 (λ i. getD words (start + i) 0) size) (units : unit ≡ 256 ^ (8 - size)) (shares : share ≡ m ^ (8 - size)) (few : m ≤ 136) where
-  same-number : number ≡ numberOf (codeOf leaves words) leaf
+  same-number : number ≡ wordNumberOf (codeOf leaves words) leaf
   same-number = numbers ∙ ap₂ (λ (s n : ℕ). aligned 256 (λ i. getD words (s + i) 0) n) starts sizes
 
   -- a byte is below 255, so that the next floor is a 64-bit number
@@ -120,7 +120,7 @@ module _ (leaves words : List ℕ) (m leaf end floor strings start size number u
         near = one-more (Near leaves (length words)) leaf (so-far .near)
             (record { some = omega (arith, sizes, lies .1); short = omega (arith, sizes, lies .2); follows = sym starts ∙ lies .0 ∙ so-far .ends; inside = omega (arith, starts, sizes, lies .3) });
         floors = ap₂ (λ (x y : ℕ). x + y) same-number (units ∙ ap (λ (n : ℕ). 256 ^ (8 - n)) sizes) ∙ floor-next (codeOf leaves words) leaf;
-        rising = one-more (λ (k : ℕ). floorOf (codeOf leaves words) k ≤ numberOf (codeOf leaves words) k) leaf (so-far .rising) (omega (arith, so-far .floors, same-number));
+        rising = one-more (λ (k : ℕ). floorOf (codeOf leaves words) k ≤ wordNumberOf (codeOf leaves words) k) leaf (so-far .rising) (omega (arith, so-far .floors, same-number));
         counted = ap₂ (λ (x y : ℕ). x + y) (so-far .counted) (shares ∙ ap (λ (n : ℕ). m ^ (8 - n)) sizes) ∙ sym (sum-suc (stringsOf (codeOf leaves words) m) leaf) ∙ ap (sum (stringsOf (codeOf leaves words) m)) (sym (add-one leaf));
         small = omega (arith, so-far .small, share-small m size share few (lies .1) shares);
       }
@@ -142,12 +142,12 @@ module _ (leaves words : List ℕ) (placed : (k : ℕ) → k < leafCount leaves 
 -- rules 9 to 12 from the quick look
 pub code-kept : (leaves words : List ℕ) (m : ℕ) → 0 < m → m ≤ 136 → ((k : ℕ) → k < leafCount leaves → leafAllowed leaves (length words) k ≡ true)
     → ((k : ℕ) → k < length words → getD words k 0 < m) → Numbered (codeOf leaves words) m → CodeKept leaves words m
-unfolding placeCheck indexCheck orderCheck coverCheck
+unfolding placeCheck wordIndexCheck orderCheck coverCheck
 code-kept leaves words m input few placed inputs is =
     record {
       some = some-leaf (codeOf leaves words) m input is;
       nine = ap number (judge-kept 9 (λ k. k) (leafAllowed leaves (length words)) (leafCount leaves) (leafCount leaves) (sym (scan-all _ 0 (leafCount leaves) (λ k l h. placed k (omega arith)) ∙ zero-add _)) (omega arith));
-      ten = ap number (judge-kept 10 (λ i. i) (indexAllowed words m) (length words) (length words) (sym (scan-all _ 0 (length words) (λ k l h. lt-ltb _ _ (inputs k (omega arith))) ∙ zero-add _)) (omega arith));
+      ten = ap number (judge-kept 10 (λ i. i) (wordIndexAllowed words m) (length words) (length words) (sym (scan-all _ 0 (length words) (λ k l h. lt-ltb _ _ (inputs k (omega arith))) ∙ zero-add _)) (omega arith));
       eleven = ap number (judge-kept 11 (λ k. k + 1) (orderAllowed leaves words) (leafCount leaves - 1) (leafCount leaves - 1) (sym (scan-all _ 0 (leafCount leaves - 1) (λ k l h. order-holds leaves words k (order k (omega arith))) ∙ zero-add _)) (omega arith));
       twelve = ap number (once-kept 12 (λ k. k) _ (all (covered c m 8 0 0 (leafCount leaves)) refl));
     }

@@ -11,13 +11,13 @@ sum f (suc n) = sum f n + f n
 
 module _ {A : Type 0} (c : Code A) where
   -- the word of leaf k with zeros behind it, a byte to a digit
-  abbrev pub numberOf : ℕ → ℕ
-  numberOf k = aligned 256 (c .digit k) (c .size k)
+  abbrev pub wordNumberOf : ℕ → ℕ
+  wordNumberOf k = aligned 256 (c .digit k) (c .size k)
 
   -- the least number above all strings of eight bytes that begin with the leaf before
   unfoldable pub floorOf : ℕ → ℕ
   floorOf zero = 0
-  floorOf (suc k) = numberOf k + 256 ^ (8 - c .size k)
+  floorOf (suc k) = wordNumberOf k + 256 ^ (8 - c .size k)
 
   -- how many strings of eight of m input digits begin with leaf k
   abbrev pub stringsOf : ℕ → ℕ → ℕ
@@ -25,5 +25,5 @@ module _ {A : Type 0} (c : Code A) where
 
   -- each word is above the one before, and all strings of eight begin with some leaf, by their count
   pub record Numbered (m : ℕ) : Type 0 where
-    pub rising : (k : ℕ) → k < c .leaves → floorOf k ≤ numberOf k
+    pub rising : (k : ℕ) → k < c .leaves → floorOf k ≤ wordNumberOf k
     pub whole : sum (stringsOf m) (c .leaves) ≡ m ^ 8

@@ -22,7 +22,7 @@ use Rattle.numeration.specs.Code.{Code, Below, Inputs, Precedes, HasLeaf}
 use Rattle.numeration.proofs.Leaves.{precedes-sound, precedes-complete, getD-inputs}
 use Rattle.leaf_rules.specs.Leaf.{leafCount, wordLength, weightOf, codeOf}
 use Rattle.prefix_rules.specs.Coverage.{covered}
-use Rattle.prefix_rules.specs.Check.{leafAllowed, placeCheck, indexAllowed, indexCheck, orderAllowed, orderCheck, coverCheck, zeroCheck, leafCheck}
+use Rattle.prefix_rules.specs.Check.{leafAllowed, placeCheck, wordIndexAllowed, wordIndexCheck, orderAllowed, orderCheck, coverCheck, zeroCheck, leafCheck}
 use Rattle.prefix_rules.specs.Broken.{Broken9, Broken10, Broken11, Broken12, Broken13, leafRules}
 use Rattle.prefix_rules.proofs.Place.{leaf-says, leaf-fails, leaf-refuted}
 use Rattle.prefix_rules.proofs.Strings.{covered-sound, covered-complete}
@@ -63,10 +63,10 @@ module _ (leaves words : List ℕ) (m : ℕ) where
       (λ p b. (b .0, λ t. leaf-refuted leaves words p (leaf-says leaves (length words) p t) b)) (leaf-fails leaves words)
 
   -- rule 10
-  index-decided : Decided (rule 10 (Broken10 words m) ∷ []) (indexCheck words m)
-  unfolding indexCheck
+  index-decided : Decided (rule 10 (Broken10 words m) ∷ []) (wordIndexCheck words m)
+  unfolding wordIndexCheck
   index-decided =
-      places-decided (rule 10 (Broken10 words m)) (indexAllowed words m) (length words) (omega arith)
+      places-decided (rule 10 (Broken10 words m)) (wordIndexAllowed words m) (length words) (omega arith)
       (λ p b. (b .0, λ t. b .1 (ltb-true _ _ t))) (λ p l t. (l, λ h. omega (arith, ltb-false (getD words p 0) m t)))
 
   -- where rules 9 and 11 are kept

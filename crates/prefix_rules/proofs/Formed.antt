@@ -12,10 +12,10 @@ use Rattle.ring.proofs.Element.{same→≡}
 use Rattle.numeration.specs.Code.{Code, Agree, Inputs, Precedes, Separate, HasLeaf, OrderedCode, PrefixCode, leafOf, depth}
 use Rattle.numeration.proofs.Leaves.{ordered-separate, leafOf-unique, leafOf-ext, size-depth, depth-reached, prefix-code, getD-inputs}
 use Rattle.leaf_rules.specs.Leaf.{leafCount, wordStart, wordLength, codeOf}
-use Rattle.prefix_rules.specs.Check.{leafAllowed, placeCheck, indexAllowed, indexCheck, orderAllowed, orderCheck, coverCheck, zeroCheck, leafCheck}
+use Rattle.prefix_rules.specs.Check.{leafAllowed, placeCheck, wordIndexAllowed, wordIndexCheck, orderAllowed, orderCheck, coverCheck, zeroCheck, leafCheck}
 use Rattle.leaf_rules.specs.Window.{digits, LookedUp}
 use Rattle.prefix_rules.specs.Broken.{Broken12}
-use Rattle.prefix_rules.specs.Formed.{OneLeaf, Formed}
+use Rattle.prefix_rules.specs.Formed.{OneLeaf, LeavesFormed}
 use Rattle.prefix_rules.proofs.Place.{Placed, leaf-says, leaf-refuted, follows-expected}
 use Rattle.prefix_rules.proofs.Broken.{strings-say, order-says, leaves-exact}
 
@@ -24,11 +24,11 @@ one-leaf : {A : Type 0} (c : Code A) → Separate c → (w : ℕ → ℕ) → Ha
 one-leaf c apart w (k, h, b) = (k, h, b, λ l i d. sym (leafOf-unique c apart w l i d) ∙ leafOf-unique c apart w k h b)
 
 module _ (leaves words : List ℕ) (m : ℕ) (input : 0 < m) where
-  pub formed : leafCheck leaves words m .number ≡ 0 → Formed leaves words m
-  unfolding leafCheck placeCheck indexCheck orderCheck coverCheck zeroCheck
+  pub formed : leafCheck leaves words m .number ≡ 0 → LeavesFormed leaves words m
+  unfolding leafCheck placeCheck wordIndexCheck orderCheck coverCheck zeroCheck
   formed h =
       let a = then-kept (placeCheck leaves words) _ h in
-      let b = then-kept (indexCheck words m) _ (a .1) in
+      let b = then-kept (wordIndexCheck words m) _ (a .1) in
       let d = then-kept (orderCheck leaves words) _ (b .1) in
       let e = then-kept (coverCheck leaves words m) (zeroCheck leaves) (d .1) in
       let placed : (k : ℕ) → k < leafCount leaves → Placed leaves (length words) k = λ k l. leaf-says leaves (length words) k (judge-passed 9 (λ k. k) (leafAllowed leaves (length words)) (leafCount leaves) (omega arith) (a .0) k l) in
@@ -40,14 +40,14 @@ module _ (leaves words : List ℕ) (m : ℕ) (input : 0 < m) where
         follows = λ k l. follows-expected leaves k .1 (placed k l .follows);
         inside = λ k l. placed k l .inside;
         last = λ k l. placed k (omega arith) .last (omega arith);
-        indexes = λ i l. ltb-true _ _ (judge-passed 10 (λ i. i) (indexAllowed words m) (length words) (omega arith) (b .0) i l);
+        indexes = λ i l. ltb-true _ _ (judge-passed 10 (λ i. i) (wordIndexAllowed words m) (length words) (omega arith) (b .0) i l);
         ordered = ordered;
         separate = separate;
         strings = λ s long inputs. one-leaf (codeOf leaves words) separate (digits s) (strings-say (codeOf leaves words) m input (judge-passed 12 _ _ 1 (omega arith) (e .0) 0 (omega arith)) s inputs);
         zero-first = same→≡ _ _ (judge-passed 13 _ _ 1 (omega arith) (e .1) 0 (omega arith));
       }
 
-  module _ (is : Formed leaves words m) where
+  module _ (is : LeavesFormed leaves words m) where
     pub formed-passes : leafCheck leaves words m ≡ none
     formed-passes =
         leaves-exact leaves words m input .passed .1 (λ p b. leaf-refuted leaves words p (placed p (b .0)) b, (λ p b. b .1 (is .indexes p (b .0)), (λ p b. b .3 (is .ordered (b .0) (b .2)), (unbegun, (λ p b. b .1 (is .zero-first), tt)))))

@@ -10,15 +10,15 @@ use lib.Dec.{leb, ltb, eqb}
 use borrow.Author.Tests.{lt-ltb, le-ltb, le-leb, lt-leb, eq-eqb, ne-eqb, ltb-true, ltb-false, leb-true, leb-false, eqb-true, eqb-false}
 use Rattle.lists.proofs.Test.{both, either, not-both, neither}
 use Rattle.leaf_rules.specs.Leaf.{leafCount, wordStart, wordLength, wordEnd}
-use Rattle.prefix_rules.specs.Check.{expectedStart, leafAllowed}
-use Rattle.prefix_rules.specs.Broken.{Follows, Broken9}
+use Rattle.prefix_rules.specs.Check.{expectedWordStart, leafAllowed}
+use Rattle.prefix_rules.specs.Broken.{WordFollows, Broken9}
 
-pub expected-first : (leaves : List ℕ) (k : ℕ) → k ≡ 0 → 0 ≡ expectedStart leaves k
-unfolding expectedStart
+pub expected-first : (leaves : List ℕ) (k : ℕ) → k ≡ 0 → 0 ≡ expectedWordStart leaves k
+unfolding expectedWordStart
 expected-first leaves k h = rw h
 
-pub expected-next : (leaves : List ℕ) (k : ℕ) → (k ≡ 0 → ⊥) → expectedStart leaves k ≡ wordEnd leaves (k - 1)
-unfolding expectedStart
+pub expected-next : (leaves : List ℕ) (k : ℕ) → (k ≡ 0 → ⊥) → expectedWordStart leaves k ≡ wordEnd leaves (k - 1)
+unfolding expectedWordStart
 expected-next leaves zero h = absurd (h refl)
 expected-next leaves (suc k) h = ap (wordEnd leaves) (omega arith)
 
@@ -32,11 +32,11 @@ module _ (leaves : List ℕ) (n k start size : ℕ) (starts : start ≡ wordStar
   unfolding leafAllowed
   leaf-long l h = rw (le-leb 1 (wordLength leaves k) (rw sizes at l), lt-leb (wordLength leaves k) 8 (rw sizes at h))
 
-  module _ (low : 1 ≤ size) (high : size ≤ 8) (expected : ℕ) (expects : expected ≡ expectedStart leaves k) where
+  module _ (low : 1 ≤ size) (high : size ≤ 8) (expected : ℕ) (expects : expected ≡ expectedWordStart leaves k) where
     pub leaf-elsewhere : (start ≡ expected → ⊥) → false ≡ leafAllowed leaves n k
     unfolding leafAllowed
     leaf-elsewhere h =
-        rw (le-leb 1 (wordLength leaves k) (rw sizes at low), le-leb (wordLength leaves k) 8 (rw sizes at high), ne-eqb (wordStart leaves k) (expectedStart leaves k) (λ q. h (starts ∙ q ∙ sym expects)))
+        rw (le-leb 1 (wordLength leaves k) (rw sizes at low), le-leb (wordLength leaves k) 8 (rw sizes at high), ne-eqb (wordStart leaves k) (expectedWordStart leaves k) (λ q. h (starts ∙ q ∙ sym expects)))
 
     module _ (follows : start ≡ expected) where
       pub leaf-past : n < start + size → false ≡ leafAllowed leaves n k
@@ -58,7 +58,7 @@ module _ (leaves : List ℕ) (n k start size : ℕ) (starts : start ≡ wordStar
 pub record Placed (leaves : List ℕ) (n k : ℕ) : Type 0 where
   pub some : 1 ≤ wordLength leaves k
   pub short : wordLength leaves k ≤ 8
-  pub follows : wordStart leaves k ≡ expectedStart leaves k
+  pub follows : wordStart leaves k ≡ expectedWordStart leaves k
   pub inside : wordEnd leaves k ≤ n
   pub last : leafCount leaves ≤ k + 1 → wordEnd leaves k ≡ n
 
@@ -67,7 +67,7 @@ unfolding leafAllowed
 leaf-says leaves n k t =
     let a : ((leb 1 (wordLength leaves k) && leb (wordLength leaves k) 8) ≡ true) × _ = both _ _ t in
     let b : (leb 1 (wordLength leaves k) ≡ true) × (leb (wordLength leaves k) 8 ≡ true) = both _ _ (a .0) in
-    let d : (eqb (wordStart leaves k) (expectedStart leaves k) ≡ true) × _ = both _ _ (a .1) in
+    let d : (eqb (wordStart leaves k) (expectedWordStart leaves k) ≡ true) × _ = both _ _ (a .1) in
     let e : (leb (wordEnd leaves k) n ≡ true) × _ = both _ _ (d .1) in
     record {
       some = leb-true _ _ (b .0);
@@ -80,8 +80,8 @@ leaf-says leaves n k t =
     not-before : leafCount leaves ≤ k + 1 → k + 1 < leafCount leaves → ⊥
     not-before l s = omega arith
 
-pub follows-expected : (leaves : List ℕ) (k : ℕ) → Follows leaves k ↔ (wordStart leaves k ≡ expectedStart leaves k)
-unfolding expectedStart
+pub follows-expected : (leaves : List ℕ) (k : ℕ) → WordFollows leaves k ↔ (wordStart leaves k ≡ expectedWordStart leaves k)
+unfolding expectedWordStart
 follows-expected leaves zero = (λ e. e, λ e. e)
 follows-expected leaves (suc k) = (λ e. e, λ e. e)
 

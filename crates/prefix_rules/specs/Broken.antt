@@ -11,9 +11,9 @@ use Rattle.numeration.specs.Code.{Inputs, Precedes, HasLeaf}
 use Rattle.leaf_rules.specs.Leaf.{leafCount, wordStart, wordLength, wordEnd, weightOf, codeOf}
 
 -- its offset is the previous end, 0 for the first
-abbrev pub Follows : List ℕ → ℕ → Type 0
-Follows leaves zero = wordStart leaves 0 ≡ 0
-Follows leaves (suc k) = wordStart leaves (suc k) ≡ wordEnd leaves k
+abbrev pub WordFollows : List ℕ → ℕ → Type 0
+WordFollows leaves zero = wordStart leaves 0 ≡ 0
+WordFollows leaves (suc k) = wordStart leaves (suc k) ≡ wordEnd leaves k
 
 -- 9: a leaf's length is outside 1 to 8, its offset isn't the previous end (0 for the first), its end passes section 4, or the last
 -- leaf doesn't end it (leaf)
@@ -21,7 +21,7 @@ abbrev pub Broken9 : List ℕ → List ℕ → ℕ → Type 0
 Broken9 leaves words p =
     (p < leafCount leaves)
     × (((wordLength leaves p < 1) ⊎ (8 < wordLength leaves p))
-    ⊎ ¬ (Follows leaves p)
+    ⊎ ¬ (WordFollows leaves p)
     ⊎ (length words < wordEnd leaves p)
     ⊎ ((p + 1 ≡ leafCount leaves) × ¬ (wordEnd leaves p ≡ length words)))
 

@@ -13,27 +13,27 @@ use Rattle.leaf_rules.specs.Leaf.{leafCount, wordStart, wordLength, wordEnd, we
 use Rattle.prefix_rules.specs.Coverage.{covered}
 
 -- where the word of leaf k must start: at 0, or where the one before ends
-unfoldable pub expectedStart : List ℕ → ℕ → ℕ
-expectedStart leaves zero = 0
-expectedStart leaves (suc k) = wordEnd leaves k
+unfoldable pub expectedWordStart : List ℕ → ℕ → ℕ
+expectedWordStart leaves zero = 0
+expectedWordStart leaves (suc k) = wordEnd leaves k
 
 -- 9: a leaf's length is outside 1 to 8, its offset isn't the previous end, its end passes section 4 of n bytes, or the last leaf
 -- doesn't end it
 unfoldable pub leafAllowed : List ℕ → ℕ → ℕ → Bool
 leafAllowed leaves n k =
     (leb 1 (wordLength leaves k) && leb (wordLength leaves k) 8)
-    && (eqb (wordStart leaves k) (expectedStart leaves k)
+    && (eqb (wordStart leaves k) (expectedWordStart leaves k)
     && (leb (wordEnd leaves k) n && (ltb (k + 1) (leafCount leaves) || eqb (wordEnd leaves k) n)))
 
 unfoldable pub placeCheck : List ℕ → List ℕ → Refusal
 placeCheck leaves words = judge 9 (λ k. k) (leafAllowed leaves (length words)) (leafCount leaves)
 
 -- 10: a word byte is no input index
-abbrev pub indexAllowed : List ℕ → ℕ → ℕ → Bool
-indexAllowed words m i = ltb (getD words i 0) m
+abbrev pub wordIndexAllowed : List ℕ → ℕ → ℕ → Bool
+wordIndexAllowed words m i = ltb (getD words i 0) m
 
-unfoldable pub indexCheck : List ℕ → ℕ → Refusal
-indexCheck words m = judge 10 (λ i. i) (indexAllowed words m) (length words)
+unfoldable pub wordIndexCheck : List ℕ → ℕ → Refusal
+wordIndexCheck words m = judge 10 (λ i. i) (wordIndexAllowed words m) (length words)
 
 -- 11: a leaf's word isn't above the previous one, or one of the two begins the other
 abbrev pub orderAllowed : List ℕ → List ℕ → ℕ → Bool
@@ -54,7 +54,7 @@ zeroCheck leaves = judge 13 (λ k. k) (λ _. same (weightOf leaves 0) (zeros deg
 unfoldable pub leafCheck : List ℕ → List ℕ → ℕ → Refusal
 leafCheck leaves words m =
     placeCheck leaves words
-    then indexCheck words m
+    then wordIndexCheck words m
     then orderCheck leaves words
     then coverCheck leaves words m
     then zeroCheck leaves

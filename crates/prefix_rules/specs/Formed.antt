@@ -7,17 +7,17 @@ use Rattle.ring.specs.Element.{zeros}
 use Rattle.layout_rules.specs.Section.{degree}
 use Rattle.numeration.specs.Code.{Code, Inputs, Begins, Precedes, Separate}
 use Rattle.leaf_rules.specs.Leaf.{leafCount, wordLength, wordEnd, weightOf, codeOf}
-use Rattle.prefix_rules.specs.Broken.{Follows}
+use Rattle.prefix_rules.specs.Broken.{WordFollows}
 
 -- exactly one leaf begins a string
 abbrev pub OneLeaf : {A : Type 0} → Code A → (ℕ → ℕ) → Type 0
 OneLeaf c w = (k : ℕ) × (k < c .leaves) × Begins c k w × ((l : ℕ) → l < c .leaves → Begins c l w → l ≡ k)
 
-pub record Formed (leaves words : List ℕ) (m : ℕ) : Type 0 where
+pub record LeavesFormed (leaves words : List ℕ) (m : ℕ) : Type 0 where
   -- "Leaf words are 1 to 8 long and follow one another in section 4 without gaps"
   pub some : (k : ℕ) → k < leafCount leaves → 1 ≤ wordLength leaves k
   pub short : (k : ℕ) → k < leafCount leaves → wordLength leaves k ≤ 8
-  pub follows : (k : ℕ) → k < leafCount leaves → Follows leaves k
+  pub follows : (k : ℕ) → k < leafCount leaves → WordFollows leaves k
   pub inside : (k : ℕ) → k < leafCount leaves → wordEnd leaves k ≤ length words
   pub last : (k : ℕ) → k + 1 ≡ leafCount leaves → wordEnd leaves k ≡ length words
   -- "Words: 1 to 32,000 bytes, each the index of an input digit"

@@ -6,7 +6,7 @@ ghost use lib.ListN.{length};
 ghost use Rattle.numeration.specs.Code as code;
 ghost use Rattle.leaf_rules.specs.Leaf.{leafCount, codeOf};
 ghost use Rattle.prefix_rules.specs.Coverage as coverage;
-ghost use Rattle.prefix_rules.specs.Check.{expectedStart, leafAllowed, placeCheck, indexCheck, orderCheck, coverCheck, zeroCheck, leafCheck};
+ghost use Rattle.prefix_rules.specs.Check.{expectedWordStart, leafAllowed, placeCheck, wordIndexCheck, orderCheck, coverCheck, zeroCheck, leafCheck};
 use faults::Refusal;
 
 // The most digits of a word.
@@ -15,7 +15,7 @@ const LONGEST: usize = 8;
 // Where a leaf's word must start: at 0, or where the one before ends.
 fn expected_start(leaves: &[u8], leaf: usize) -> usize
     requires { ⌜ leaf < leafCount (now leaves) ⌝ }
-    ensures { λ r. ⌜ r ≡ expectedStart (now (leaves .entry)) leaf ⌝ }
+    ensures { λ r. ⌜ r ≡ expectedWordStart (now (leaves .entry)) leaf ⌝ }
 {
     if leaf == 0 {
         0
@@ -72,7 +72,7 @@ fn places(leaves: &[u8], words: &[u8]) -> Refusal
 
 // Rule 10: every word byte is an input index.
 fn indexes(words: &[u8], inputs: usize) -> Refusal
-    ensures { λ r. ⌜ r ≡ indexCheck (now (words .entry)) inputs ⌝ }
+    ensures { λ r. ⌜ r ≡ wordIndexCheck (now (words .entry)) inputs ⌝ }
 {
     let mut i = 0;
     while i < words.len() {

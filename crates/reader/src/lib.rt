@@ -3,7 +3,7 @@ ghost use mathlib.Core.Path.{_≡_};
 ghost use Prim.Native.Nat.{_<_};
 ghost use Rattle.layout_rules.specs.Directory.{directoryCheck};
 ghost use Rattle.layout_rules.specs.Section.{partOf};
-ghost use Rattle.reader_rules.specs.Table.{layoutCheck, digitsOf, leavesOf, tableCheck, partFacts, tableFacts, readAs, readOutcome};
+ghost use Rattle.reader_rules.specs.Table.{layoutCheck, digitCheckOf, leafCheckOf, tableCheck, partFacts, tableFacts, readAs, readOutcome};
 use faults::Fault;
 use faults::Refusal;
 use reader_rules::Part;
@@ -38,7 +38,7 @@ fn layout_rules(file: &[u8]) -> Refusal
 // Rules 5 to 8, each section handed on as its part of the file.
 fn digit_rules(file: &[u8]) -> Refusal
     requires { ⌜ layoutCheck (now file) .number ≡ 0 ⌝ }
-    ensures { λ r. ⌜ r ≡ digitsOf (now (file .entry)) ⌝ }
+    ensures { λ r. ⌜ r ≡ digitCheckOf (now (file .entry)) ⌝ }
 {
     digit_check::digits(section(file, 0), section(file, 1), section(file, 2))
 }
@@ -46,7 +46,7 @@ fn digit_rules(file: &[u8]) -> Refusal
 // Rules 9 to 13.
 fn leaf_rules(file: &[u8]) -> Refusal
     requires { ⌜ layoutCheck (now file) .number ≡ 0 ⌝ }
-    ensures { λ r. ⌜ r ≡ leavesOf (now (file .entry)) ⌝ }
+    ensures { λ r. ⌜ r ≡ leafCheckOf (now (file .entry)) ⌝ }
 {
     let inputs = layout::record_count(section(file, 2), 2);
     prefix_code::prefix_code(section(file, 3), section(file, 4), inputs)

@@ -15,7 +15,7 @@ use Rattle.layout_rules.proofs.Broken.{layout-decided}
 use Rattle.digit_rules.specs.Record.{elementCount}
 use Rattle.digit_rules.proofs.Broken.{digits-decided}
 use Rattle.prefix_rules.proofs.Broken.{leaves-decided}
-use Rattle.reader_rules.specs.Table.{basePart, alphabetPart, inputPart, leafPart, wordPart, layoutCheck, digitsOf, leavesOf, tableCheck, tableFacts, readOutcome}
+use Rattle.reader_rules.specs.Table.{basePart, alphabetPart, inputPart, leafPart, wordPart, layoutCheck, digitCheckOf, leafCheckOf, tableCheck, tableFacts, readOutcome}
 use Rattle.reader_rules.specs.Broken.{layoutRules, tableRules}
 use Rattle.reader_rules.proofs.Kept.{no-number, layout-kept}
 
@@ -29,7 +29,7 @@ unfolding layoutCheck
 layout-found file = layout-decided file
 
 pub table-decided : (file : List ℕ) → Decided (tableRules file) (tableCheck file)
-unfolding tableCheck digitsOf leavesOf
+unfolding tableCheck digitCheckOf leafCheckOf
 table-decided file =
     then-decided _ _ _ _ (layout-found file)
     (λ kept. then-decided _ _ _ _ (digits-decided (basePart file) (alphabetPart file) (inputPart file))

@@ -26,7 +26,7 @@ use Rattle.digit_rules.proofs.Record.{element-part}
 use Rattle.digit_rules.proofs.Passed.{element-within, records-within}
 use Rattle.digit_rules.proofs.Formed.{formed as digits-formed, formed-passes as digits-pass}
 use Rattle.prefix_rules.proofs.Formed.{formed as leaves-formed, formed-passes as leaves-pass}
-use Rattle.reader_rules.specs.Table.{basePart, alphabetPart, inputPart, leafPart, wordPart, layoutCheck, digitsOf, leavesOf, tableCheck, tableFacts, readOutcome}
+use Rattle.reader_rules.specs.Table.{basePart, alphabetPart, inputPart, leafPart, wordPart, layoutCheck, digitCheckOf, leafCheckOf, tableCheck, tableFacts, readOutcome}
 use Rattle.reader_rules.specs.Formed.{WellFormed}
 use Rattle.reader_rules.proofs.Kept.{no-number, layout-kept, table-kept}
 use Rattle.reader_rules.proofs.Broken.{some-input, layout-found, table-exact, reader-exact}
@@ -42,7 +42,7 @@ module _ (file : List ℕ) where
       rw (length-named section l) at (length-means section _ l .0 (judge-passed 3 (λ k. k) (sectionAllowed (sectionLengths file)) 5 (omega arith) h section l))
 
   pub formed : tableCheck file .number ≡ 0 → WellFormed file
-  unfolding digitsOf leavesOf
+  unfolding digitCheckOf leafCheckOf
   formed h =
       let stages = table-kept file h in
       let kept = layout-kept file (stages .0) in
@@ -116,10 +116,10 @@ module _ (file : List ℕ) where
     layout-passes = exact _ _ (layout-found file) .passed .1 (sizes-kept, (pairs-kept, (λ p b. b .1 (rw (length-named p (b .0)) (is .lengths p (b .0))), (limits-kept, tt))))
 
     pub passes : tableCheck file ≡ none
-    unfolding tableCheck digitsOf leavesOf
+    unfolding tableCheck digitCheckOf leafCheckOf
     passes =
         then-next (layoutCheck file) _ (no-number _ layout-passes)
-        ∙ then-next (digitsOf file) _ (no-number _ (digits-pass (basePart file) (alphabetPart file) (inputPart file) (is .digits)))
+        ∙ then-next (digitCheckOf file) _ (no-number _ (digits-pass (basePart file) (alphabetPart file) (inputPart file) (is .digits)))
         ∙ leaves-pass (leafPart file) (wordPart file) (elementCount (inputPart file)) (some-input file (no-number _ layout-passes)) (is .leaves)
 
 -- Well formed: exactly where rules 1 to 13 find nothing, and so where the reader answers the facts

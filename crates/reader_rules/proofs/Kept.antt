@@ -17,7 +17,7 @@ use Rattle.digit_rules.specs.Base.{BasePart}
 use Rattle.digit_rules.specs.Record.{elementCount}
 use Rattle.digit_rules.proofs.Passed.{base-ready}
 use Rattle.prefix_rules.specs.Check.{leafCheck}
-use Rattle.reader_rules.specs.Table.{basePart, inputPart, leafPart, wordPart, layoutCheck, digitsOf, leavesOf, tableCheck}
+use Rattle.reader_rules.specs.Table.{basePart, inputPart, leafPart, wordPart, layoutCheck, digitCheckOf, leafCheckOf, tableCheck}
 
 -- what a stage that found nothing says of its definition
 pub stage-nothing : (found a : Refusal) → found ≡ a → found .number ≡ 0 → a .number ≡ 0
@@ -35,11 +35,11 @@ layout-kept file h =
     (first .0, rest .0, rest .1)
 
 -- rules 1 to 4, 5 to 8, and 9 to 13, each found nothing
-pub table-kept : (file : List ℕ) → tableCheck file .number ≡ 0 → (layoutCheck file .number ≡ 0) × (digitsOf file .number ≡ 0) × (leavesOf file .number ≡ 0)
+pub table-kept : (file : List ℕ) → tableCheck file .number ≡ 0 → (layoutCheck file .number ≡ 0) × (digitCheckOf file .number ≡ 0) × (leafCheckOf file .number ≡ 0)
 unfolding tableCheck
 table-kept file h =
-    let first = then-kept (layoutCheck file) (digitsOf file then leavesOf file) h in
-    let rest = then-kept (digitsOf file) (leavesOf file) (first .1) in
+    let first = then-kept (layoutCheck file) (digitCheckOf file then leafCheckOf file) h in
+    let rest = then-kept (digitCheckOf file) (leafCheckOf file) (first .1) in
     (first .0, rest .0, rest .1)
 
 pub directory-room : (file : List ℕ) → directoryCheck file .number ≡ 0 → 20 ≤ length file
@@ -55,7 +55,7 @@ pub record Sections (file : List ℕ) : Type 0 where
   pub leaves : leafCheck (leafPart file) (wordPart file) (elementCount (inputPart file)) .number ≡ 0
 
 pub sections : (file : List ℕ) → tableCheck file .number ≡ 0 → Sections file
-unfolding leavesOf
+unfolding leafCheckOf
 sections file h =
     let kept = table-kept file h in
     let laid = layout-kept file (kept .0) in

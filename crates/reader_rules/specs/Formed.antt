@@ -4,12 +4,12 @@ use mathlib.Core.List.{List}
 use Prim.Native.Nat.{ℕ, _<_, _≤_}
 use lib.ListN.{length}
 use Rattle.layout_rules.specs.Section.{sectionLength, sectionEnd}
-use Rattle.layout_rules.specs.Broken.{Follows, Allowed}
+use Rattle.layout_rules.specs.Broken.{PairFollows, Allowed}
 use Rattle.ring.specs.Element.{Within}
 use Rattle.digit_rules.specs.Record.{RecordsWithin, elementCount}
-use Rattle.digit_rules.specs.Formed.{Formed as DigitsFormed}
+use Rattle.digit_rules.specs.Formed.{DigitsFormed}
 use Rattle.leaf_rules.specs.Leaf.{leafCount, weightOf}
-use Rattle.prefix_rules.specs.Formed.{Formed as LeavesFormed}
+use Rattle.prefix_rules.specs.Formed.{LeavesFormed}
 use Rattle.reader_rules.specs.Table.{basePart, alphabetPart, inputPart, leafPart, wordPart}
 
 pub record WellFormed (file : List ℕ) : Type 0 where
@@ -17,7 +17,7 @@ pub record WellFormed (file : List ℕ) : Type 0 where
   pub low : 20 ≤ length file
   pub high : length file ≤ 65535
   -- "The first offset is 20, each next offset is the end of the pair before"
-  pub follows : (section : ℕ) → section < 5 → Follows file section
+  pub follows : (section : ℕ) → section < 5 → PairFollows file section
   -- each section is "part of the file", "and the last end is the file's length"
   pub inside : (section : ℕ) → section < 5 → sectionEnd file section ≤ length file
   pub last : sectionEnd file 4 ≡ length file

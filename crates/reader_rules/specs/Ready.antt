@@ -8,7 +8,7 @@ use Rattle.layout_rules.specs.Section.{degree}
 use Rattle.ring.specs.Element.{zeros}
 use Rattle.digit_rules.specs.Record.{recordAt, elementCount}
 use Rattle.digit_rules.specs.Base.{BasePart, baseMatrix}
-use Rattle.numeration.specs.Group.{Operations, Group}
+use Rattle.numeration.specs.Group.{Operations, AdditiveGroup}
 use Rattle.numeration.specs.Elements.{elements, HasParts}
 use Rattle.numeration.specs.Code.{Code, Agree, Inputs, OrderedCode, PrefixCode, leafOf}
 use Rattle.numeration.specs.Conversion.{InGroup}
@@ -44,7 +44,7 @@ pub record Ready (file : List ℕ) : Type 0 where
   -- group with an additive map
   pub code : PrefixCode (leavesIn file) (inputCount file)
   pub ordered-code : OrderedCode (leavesIn file) 8 (inputCount file)
-  pub group : Group (operationsOf file) (HasParts degree)
+  pub group : AdditiveGroup (operationsOf file) (HasParts degree)
   pub in-group : InGroup (operationsOf file) (HasParts degree) (recordAt (inputPart file)) (leavesIn file)
   -- "Record 0 of sections 1 and 2 is the digit zero", "Leaf 0 has the weight zero"
   pub alphabet-zero : recordAt (alphabetPart file) 0 ≡ zeros degree

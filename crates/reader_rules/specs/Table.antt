@@ -39,14 +39,14 @@ wordPart file = partOf file 4
 unfoldable pub layoutCheck : List ℕ → Refusal
 layoutCheck file = directoryCheck file then lengthCheck (sectionLengths file) then limitCheck file
 
-unfoldable pub digitsOf : List ℕ → Refusal
-digitsOf file = digitCheck (basePart file) (alphabetPart file) (inputPart file)
+unfoldable pub digitCheckOf : List ℕ → Refusal
+digitCheckOf file = digitCheck (basePart file) (alphabetPart file) (inputPart file)
 
-unfoldable pub leavesOf : List ℕ → Refusal
-leavesOf file = leafCheck (leafPart file) (wordPart file) (elementCount (inputPart file))
+unfoldable pub leafCheckOf : List ℕ → Refusal
+leafCheckOf file = leafCheck (leafPart file) (wordPart file) (elementCount (inputPart file))
 
 unfoldable pub tableCheck : List ℕ → Refusal
-tableCheck file = layoutCheck file then digitsOf file then leavesOf file
+tableCheck file = layoutCheck file then digitCheckOf file then leafCheckOf file
 
 -- where a section lies, and how many records it has
 unfoldable pub partFacts : List ℕ → ℕ → Part

@@ -4,7 +4,7 @@ ghost use lib.ListN.{length};
 ghost use Prim.Native.Nat.{_≤_, _<_};
 ghost use Rattle.lists.specs.Overwrite.{overwrite};
 ghost use Rattle.reader_rules.specs.Table.{tableCheck};
-ghost use Rattle.table_rules.specs.Check.{pairsOf, checkOutcome};
+ghost use Rattle.table_rules.specs.Check.{pairCheckOf, checkOutcome};
 ghost use Rattle.table.specs.Answer.{outcomeOf};
 ghost use Rattle.table.specs.Line.{acceptedLine, refusedLine, lineCount, lineInto};
 use faults::Fault;
@@ -20,7 +20,7 @@ pub enum Checked {
 // Rule 14 of a file that passes 1 to 13.
 fn file_pairs(file: &[u8]) -> Refusal
     requires { ⌜ tableCheck (now file) .number ≡ 0 ⌝ }
-    ensures { λ r. ⌜ r ≡ pairsOf (now (file .entry)) ⌝ }
+    ensures { λ r. ⌜ r ≡ pairCheckOf (now (file .entry)) ⌝ }
 {
     pairs::pairs(
         reader::section(file, 0),

@@ -33,7 +33,7 @@ use Rattle.reader_rules.proofs.Broken.{table-decided}
 use Rattle.reader_rules.proofs.Formed.{well-formed}
 use Rattle.reader_rules.proofs.Ready.{ready-passed}
 use Rattle.table_rules.specs.Pairs.{system, inAlphabet, pairCheck}
-use Rattle.table_rules.specs.Check.{pairsOf, checkFacts, checkOutcome}
+use Rattle.table_rules.specs.Check.{pairCheckOf, checkFacts, checkOutcome}
 use Rattle.table_rules.specs.Broken.{Broken14, checkRules, checkStages, RowsConverted}
 
 -- the alphabet's test says what it tests
@@ -95,12 +95,12 @@ module _ (base alphabet inputs leaves words : List ℕ) where
 -- ---- the file
 
 -- rules 1 to 14 as one check
-whole : (file : List ℕ) → checkOutcome file ≡ unless author (tableCheck file then pairsOf file) (facts (checkFacts file))
+whole : (file : List ℕ) → checkOutcome file ≡ unless author (tableCheck file then pairCheckOf file) (facts (checkFacts file))
 unfolding checkOutcome
-whole file = unless-then author (tableCheck file) (pairsOf file) (facts (checkFacts file))
+whole file = unless-then author (tableCheck file) (pairCheckOf file) (facts (checkFacts file))
 
-check-decided : (file : List ℕ) → Decided (checkRules file) (tableCheck file then pairsOf file)
-unfolding pairsOf
+check-decided : (file : List ℕ) → Decided (checkRules file) (tableCheck file then pairCheckOf file)
+unfolding pairCheckOf
 check-decided file =
     then-decided _ _ _ _ (table-decided file) (λ _. pairs-decided (basePart file) (alphabetPart file) (inputPart file) (leafPart file) (wordPart file))
 
@@ -108,28 +108,28 @@ check-decided file =
 -- place, and no rule before N is broken; else it accepts, with depth, leaf count and alphabet size.
 pub demand-1 : (file : List ℕ) → Answers (checkStages file) (checkFacts file) (checkOutcome file)
 demand-1 file =
-    subst (Answers (checkStages file) (checkFacts file)) (sym (whole file)) (stage-answers author (checkRules file) (tableCheck file then pairsOf file) (checkFacts file) (check-decided file))
+    subst (Answers (checkStages file) (checkFacts file)) (sym (whole file)) (stage-answers author (checkRules file) (tableCheck file then pairCheckOf file) (checkFacts file) (check-decided file))
 
 -- Demand 2. For every list of bytes the outcome is accepted exactly when the file is well formed and every finite row of its input
 -- digits is converted into alphabet digits at every place.
 pub demand-2 : (file : List ℕ) → (checkOutcome file ≡ facts (checkFacts file)) ↔ (WellFormed file × RowsConverted file)
-unfolding pairsOf
+unfolding pairCheckOf
 demand-2 file = (to, from)
   where
     rows : tableCheck file .number ≡ 0 → PairsConvert (system (basePart file)) (recordAt (inputPart file)) (codeOf (leafPart file) (wordPart file)) (Listed (alphabetPart file)) ↔ RowsConverted file
     rows h =
         pairs-rows (system (basePart file)) (recordAt (inputPart file)) (codeOf (leafPart file) (wordPart file)) (elementCount (inputPart file)) (ready-passed file h .code) (Listed (alphabetPart file))
 
-    pairs : (pairsOf file .number ≡ 0) ↔ PairsConvert (system (basePart file)) (recordAt (inputPart file)) (codeOf (leafPart file) (wordPart file)) (Listed (alphabetPart file))
+    pairs : (pairCheckOf file .number ≡ 0) ↔ PairsConvert (system (basePart file)) (recordAt (inputPart file)) (codeOf (leafPart file) (wordPart file)) (Listed (alphabetPart file))
     pairs = pairs-convert (basePart file) (alphabetPart file) (inputPart file) (leafPart file) (wordPart file)
 
     to : checkOutcome file ≡ facts (checkFacts file) → WellFormed file × RowsConverted file
     to e =
-        let kept = then-kept (tableCheck file) (pairsOf file) (accepted-nothing author (tableCheck file then pairsOf file) (checkFacts file) (sym (whole file) ∙ e)) in
+        let kept = then-kept (tableCheck file) (pairCheckOf file) (accepted-nothing author (tableCheck file then pairCheckOf file) (checkFacts file) (sym (whole file) ∙ e)) in
         (well-formed file .1 (kept .0), rows (kept .0) .0 (pairs .0 (kept .1)))
 
     from : WellFormed file × RowsConverted file → checkOutcome file ≡ facts (checkFacts file)
     from w =
         let table = well-formed file .0 (w .0) in
         let pair = pairs .1 (rows table .1 (w .1)) in
-        whole file ∙ unless-none author (tableCheck file then pairsOf file) (facts (checkFacts file)) (ap (λ (r : Refusal). r .number) (then-next (tableCheck file) (pairsOf file) table) ∙ pair)
+        whole file ∙ unless-none author (tableCheck file then pairCheckOf file) (facts (checkFacts file)) (ap (λ (r : Refusal). r .number) (then-next (tableCheck file) (pairCheckOf file) table) ∙ pair)

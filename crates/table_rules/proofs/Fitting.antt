@@ -28,7 +28,7 @@ use Rattle.numeration.specs.Runs.{tailThenZeros, lowestFit}
 use Rattle.numeration.proofs.Agreement.{agree-sound, agree-complete}
 use Rattle.numeration.proofs.Runs.{run-first, run-below, run-on, unfit-passes, in-tail, behind-tail, string-inputs}
 use Rattle.leaf_rules.specs.Leaf.{leafCount, wordLength, weightOf, codeOf, wordGiven, weightGiven}
-use Rattle.prefix_rules.specs.Formed.{Formed}
+use Rattle.prefix_rules.specs.Formed.{LeavesFormed}
 use Rattle.leaf_rules.specs.Window.{digits, LookedUp}
 use Rattle.leaf_rules.proofs.Leaf.{word-length, word-digit, weight-there}
 use Rattle.prefix_rules.proofs.Formed.{complete-prefix-code, look-up-is}
@@ -41,7 +41,7 @@ upper-first matrix x below own =
     let other = negative (times matrix own) in
     plus-assoc x other below ∙ ap (plus x) (plus-comm other below) ∙ sym (plus-assoc x below other)
 
-module _ (leaves words : List ℕ) (m : ℕ) (input : 0 < m) (is : Formed leaves words m) where
+module _ (leaves words : List ℕ) (m : ℕ) (input : 0 < m) (is : LeavesFormed leaves words m) where
   -- a leaf's word as it is handed out
   long : (k : ℕ) → k < leafCount leaves → length (wordGiven leaves words k) ≡ wordLength leaves k
   long k h = word-length leaves words k h (is .inside k h)

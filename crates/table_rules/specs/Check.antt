@@ -9,8 +9,8 @@ use Rattle.table_rules.specs.declared.Facts.{Facts}
 use Rattle.table_rules.specs.Pairs.{pairCheck}
 
 -- rule 14 of a file
-unfoldable pub pairsOf : List ℕ → Refusal
-pairsOf file = pairCheck (basePart file) (alphabetPart file) (inputPart file) (leafPart file) (wordPart file)
+unfoldable pub pairCheckOf : List ℕ → Refusal
+pairCheckOf file = pairCheck (basePart file) (alphabetPart file) (inputPart file) (leafPart file) (wordPart file)
 
 -- h, leaf count and alphabet size
 unfoldable pub checkFacts : List ℕ → Facts
@@ -23,4 +23,4 @@ checkFacts file =
 
 -- for every list of bytes: refused by 1 to 13, refused by 14, or accepted
 unfoldable pub checkOutcome : List ℕ → Outcome Facts
-checkOutcome file = unless author (tableCheck file) (unless author (pairsOf file) (facts (checkFacts file)))
+checkOutcome file = unless author (tableCheck file) (unless author (pairCheckOf file) (facts (checkFacts file)))

@@ -17,7 +17,7 @@ use Rattle.digit_rules.specs.Record.{recordAt}
 use Rattle.leaf_rules.specs.Leaf.{weightGiven}
 use Rattle.table_rules.specs.Pairs.{inAlphabet}
 use Rattle.weight_sets.specs.Bits.{Has}
-use Rattle.weight_sets.specs.Weights.{Numbered, Covers, Good, Judged}
+use Rattle.weight_sets.specs.Weights.{WeightsNumbered, Covers, Good, Judged}
 use Rattle.weight_sets.proofs.Bits.{has-left, has-right, has-either, has-none}
 
 -- what holds of the first n entries holds of one more
@@ -30,12 +30,12 @@ entry-next P xs n v inside before now k h =
 
 -- ---- weight numbers
 
-module _ (leaves numbers first : List ℕ) (count leaf : ℕ) (before : Numbered leaves numbers first count leaf) (inside : leaf < length numbers) where
-  pub numbered-old : (number : ℕ) → number < count → weightGiven leaves (getD first number 0) ≡ weightGiven leaves leaf → Numbered leaves (set numbers leaf number) first count (leaf + 1)
+module _ (leaves numbers first : List ℕ) (count leaf : ℕ) (before : WeightsNumbered leaves numbers first count leaf) (inside : leaf < length numbers) where
+  pub numbered-old : (number : ℕ) → number < count → weightGiven leaves (getD first number 0) ≡ weightGiven leaves leaf → WeightsNumbered leaves (set numbers leaf number) first count (leaf + 1)
   numbered-old number h e =
       entry-next (λ k n. (n < count) × (weightGiven leaves (getD first n 0) ≡ weightGiven leaves k)) numbers leaf number inside before (h, e)
 
-  pub numbered-new : count < length first → Numbered leaves (set numbers leaf count) (set first count leaf) (count + 1) (leaf + 1)
+  pub numbered-new : count < length first → WeightsNumbered leaves (set numbers leaf count) (set first count leaf) (count + 1) (leaf + 1)
   numbered-new room =
       entry-next (λ k n. (n < count + 1) × (weightGiven leaves (getD (set first count leaf) n 0) ≡ weightGiven leaves k)) numbers leaf count inside
       (λ k h. let (l, e) = before k h in (omega arith, ap (weightGiven leaves) (getD-set-other first count (getD numbers k 0) leaf 0 (λ same. omega arith)) ∙ e))

@@ -13,8 +13,8 @@ use Rattle.table_rules.specs.Pairs.{inAlphabet}
 use Rattle.weight_sets.specs.Bits.{Has}
 
 -- each of the first n leaves has a number below a count, and the leaf that stands for this number has the same weight
-abbrev pub Numbered : List ℕ → List ℕ → List ℕ → ℕ → ℕ → Type 0
-Numbered leaves numbers first count n = (k : ℕ) → k < n → (getD numbers k 0 < count) × (weightGiven leaves (getD first (getD numbers k 0) 0) ≡ weightGiven leaves k)
+abbrev pub WeightsNumbered : List ℕ → List ℕ → List ℕ → ℕ → ℕ → Type 0
+WeightsNumbered leaves numbers first count n = (k : ℕ) → k < n → (getD numbers k 0 < count) × (weightGiven leaves (getD first (getD numbers k 0) 0) ≡ weightGiven leaves k)
 
 -- the set of a leaf has the weight numbers of the n leaves from this one on, as far as there are leaves
 abbrev pub Covers : List ℕ → List ℕ → ℕ → ℕ → Type 0

@@ -11,7 +11,7 @@ ghost use Rattle.leaf_rules.specs.Leaf.{leafCount, wordGiven, weightGiven};
 ghost use Rattle.table_rules.specs.Pairs.{upperPart};
 ghost use Rattle.pair_digits.specs.Slots.{Slotted};
 ghost use Rattle.weight_sets.specs.Bits.{Has};
-ghost use Rattle.weight_sets.specs.Weights.{Numbered, Covers, Good, Judged};
+ghost use Rattle.weight_sets.specs.Weights.{WeightsNumbered, Covers, Good, Judged};
 
 // The most different weights.
 const WEIGHTS: usize = 64;
@@ -49,7 +49,7 @@ fn number_in(leaves: &[u8], first: &[usize], count: usize, leaf: usize, number: 
 // or two have the same slot.
 pub fn number_weights(leaves: &[u8], numbers: &mut [u8], first: &mut [usize]) -> usize
     requires { ⌜ (leafCount (now leaves) ≤ length (now numbers)) × (64 ≤ length (now first)) ⌝ }
-    ensures { λ r. ⌜ (r ≤ 64 → Numbered (now (leaves .entry)) (now (numbers .exit)) (now (first .exit)) r (leafCount (now (leaves .entry)))) ⌝ }
+    ensures { λ r. ⌜ (r ≤ 64 → WeightsNumbered (now (leaves .entry)) (now (numbers .exit)) (now (first .exit)) r (leafCount (now (leaves .entry)))) ⌝ }
 {
     let leaf_count = leaves::leaf_count(leaves);
     let mut slots = [EMPTY; SLOTS];

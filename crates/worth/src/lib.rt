@@ -10,7 +10,7 @@ ghost use Rattle.layout_rules.specs.Section.{degree};
 ghost use Rattle.midpoint.specs.Midpoint.{parts};
 ghost use Rattle.row_rules.specs.Fit.{Indexes};
 ghost use Rattle.digit_rules.specs.Record.{elementCount};
-ghost use Rattle.worth_rules.specs.Total.{largest, limited, digitAt, worthOf};
+ghost use Rattle.worth_rules.specs.Total.{totalLimit, limited, placeDigit, worthOf};
 ghost use Rattle.worth.specs.Answer.{outcomeOf};
 use midpoint::Element;
 
@@ -22,7 +22,7 @@ pub enum Worth {
 
 // Whether a number is within ±2,147,483,647.
 fn inside(z: i64) -> bool
-    ensures { λ r. ⌜ r ≡ leb (natAbs z) largest ⌝ }
+    ensures { λ r. ⌜ r ≡ leb (natAbs z) totalLimit ⌝ }
 {
     if z < -2147483647 {
         return false;
@@ -39,14 +39,14 @@ fn is_limited(x: [i64; 2]) -> bool
 // The digit at a place of a row.
 fn digit_at(alphabet: &[u8], row: &[u8], place: usize) -> [i64; 2]
     requires { ⌜ (place < length (now row)) × Indexes (elementCount (now alphabet)) (now row) ⌝ }
-    ensures { λ r. ⌜ (r ≡ digitAt (now (alphabet .entry)) (now (row .entry)) place) × Within 32768 r ⌝ }
+    ensures { λ r. ⌜ (r ≡ placeDigit (now (alphabet .entry)) (now (row .entry)) place) × Within 32768 r ⌝ }
 {
     digits::record_at(alphabet, row[place] as usize)
 }
 
 // An element as callers see it.
 fn shown(x: [i64; 2]) -> Element
-    requires { ⌜ Within largest x ⌝ }
+    requires { ⌜ Within totalLimit x ⌝ }
     ensures { λ r. ⌜ parts r ≡ x ⌝ }
 {
     Element {
@@ -57,7 +57,7 @@ fn shown(x: [i64; 2]) -> Element
 
 // The count of places without the zeros at the top, where index 0 is the digit zero.
 fn counted_places(alphabet: &[u8], row: &[u8]) -> usize
-    ensures { λ r. ⌜ (r ≤ length (now (row .entry))) × ((k : ℕ) → r ≤ k → k < length (now (row .entry)) → digitAt (now (alphabet .entry)) (now (row .entry)) k ≡ zeros degree) ⌝ }
+    ensures { λ r. ⌜ (r ≤ length (now (row .entry))) × ((k : ℕ) → r ≤ k → k < length (now (row .entry)) → placeDigit (now (alphabet .entry)) (now (row .entry)) k ≡ zeros degree) ⌝ }
 {
     if layout::record_count(alphabet, 1) == 0 {
         return row.len();

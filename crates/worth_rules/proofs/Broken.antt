@@ -26,7 +26,7 @@ use Rattle.faults.proofs.Rule.{Decided, passes, refuses, exact}
 use Rattle.layout_rules.specs.Section.{degree, elementSize}
 use Rattle.digit_rules.specs.Record.{recordAt}
 use Rattle.digit_rules.proofs.Record.{element-parts}
-use Rattle.worth_rules.specs.Total.{largest, limited, digitAt, nextTotal, worthFrom, worthOf}
+use Rattle.worth_rules.specs.Total.{totalLimit, limited, placeDigit, nextTotal, worthFrom, worthOf}
 use Rattle.worth_rules.specs.Broken.{digitsOf, totalAt, OutsideAt, Broken28, valueRules, refusalOf, worthCheck}
 use Rattle.worth_rules.proofs.Limit.{limited-within, limited-fails}
 use Rattle.worth_rules.proofs.Total.{worth-end, worth-next, worth-stops}
@@ -72,7 +72,7 @@ module _ (base : List (List ℤ)) (alphabet row : List ℕ) where
   total : ℕ → List ℤ
   total p = totalAt base alphabet row p
 
-  total-next : (p : ℕ) → p < length row → total p ≡ nextTotal base (total (suc p)) (digitAt alphabet row p)
+  total-next : (p : ℕ) → p < length row → total p ≡ nextTotal base (total (suc p)) (placeDigit alphabet row p)
   unfolding total topDown elements
   total-next p h =
       ap (topDown (elements degree base)) (drop-cons (digitsOf alphabet row) p (recordAt alphabet 0) (rw (length-map row (recordAt alphabet)) h))
@@ -85,12 +85,12 @@ module _ (base : List (List ℤ)) (alphabet row : List ℕ) where
 
   lead : Lead total (length row) (worthOf base alphabet row)
   unfolding worthOf
-  lead = rw (← total-top) (leads base (digitAt alphabet row) total (length row) total-next (length row) (omega arith))
+  lead = rw (← total-top) (leads base (placeDigit alphabet row) total (length row) total-next (length row) (omega arith))
 
   -- the test of a total and the plain statement
   outside-fails : (p : ℕ) → OutsideAt base alphabet row p → limited (total p) ≡ true → ⊥
   unfolding total
-  outside-fails p b t = omega (arith, b .1 .1, within-part largest (totalAt base alphabet row p) (limited-within _ t) (b .1 .0))
+  outside-fails p b t = omega (arith, b .1 .1, within-part totalLimit (totalAt base alphabet row p) (limited-within _ t) (b .1 .0))
 
   fails-outside : (p : ℕ) → p < length row → limited (total p) ≡ false → OutsideAt base alphabet row p
   unfolding total

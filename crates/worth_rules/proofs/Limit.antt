@@ -13,7 +13,7 @@ use borrow.Author.Tests.{ltb-true, ltb-false, leb-true, leb-false, le-leb, lt-le
 use Rattle.lists.proofs.Test.{clash, both, not-both}
 use Rattle.ring.specs.Element.{part, Within}
 use Rattle.ring.proofs.Parts.{two-parts}
-use Rattle.worth_rules.specs.Total.{largest, limited}
+use Rattle.worth_rules.specs.Total.{totalLimit, limited}
 
 -- a number within ±(n + 1), from two tests on it
 pub too-low : (z : ℤ) (n : ℕ) → ltZ z (negsuc n) ≡ true → false ≡ leb (natAbs z) (suc n)
@@ -24,22 +24,22 @@ pub not-too-low : (z : ℤ) (n : ℕ) → ltZ z (negsuc n) ≡ false → leZ z (
 not-too-low (pos a) n h = refl
 not-too-low (negsuc a) n h = sym (le-leb (suc a) (suc n) (omega (arith, ltb-false n a h)))
 
-pub limited-two : (x : List ℤ) → length x ≡ 2 → limited x ≡ (leb (natAbs (part x 0)) largest && leb (natAbs (part x 1)) largest)
+pub limited-two : (x : List ℤ) → length x ≡ 2 → limited x ≡ (leb (natAbs (part x 0)) totalLimit && leb (natAbs (part x 1)) totalLimit)
 unfolding limited
 limited-two x h =
-    ap limited (two-parts x h) ∙ ap (λ b. leb (natAbs (part x 0)) largest && b) (and-true (leb (natAbs (part x 1)) largest))
+    ap limited (two-parts x h) ∙ ap (λ b. leb (natAbs (part x 0)) totalLimit && b) (and-true (leb (natAbs (part x 1)) totalLimit))
 
 -- what the test says
-pub limited-within : (x : List ℤ) → limited x ≡ true → Within largest x
+pub limited-within : (x : List ℤ) → limited x ≡ true → Within totalLimit x
 unfolding limited Within
 limited-within [] t k = zero-le
-limited-within (a ∷ x) t zero = leb-true (natAbs a) largest (both (leb (natAbs a) largest) (limited x) t .0)
-limited-within (a ∷ x) t (suc k) = limited-within x (both (leb (natAbs a) largest) (limited x) t .1) k
+limited-within (a ∷ x) t zero = leb-true (natAbs a) totalLimit (both (leb (natAbs a) totalLimit) (limited x) t .0)
+limited-within (a ∷ x) t (suc k) = limited-within x (both (leb (natAbs a) totalLimit) (limited x) t .1) k
 
-pub limited-fails : (x : List ℤ) → limited x ≡ false → (k : ℕ) × (largest < natAbs (part x k))
+pub limited-fails : (x : List ℤ) → limited x ≡ false → (k : ℕ) × (totalLimit < natAbs (part x k))
 unfolding limited
 limited-fails [] t = clash refl t
 limited-fails (a ∷ x) t =
-    ⊎-elim (λ l. (0, leb-false (natAbs a) largest l))
-    (λ r. let w : (k : ℕ) × (largest < natAbs (part x k)) = limited-fails x r in (suc (w .0), w .1))
-    (not-both (leb (natAbs a) largest) (limited x) t)
+    ⊎-elim (λ l. (0, leb-false (natAbs a) totalLimit l))
+    (λ r. let w : (k : ℕ) × (totalLimit < natAbs (part x k)) = limited-fails x r in (suc (w .0), w .1))
+    (not-both (leb (natAbs a) totalLimit) (limited x) t)

@@ -12,16 +12,16 @@ use Rattle.layout_rules.specs.Section.{degree}
 use Rattle.digit_rules.specs.Record.{recordAt}
 
 -- a part of a total is within ±2,147,483,647
-abbrev pub largest : ℕ
-largest = 2147483647
+abbrev pub totalLimit : ℕ
+totalLimit = 2147483647
 
 unfoldable pub limited : List ℤ → Bool
 limited [] = true
-limited (a ∷ x) = leb (natAbs a) largest && limited x
+limited (a ∷ x) = leb (natAbs a) totalLimit && limited x
 
 -- the digit at a place of a row
-abbrev pub digitAt : List ℕ → List ℕ → ℕ → List ℤ
-digitAt alphabet row p = recordAt alphabet (getD row p 0)
+abbrev pub placeDigit : List ℕ → List ℕ → ℕ → List ℤ
+placeDigit alphabet row p = recordAt alphabet (getD row p 0)
 
 -- base times total plus digit
 abbrev pub nextTotal : List (List ℤ) → List ℤ → List ℤ → List ℤ
@@ -38,4 +38,4 @@ worthFrom base digit (suc p) total =
 
 -- "starting from zero and from the top place down"
 unfoldable pub worthOf : List (List ℤ) → List ℕ → List ℕ → Outcome (List ℤ)
-worthOf base alphabet row = worthFrom base (digitAt alphabet row) (length row) (zeros degree)
+worthOf base alphabet row = worthFrom base (placeDigit alphabet row) (length row) (zeros degree)

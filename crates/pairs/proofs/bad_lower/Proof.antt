@@ -19,7 +19,7 @@ use Rattle.numeration.specs.Pairs.{fits, pairPasses}
 use Rattle.numeration.specs.Runs.{lowestFit}
 use Rattle.leaf_rules.specs.Leaf.{leafCount, codeOf, wordGiven, weightGiven}
 use Rattle.leaf_rules.specs.Window.{LookedUp}
-use Rattle.prefix_rules.specs.Formed.{Formed}
+use Rattle.prefix_rules.specs.Formed.{LeavesFormed}
 use Rattle.prefix_rules.proofs.Formed.{formed}
 use Rattle.table_rules.specs.Pairs.{inAlphabet, upperPart}
 use Rattle.table_rules.proofs.Fitting.{first-input, lowest-found, fit-is, pair-is, upto-lowest, ends-unfit, ends-all, ends-bad}
@@ -33,7 +33,7 @@ Inv-loop alphabet known slots inputs leaves words upper guess count top part low
 abbrev μ-loop : tie.MeasureT-loop
 μ-loop alphabet known slots inputs leaves words upper guess count top part lower₀ lower = count - lower
 
-well : (s : tie.Start Inv-loop μ-loop) → Formed (s .args .leaves .now) (s .args .words .now) (elementCount (s .args .inputs .now))
+well : (s : tie.Start Inv-loop μ-loop) → LeavesFormed (s .args .leaves .now) (s .args .words .now) (elementCount (s .args .inputs .now))
 well s = formed (s .args .leaves .now) (s .args .words .now) (elementCount (s .args .inputs .now)) (s .pre .1) (s .pre .2)
 
 -- the number of leaves, as counted

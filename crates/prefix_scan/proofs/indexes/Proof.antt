@@ -8,12 +8,12 @@ use borrow.Author.Needs.{needs}
 use Rattle.lists.proofs.Scan.{scan-on}
 use Rattle.lists.specs.Scan.{firstFailing}
 use Rattle.faults.proofs.Check.{judge-here, judge-out}
-use Rattle.prefix_rules.specs.Check.{indexAllowed, indexCheck}
+use Rattle.prefix_rules.specs.Check.{wordIndexAllowed, wordIndexCheck}
 use Rattle.prefix_scan.proofs.indexes.Statement.{statement}
 use Rattle.prefix_scan.proofs.indexes.Tie as tie
 
 abbrev Inv-loop : tie.InvT-loop
-Inv-loop words inputs i₀ i = firstFailing (indexAllowed words inputs) i (length words - i) ≡ firstFailing (indexAllowed words inputs) 0 (length words)
+Inv-loop words inputs i₀ i = firstFailing (wordIndexAllowed words inputs) i (length words - i) ≡ firstFailing (wordIndexAllowed words inputs) 0 (length words)
 
 abbrev μ-loop : tie.MeasureT-loop
 μ-loop words inputs i₀ i = length words - i
@@ -28,7 +28,7 @@ wide-requires : tie.Need-wide-requires Inv-loop μ-loop
 wide-requires c κs = search needs
 
 returns : tie.Need-returns Inv-loop μ-loop
-unfolding indexCheck
+unfolding wordIndexCheck
 returns c = judge-here 10 (λ i. i) _ (length (c .before .before .before .before .before .before .args .words .now)) (c .before .before .before .before .loop .i) (c .before .before .before .before .loop .inv) (c .before .before .before .loop-test .taken) (le-ltb (getD (c .before .before .before .before .before .before .args .words .now) (c .before .before .before .before .loop .i) 0) (c .before .before .before .before .before .before .args .inputs) (omega arith))
 
 add-i : tie.Need-add-i Inv-loop μ-loop
@@ -41,7 +41,7 @@ loop-again : tie.Need-loop-again Inv-loop μ-loop
 loop-again c = sym (scan-on _ _ (length (c .before .before .before .before .before .before .args .words .now)) (c .before .before .before .loop-test .taken) (lt-ltb (getD (c .before .before .before .before .before .before .args .words .now) (c .before .before .before .before .loop .i) 0) (c .before .before .before .before .before .before .args .inputs) (omega arith))) ∙ c .before .before .before .before .loop .inv
 
 returns-2 : tie.Need-returns-2 Inv-loop μ-loop
-unfolding indexCheck
+unfolding wordIndexCheck
 returns-2 c = judge-out 10 (λ i. i) _ (length (c .before .before .before .args .words .now)) (c .before .loop .i) (c .before .loop .inv) (c .loop-test .left)
 
 pub indexes-spec : {M : Type 1} → statement M

@@ -1,5 +1,5 @@
 use Rattle.reader_rules.proofs.Kept.{layout-kept}
-use Rattle.reader_rules.specs.Table.{digitsOf, basePart, alphabetPart, inputPart}
+use Rattle.reader_rules.specs.Table.{digitCheckOf, basePart, alphabetPart, inputPart}
 use Rattle.digit_rules.proofs.Passed.{base-ready}
 use Rattle.digit_rules.specs.Digits.{digitCheck}
 use Rattle.digit_rules.specs.Base.{BasePart}
@@ -25,7 +25,7 @@ digits-requires c κs =
     subst BasePart (sym (c .before .before .section .ensures)) (base-ready file (kept .0) (kept .1) (kept .2))
 
 returns : tie.Need-returns
-unfolding digitsOf
+unfolding digitCheckOf
 returns c = c .digits .ensures ∙ (λ i. digitCheck (c .before .before .before .section .ensures i) (c .before .before .section2 .ensures i) (c .before .section3 .ensures i))
 
 pub digit-rules-spec : {M : Type 1} → statement M

@@ -1,6 +1,6 @@
 use Rattle.layout_rules.specs.Section.{recordCount}
 use Rattle.reader_rules.proofs.Kept.{layout-kept}
-use Rattle.reader_rules.specs.Table.{leavesOf}
+use Rattle.reader_rules.specs.Table.{leafCheckOf}
 use Rattle.prefix_rules.specs.Check.{leafCheck}
 use lib.Dec.{lit<}
 use mathlib.Core.Path.{_≡_, ap, _∙_}
@@ -24,7 +24,7 @@ prefix-code-requires : tie.Need-prefix-code-requires
 prefix-code-requires c κs = search needs
 
 returns : tie.Need-returns
-unfolding leavesOf
+unfolding leafCheckOf
 returns c =
     c .prefix-code .ensures ∙ (λ i. leafCheck (c .before .before .section2 .ensures i) (c .before .section3 .ensures i) ((c .before .before .before .record-count .ensures ∙ ap (recordCount 2) (c .before .before .before .before .section .ensures)) i))
 

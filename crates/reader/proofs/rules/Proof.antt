@@ -1,5 +1,5 @@
 use Rattle.reader_rules.proofs.Kept.{stage-nothing}
-use Rattle.reader_rules.specs.Table.{layoutCheck, digitsOf, tableCheck}
+use Rattle.reader_rules.specs.Table.{layoutCheck, digitCheckOf, tableCheck}
 use Rattle.faults.proofs.Check.{found-first, found-next}
 use borrow.Author.Needs.{needs}
 use Rattle.reader.proofs.rules.Statement.{statement}
@@ -18,7 +18,7 @@ digit-rules-requires c κs = stage-nothing (c .before .before .layout-rules .res
 returns-2 : tie.Need-returns-2
 unfolding tableCheck
 returns-2 c =
-    found-next (layoutCheck (c .before .before .before .before .before .before .before .args .file .now)) _ _ _ (c .before .before .before .before .before .layout-rules .ensures) (c .before .before .before .if1 .left) (found-first (digitsOf (c .before .before .before .before .before .before .before .args .file .now)) _ _ (c .before .before .digit-rules .ensures) (c .if2 .taken))
+    found-next (layoutCheck (c .before .before .before .before .before .before .before .args .file .now)) _ _ _ (c .before .before .before .before .before .layout-rules .ensures) (c .before .before .before .if1 .left) (found-first (digitCheckOf (c .before .before .before .before .before .before .before .args .file .now)) _ _ (c .before .before .digit-rules .ensures) (c .if2 .taken))
 
 leaf-rules-requires : tie.Need-leaf-rules-requires
 leaf-rules-requires c κs = stage-nothing (c .before .before .before .before .before .layout-rules .result) _ (c .before .before .before .before .before .layout-rules .ensures) (c .before .before .before .if1 .left)
@@ -26,7 +26,7 @@ leaf-rules-requires c κs = stage-nothing (c .before .before .before .before .be
 returns-3 : tie.Need-returns-3
 unfolding tableCheck
 returns-3 c =
-    found-next (layoutCheck (c .before .before .before .before .before .before .before .before .args .file .now)) _ _ _ (c .before .before .before .before .before .before .layout-rules .ensures) (c .before .before .before .before .if1 .left) (found-next (digitsOf (c .before .before .before .before .before .before .before .before .args .file .now)) _ _ _ (c .before .before .before .digit-rules .ensures) (c .before .if2 .left) (c .leaf-rules .ensures))
+    found-next (layoutCheck (c .before .before .before .before .before .before .before .before .args .file .now)) _ _ _ (c .before .before .before .before .before .before .layout-rules .ensures) (c .before .before .before .before .if1 .left) (found-next (digitCheckOf (c .before .before .before .before .before .before .before .before .args .file .now)) _ _ _ (c .before .before .before .digit-rules .ensures) (c .before .if2 .left) (c .leaf-rules .ensures))
 
 pub rules-spec : {M : Type 1} → statement M
 rules-spec =

@@ -1,5 +1,5 @@
 -- Rules 1 to 13 by the reader, then rule 14.
-use Rattle.table_rules.specs.Check.{pairsOf, checkFacts, checkOutcome}
+use Rattle.table_rules.specs.Check.{pairCheckOf, checkFacts, checkOutcome}
 use Rattle.table_rules.specs.declared.Facts.{Facts}
 use Rattle.reader_rules.proofs.Answer.{read-facts, read-fault}
 use Rattle.reader_rules.proofs.Kept.{stage-nothing}
@@ -32,7 +32,7 @@ returns c =
     let file = c .before .before .before .before .before .before .before .before .args .file .now in
     let known = read-facts file _ (sym (ap readAs (c .before .before .before .before .answer2 .given .1)) ∙ c .before .before .before .before .before .before .read .ensures) in
     let found = c .before .before .file-pairs in
-    ap (λ (r : Refusal). refused author (r .number) (r .place)) (found .ensures) ∙ sym (unless-found author (pairsOf file) (facts (checkFacts file)) (λ z. c .if1 .taken (ap (λ (r : Refusal). r .number) (found .ensures) ∙ z))) ∙ sym (unless-none author (tableCheck file) _ (known .0))
+    ap (λ (r : Refusal). refused author (r .number) (r .place)) (found .ensures) ∙ sym (unless-found author (pairCheckOf file) (facts (checkFacts file)) (λ z. c .if1 .taken (ap (λ (r : Refusal). r .number) (found .ensures) ∙ z))) ∙ sym (unless-none author (tableCheck file) _ (known .0))
 
 returns-2 : tie.Need-returns-2
 unfolding checkOutcome
@@ -47,7 +47,7 @@ returns-3 c =
     let file = c .before .before .before .before .before .before .before .before .before .before .args .file .now in
     let known = read-facts file _ (sym (ap readAs (c .before .before .before .before .before .before .answer2 .given .1)) ∙ c .before .before .before .before .before .before .before .before .read .ensures) in
     let t = known .1 in
-    (λ i. facts (record { depth = t i .depth; leaves = t i .leaves .count; digits = t i .alphabet .count })) ∙ sym (unless-none author (pairsOf file) (facts (checkFacts file)) (stage-nothing (c .before .before .before .before .file-pairs .result) (pairsOf file) (c .before .before .before .before .file-pairs .ensures) (c .before .before .if1 .left))) ∙ sym (unless-none author (tableCheck file) _ (known .0))
+    (λ i. facts (record { depth = t i .depth; leaves = t i .leaves .count; digits = t i .alphabet .count })) ∙ sym (unless-none author (pairCheckOf file) (facts (checkFacts file)) (stage-nothing (c .before .before .before .before .file-pairs .result) (pairCheckOf file) (c .before .before .before .before .file-pairs .ensures) (c .before .before .if1 .left))) ∙ sym (unless-none author (tableCheck file) _ (known .0))
 
 pub check-spec : {M : Type 1} → statement M
 check-spec =

@@ -1,5 +1,5 @@
 -- The five sections, each as its part of the file.
-use Rattle.table_rules.specs.Check.{pairsOf}
+use Rattle.table_rules.specs.Check.{pairCheckOf}
 use Rattle.table_rules.specs.Pairs.{pairCheck}
 use Rattle.reader_rules.proofs.Kept.{layout-kept, table-kept, sections}
 use Rattle.prefix_rules.specs.Check.{leafCheck}
@@ -32,7 +32,7 @@ pairs-requires c κs =
     (subst BasePart (sym (c .before .before .before .before .section .ensures)) (given .base), subst (λ x. 0 < elementCount x) (sym (c .before .before .section3 .ensures)) (given .some-input), (λ i. leafCheck (c .before .section4 .ensures i) (c .section5 .ensures i) (elementCount (c .before .before .section3 .ensures i)) .number) ∙ given .leaves)
 
 returns : tie.Need-returns
-unfolding pairsOf
+unfolding pairCheckOf
 returns c =
     c .pairs .ensures ∙ (λ i. pairCheck (c .before .before .before .before .before .section .ensures i) (c .before .before .before .before .section2 .ensures i) (c .before .before .before .section3 .ensures i) (c .before .before .section4 .ensures i) (c .before .section5 .ensures i))
 

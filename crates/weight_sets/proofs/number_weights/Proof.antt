@@ -7,12 +7,12 @@ use Prim.Native.Nat.{ℕ, _+_, _-_, _≤_, _^_}
 use native.Mathlib.Omega.{arith}
 use lib.ListN.{length, set, length-set}
 use borrow.Author.Needs.{needs}
-use Rattle.weight_sets.specs.Weights.{Numbered}
+use Rattle.weight_sets.specs.Weights.{WeightsNumbered}
 use Rattle.weight_sets.proofs.number_weights.Statement.{statement}
 use Rattle.weight_sets.proofs.number_weights.Tie as tie
 
 abbrev Inv-loop : tie.InvT-loop
-Inv-loop leaves numbers₀ first₀ leaf-count slots₀ count₀ leaf₀ numbers first slots count leaf = (length numbers ≡ length numbers₀) × (length first ≡ length first₀) × (count ≤ 64) × Numbered leaves numbers first count leaf
+Inv-loop leaves numbers₀ first₀ leaf-count slots₀ count₀ leaf₀ numbers first slots count leaf = (length numbers ≡ length numbers₀) × (length first ≡ length first₀) × (count ≤ 64) × WeightsNumbered leaves numbers first count leaf
 
 abbrev μ-loop : tie.MeasureT-loop
 μ-loop leaves numbers₀ first₀ leaf-count slots₀ count₀ leaf₀ numbers first slots count leaf = leaf-count - leaf
@@ -78,7 +78,7 @@ loop-less : tie.Need-loop-less Inv-loop μ-loop
 loop-less c = omega arith
 
 loop-again : tie.Need-loop-again Inv-loop μ-loop
-loop-again c = (length-set (c .before .before .before .before .before .before .before .before .loop .numbers) _ _ ∙ c .before .before .before .before .before .before .before .before .loop .inv .0, ⊎-elim (λ w. ap length (w .1) ∙ length-set (c .before .before .before .before .before .before .before .before .loop .first) _ _ ∙ c .before .before .before .before .before .before .before .before .loop .inv .1) (λ w. ap length (w .1) ∙ c .before .before .before .before .before .before .before .before .loop .inv .1) (c .if2 .came), ⊎-elim (λ w. omega (arith, w .3, w .0 .taken, c .before .before .before .before .before .before .before .before .loop .inv .2, c .before .if1 .left)) (λ w. omega (arith, w .3, c .before .before .before .before .before .before .before .before .loop .inv .2)) (c .if2 .came), ⊎-elim (λ w. subst (λ f. Numbered (c .before .before .before .before .before .before .before .before .before .before .before .before .before .args .leaves .now) (set (c .before .before .before .before .before .before .before .before .loop .numbers) (c .before .before .before .before .before .before .before .before .loop .leaf) (c .before .before .number-in .result)) f (c .if2 .count) (c .before .before .before .before .before .before .before .before .loop .leaf + 1)) (sym (w .1)) (subst (λ (n : ℕ). Numbered (c .before .before .before .before .before .before .before .before .before .before .before .before .before .args .leaves .now) (set (c .before .before .before .before .before .before .before .before .loop .numbers) (c .before .before .before .before .before .before .before .before .loop .leaf) (c .before .before .number-in .result)) (set (c .before .before .before .before .before .before .before .before .loop .first) (c .before .before .number-in .result) (c .before .before .before .before .before .before .before .before .loop .leaf)) n (c .before .before .before .before .before .before .before .before .loop .leaf + 1)) (sym (w .3)) (subst (λ (n : ℕ). Numbered (c .before .before .before .before .before .before .before .before .before .before .before .before .before .args .leaves .now) (set (c .before .before .before .before .before .before .before .before .loop .numbers) (c .before .before .before .before .before .before .before .before .loop .leaf) n) (set (c .before .before .before .before .before .before .before .before .loop .first) n (c .before .before .before .before .before .before .before .before .loop .leaf)) (c .before .before .before .before .before .before .before .before .loop .count + 1) (c .before .before .before .before .before .before .before .before .loop .leaf + 1)) (sym (w .0 .taken)) (numbered-new (c .before .before .before .before .before .before .before .before .before .before .before .before .before .args .leaves .now) (c .before .before .before .before .before .before .before .before .loop .numbers) (c .before .before .before .before .before .before .before .before .loop .first) (c .before .before .before .before .before .before .before .before .loop .count) (c .before .before .before .before .before .before .before .before .loop .leaf) (c .before .before .before .before .before .before .before .before .loop .inv .3) (omega (arith, c .before .before .before .before .before .before .before .before .before .leaf-count .ensures, c .before .before .before .before .before .before .before .before .loop .inv .0)) (omega (arith, c .before .before .before .before .before .before .before .before .loop .inv .1, w .0 .taken, c .before .if1 .left)))))) (λ w. subst (λ f. Numbered (c .before .before .before .before .before .before .before .before .before .before .before .before .before .args .leaves .now) (set (c .before .before .before .before .before .before .before .before .loop .numbers) (c .before .before .before .before .before .before .before .before .loop .leaf) (c .before .before .number-in .result)) f (c .if2 .count) (c .before .before .before .before .before .before .before .before .loop .leaf + 1)) (sym (w .1)) (subst (λ (n : ℕ). Numbered (c .before .before .before .before .before .before .before .before .before .before .before .before .before .args .leaves .now) (set (c .before .before .before .before .before .before .before .before .loop .numbers) (c .before .before .before .before .before .before .before .before .loop .leaf) (c .before .before .number-in .result)) (c .before .before .before .before .before .before .before .before .loop .first) n (c .before .before .before .before .before .before .before .before .loop .leaf + 1)) (sym (w .3)) (numbered-old (c .before .before .before .before .before .before .before .before .before .before .before .before .before .args .leaves .now) (c .before .before .before .before .before .before .before .before .loop .numbers) (c .before .before .before .before .before .before .before .before .loop .first) (c .before .before .before .before .before .before .before .before .loop .count) (c .before .before .before .before .before .before .before .before .loop .leaf) (c .before .before .before .before .before .before .before .before .loop .inv .3) (omega (arith, c .before .before .before .before .before .before .before .before .before .leaf-count .ensures, c .before .before .before .before .before .before .before .before .loop .inv .0)) (c .before .before .number-in .result) (omega (arith, w .0 .left, c .before .before .number-in .ensures .0 (omega (arith, c .before .if1 .left)))) (c .before .before .number-in .ensures .1 (omega (arith, w .0 .left, c .before .before .number-in .ensures .0 (omega (arith, c .before .if1 .left)))))))) (c .if2 .came))
+loop-again c = (length-set (c .before .before .before .before .before .before .before .before .loop .numbers) _ _ ∙ c .before .before .before .before .before .before .before .before .loop .inv .0, ⊎-elim (λ w. ap length (w .1) ∙ length-set (c .before .before .before .before .before .before .before .before .loop .first) _ _ ∙ c .before .before .before .before .before .before .before .before .loop .inv .1) (λ w. ap length (w .1) ∙ c .before .before .before .before .before .before .before .before .loop .inv .1) (c .if2 .came), ⊎-elim (λ w. omega (arith, w .3, w .0 .taken, c .before .before .before .before .before .before .before .before .loop .inv .2, c .before .if1 .left)) (λ w. omega (arith, w .3, c .before .before .before .before .before .before .before .before .loop .inv .2)) (c .if2 .came), ⊎-elim (λ w. subst (λ f. WeightsNumbered (c .before .before .before .before .before .before .before .before .before .before .before .before .before .args .leaves .now) (set (c .before .before .before .before .before .before .before .before .loop .numbers) (c .before .before .before .before .before .before .before .before .loop .leaf) (c .before .before .number-in .result)) f (c .if2 .count) (c .before .before .before .before .before .before .before .before .loop .leaf + 1)) (sym (w .1)) (subst (λ (n : ℕ). WeightsNumbered (c .before .before .before .before .before .before .before .before .before .before .before .before .before .args .leaves .now) (set (c .before .before .before .before .before .before .before .before .loop .numbers) (c .before .before .before .before .before .before .before .before .loop .leaf) (c .before .before .number-in .result)) (set (c .before .before .before .before .before .before .before .before .loop .first) (c .before .before .number-in .result) (c .before .before .before .before .before .before .before .before .loop .leaf)) n (c .before .before .before .before .before .before .before .before .loop .leaf + 1)) (sym (w .3)) (subst (λ (n : ℕ). WeightsNumbered (c .before .before .before .before .before .before .before .before .before .before .before .before .before .args .leaves .now) (set (c .before .before .before .before .before .before .before .before .loop .numbers) (c .before .before .before .before .before .before .before .before .loop .leaf) n) (set (c .before .before .before .before .before .before .before .before .loop .first) n (c .before .before .before .before .before .before .before .before .loop .leaf)) (c .before .before .before .before .before .before .before .before .loop .count + 1) (c .before .before .before .before .before .before .before .before .loop .leaf + 1)) (sym (w .0 .taken)) (numbered-new (c .before .before .before .before .before .before .before .before .before .before .before .before .before .args .leaves .now) (c .before .before .before .before .before .before .before .before .loop .numbers) (c .before .before .before .before .before .before .before .before .loop .first) (c .before .before .before .before .before .before .before .before .loop .count) (c .before .before .before .before .before .before .before .before .loop .leaf) (c .before .before .before .before .before .before .before .before .loop .inv .3) (omega (arith, c .before .before .before .before .before .before .before .before .before .leaf-count .ensures, c .before .before .before .before .before .before .before .before .loop .inv .0)) (omega (arith, c .before .before .before .before .before .before .before .before .loop .inv .1, w .0 .taken, c .before .if1 .left)))))) (λ w. subst (λ f. WeightsNumbered (c .before .before .before .before .before .before .before .before .before .before .before .before .before .args .leaves .now) (set (c .before .before .before .before .before .before .before .before .loop .numbers) (c .before .before .before .before .before .before .before .before .loop .leaf) (c .before .before .number-in .result)) f (c .if2 .count) (c .before .before .before .before .before .before .before .before .loop .leaf + 1)) (sym (w .1)) (subst (λ (n : ℕ). WeightsNumbered (c .before .before .before .before .before .before .before .before .before .before .before .before .before .args .leaves .now) (set (c .before .before .before .before .before .before .before .before .loop .numbers) (c .before .before .before .before .before .before .before .before .loop .leaf) (c .before .before .number-in .result)) (c .before .before .before .before .before .before .before .before .loop .first) n (c .before .before .before .before .before .before .before .before .loop .leaf + 1)) (sym (w .3)) (numbered-old (c .before .before .before .before .before .before .before .before .before .before .before .before .before .args .leaves .now) (c .before .before .before .before .before .before .before .before .loop .numbers) (c .before .before .before .before .before .before .before .before .loop .first) (c .before .before .before .before .before .before .before .before .loop .count) (c .before .before .before .before .before .before .before .before .loop .leaf) (c .before .before .before .before .before .before .before .before .loop .inv .3) (omega (arith, c .before .before .before .before .before .before .before .before .before .leaf-count .ensures, c .before .before .before .before .before .before .before .before .loop .inv .0)) (c .before .before .number-in .result) (omega (arith, w .0 .left, c .before .before .number-in .ensures .0 (omega (arith, c .before .if1 .left)))) (c .before .before .number-in .ensures .1 (omega (arith, w .0 .left, c .before .before .number-in .ensures .0 (omega (arith, c .before .if1 .left)))))))) (c .if2 .came))
 
 same-length-3 : tie.Need-same-length-3 Inv-loop μ-loop
 same-length-3 c = omega arith

@@ -8,7 +8,7 @@ use mir.Syntax.{w64}
 use mir.ValLaws.{toZ-ofZ}
 use borrow.Author.Needs.{needs}
 use Rattle.ring.specs.Element.{part}
-use Rattle.worth_rules.specs.Total.{largest}
+use Rattle.worth_rules.specs.Total.{totalLimit}
 use Rattle.worth_rules.proofs.Limit.{limited-two}
 use Rattle.worth.proofs.is_limited.Statement.{statement}
 use Rattle.worth.proofs.is_limited.Tie as tie
@@ -29,15 +29,15 @@ returns : tie.Need-returns
 returns c =
     let x = c .before .before .before .before .before .args .t1 in
     let h : length x ≡ 2 = search needs in
-    let first : leb (natAbs (part x 0)) largest ≡ true = ap (λ z. leb (natAbs z) largest) (sym (toZ-ofZ w64 (part x 0) (search needs))) ∙ sym (c .before .before .before .inside .ensures) ∙ c .before .before .if1 .taken in
-    c .inside2 .ensures ∙ ap (λ z. leb (natAbs z) largest) (toZ-ofZ w64 (part x 1) (search needs)) ∙ sym (limited-two x h ∙ ap (λ b. b && leb (natAbs (part x 1)) largest) first)
+    let first : leb (natAbs (part x 0)) totalLimit ≡ true = ap (λ z. leb (natAbs z) totalLimit) (sym (toZ-ofZ w64 (part x 0) (search needs))) ∙ sym (c .before .before .before .inside .ensures) ∙ c .before .before .if1 .taken in
+    c .inside2 .ensures ∙ ap (λ z. leb (natAbs z) totalLimit) (toZ-ofZ w64 (part x 1) (search needs)) ∙ sym (limited-two x h ∙ ap (λ b. b && leb (natAbs (part x 1)) totalLimit) first)
 
 returns-2 : tie.Need-returns-2
 returns-2 c =
     let x = c .before .before .before .args .t1 in
     let h : length x ≡ 2 = search needs in
-    let first = ap (λ z. leb (natAbs z) largest) (sym (toZ-ofZ w64 (part x 0) (search needs))) ∙ sym (c .before .inside .ensures) ∙ c .if1 .left in
-    c .if1 .left ∙ sym (limited-two x h ∙ ap (λ b. b && leb (natAbs (part x 1)) largest) first)
+    let first = ap (λ z. leb (natAbs z) totalLimit) (sym (toZ-ofZ w64 (part x 0) (search needs))) ∙ sym (c .before .inside .ensures) ∙ c .if1 .left in
+    c .if1 .left ∙ sym (limited-two x h ∙ ap (λ b. b && leb (natAbs (part x 1)) totalLimit) first)
 
 pub is-limited-spec : {M : Type 1} → statement M
 is-limited-spec =

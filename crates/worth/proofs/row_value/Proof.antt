@@ -1,7 +1,7 @@
 -- Before each place the total is within the limit, and the row leads on from it where it leads from zero.
 use Rattle.worth_rules.proofs.Total.{turn, stop, end, zeros-passed}
 use Rattle.worth_rules.proofs.Limit.{limited-within}
-use Rattle.worth_rules.specs.Total.{largest, digitAt, nextTotal, worthFrom, worthOf}
+use Rattle.worth_rules.specs.Total.{totalLimit, placeDigit, nextTotal, worthFrom, worthOf}
 use Rattle.ring.specs.Element.{Within, plus}
 use Rattle.ring.proofs.Parts.{within-two}
 use Rattle.ring.proofs.Element.{within-le}
@@ -18,13 +18,13 @@ use Rattle.worth.proofs.row_value.Statement.{statement}
 use Rattle.worth.proofs.row_value.Tie as tie
 
 abbrev Inv-loop : tie.InvT-loop
-Inv-loop base alphabet row total₀ left₀ total left = (left ≤ length row) × Within largest total × (worthFrom base (digitAt alphabet row) left total ≡ worthOf base alphabet row)
+Inv-loop base alphabet row total₀ left₀ total left = (left ≤ length row) × Within totalLimit total × (worthFrom base (placeDigit alphabet row) left total ≡ worthOf base alphabet row)
 
 abbrev μ-loop : tie.MeasureT-loop
 μ-loop base alphabet row total₀ left₀ total left = left
 
 -- what was computed at a place
-next-is : (c : tie.After-sum Inv-loop μ-loop) → c .sum .result ≡ nextTotal (c .before .before .before .before .before .before .before .before .args .base) (c .before .before .before .before .loop .total) (digitAt (c .before .before .before .before .before .before .before .before .args .alphabet .now) (c .before .before .before .before .before .before .before .before .args .row .now) (c .before .before .before .before .loop .left - 1))
+next-is : (c : tie.After-sum Inv-loop μ-loop) → c .sum .result ≡ nextTotal (c .before .before .before .before .before .before .before .before .args .base) (c .before .before .before .before .loop .total) (placeDigit (c .before .before .before .before .before .before .before .before .args .alphabet .now) (c .before .before .before .before .before .before .before .before .args .row .now) (c .before .before .before .before .loop .left - 1))
 next-is c = c .sum .ensures ∙ ap₂ plus (c .before .before .times-base .ensures .0) (c .before .digit-at .ensures .0)
 
 counted-places-requires : tie.Need-counted-places-requires Inv-loop μ-loop
@@ -33,13 +33,13 @@ counted-places-requires c κs = tt
 loop-holds : tie.Need-loop-holds Inv-loop μ-loop
 unfolding worthOf
 loop-holds c =
-    (c .counted-places .ensures .0, within-two largest (pos 0) (pos 0) zero-le zero-le, zeros-passed (c .before .before .before .args .base) (digitAt (c .before .before .before .args .alphabet .now) (c .before .before .before .args .row .now)) (search needs) (c .counted-places .result) (length (c .before .before .before .args .row .now)) (c .counted-places .ensures .0) (c .counted-places .ensures .1))
+    (c .counted-places .ensures .0, within-two totalLimit (pos 0) (pos 0) zero-le zero-le, zeros-passed (c .before .before .before .args .base) (placeDigit (c .before .before .before .args .alphabet .now) (c .before .before .before .args .row .now)) (search needs) (c .counted-places .result) (length (c .before .before .before .args .row .now)) (c .counted-places .ensures .0) (c .counted-places .ensures .1))
 
 sub-place : tie.Need-sub-place Inv-loop μ-loop
 sub-place c = omega arith
 
 times-base-requires : tie.Need-times-base-requires Inv-loop μ-loop
-times-base-requires c κs = (c .before .before .before .before .before .pre .0, within-le largest (2 ^ 32) _ (lit≤ tt) (c .before .loop .inv .1))
+times-base-requires c κs = (c .before .before .before .before .before .pre .0, within-le totalLimit (2 ^ 32) _ (lit≤ tt) (c .before .loop .inv .1))
 
 digit-at-requires : tie.Need-digit-at-requires Inv-loop μ-loop
 digit-at-requires c κs = (omega arith, c .before .before .before .before .before .before .pre .1)

@@ -9,13 +9,13 @@ use Rattle.integers.proofs.Machine.{Term, plain-fits, stored-is}
 use Rattle.lists.proofs.Cons.{cons≡}
 use Rattle.ring.proofs.Parts.{entry, two-parts}
 use Rattle.ring.specs.Element.{part}
-use Rattle.worth_rules.specs.Total.{largest}
+use Rattle.worth_rules.specs.Total.{totalLimit}
 use Rattle.worth.proofs.shown.Statement.{statement}
 use Rattle.worth.proofs.shown.Tie as tie
 
 -- part k
 abbrev at : tie.Start → ℕ → Term
-at s k = entry largest (s .args .t1) (s .pre) k
+at s k = entry totalLimit (s .args .t1) (s .pre) k
 
 narrow : (s : tie.Start) (k : ℕ) → toZ w32 (ofZ w32 (toZ w64 (ofZ w64 (part (s .args .t1) k)))) ≡ part (s .args .t1) k
 narrow s k = ap (λ z. toZ w32 (ofZ w32 z)) (stored-is w64 (at s k) refl) ∙ stored-is w32 (at s k) refl
