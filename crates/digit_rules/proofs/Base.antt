@@ -1,7 +1,7 @@
 -- Laws of the base section, of 8 bytes within the size limits.
-use mathlib.Core.Path.{_≡_, refl, sym, ap, ap₂, _∙_}
+use mathlib.Core.Path.{_≡_, refl, sym, ap, _∙_}
 use mathlib.Core.Bool.{Bool, true, false, not}
-use mathlib.Core.List.{List, [], _∷_, reverse}
+use mathlib.Core.List.{List, [], _∷_}
 use Prim.Native.Nat.{ℕ, zero, suc, _^_, _<_, _≤_, zero-le}
 use native.Mathlib.Omega.{arith}
 use lib.IntN.{ℤ, natAbs, _+ℤ_, _*ℤ_}
@@ -13,14 +13,14 @@ use Rattle.ring.specs.Matrix.{matrixOf, RowsWithin}
 use Rattle.ring.specs.Base.{BaseLimits, perfectSquare, discriminant, expanding}
 use Rattle.ring.proofs.Parts.{within-part, within-two, s-term, t-term, u-term, v-term}
 use Rattle.ring.proofs.Base.{rows-of-two}
-use Rattle.digit_rules.specs.Record.{recordAt}
+use Rattle.lists.specs.Span.{span}
+use Rattle.digit_rules.specs.Record.{elementAt, recordAt}
 use Rattle.digit_rules.specs.Base.{BasePart, omegaOf, betaOf, baseMatrix, sOf, tOf, uOf, vOf, discriminantAllowed, expandingBase, baseCheck}
-use Rattle.digit_rules.proofs.Record.{element-two}
 
 -- degree two: ω² is s·ω + t and β is u + v·ω
 pub matrix-of-two : (base : List ℕ) → baseMatrix base ≡ matrixOf (tOf base ∷ sOf base ∷ []) (uOf base ∷ vOf base ∷ [])
-unfolding baseMatrix omegaOf betaOf
-matrix-of-two base = ap₂ matrixOf (ap reverse (element-two base 0)) (element-two base 4)
+unfolding baseMatrix omegaOf betaOf elementAt span
+matrix-of-two base = refl
 
 rows-within : (n : ℕ) (x y : List ℤ) → Within n x → Within n y → RowsWithin n (x ∷ y ∷ [])
 unfolding RowsWithin Within
@@ -35,10 +35,10 @@ module _ (base : List ℕ) (is : BasePart base) where
   pub base-limits : BaseLimits (sOf base) (tOf base) (uOf base) (vOf base)
   base-limits =
       record {
-        of-s = rw (element-two base 0) at (number-within 0 0 (omega arith));
-        of-t = rw (element-two base 0) at (number-within 0 1 (omega arith));
-        of-u = rw (element-two base 4) at (number-within 1 0 (omega arith));
-        of-v = rw (element-two base 4) at (number-within 1 1 (omega arith));
+        of-s = number-within 0 0 (omega arith);
+        of-t = number-within 0 1 (omega arith);
+        of-u = number-within 1 0 (omega arith);
+        of-v = number-within 1 1 (omega arith);
       }
 
   -- small enough to multiply by

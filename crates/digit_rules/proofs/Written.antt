@@ -7,7 +7,8 @@ use lib.ListN.{length, getD}
 use Rattle.lists.proofs.Cons.{cons≡}
 use Rattle.layout_rules.specs.Number.{unsignedAt, toSigned}
 use Rattle.layout_rules.proofs.Written.{pairsThen, directory-read}
-use Rattle.digit_rules.specs.Record.{recordAt, elementCount}
+use Rattle.lists.specs.Span.{span}
+use Rattle.digit_rules.specs.Record.{elementAt, recordAt, elementCount}
 use Rattle.digit_rules.specs.Base.{sOf, tOf, uOf, vOf}
 use Rattle.digit_rules.proofs.Record.{element-two}
 
@@ -33,6 +34,7 @@ module _ (s t u v : ℕ) (rest : List ℕ) where
   base = pairsThen ((s, t) ∷ (u, v) ∷ []) rest
 
   pub base-read : (sOf base ≡ toSigned s) × (tOf base ≡ toSigned t) × (uOf base ≡ toSigned u) × (vOf base ≡ toSigned v)
+  unfolding elementAt span
   base-read =
       let first = directory-read ((s, t) ∷ (u, v) ∷ []) rest 0 (omega arith) in
       let second = directory-read ((s, t) ∷ (u, v) ∷ []) rest 1 (omega arith) in

@@ -8,9 +8,9 @@ use lib.ListN.{length}
 use lib.IntN.{ℤ}
 use Rattle.faults.specs.declared.Refusal.{Refusal}
 use Rattle.faults.specs.Check.{judge, _then_}
-use Rattle.layout_rules.specs.Number.{signedAt}
 use Rattle.layout_rules.specs.Section.{degree}
 use Rattle.layout_rules.specs.Limit.{sizeLimit}
+use Rattle.ring.specs.Element.{part}
 use Rattle.ring.specs.Matrix.{matrixOf}
 use Rattle.ring.specs.Base.{expanding, perfectSquare, discriminant}
 use Rattle.digit_rules.specs.Record.{recordAt, RecordsWithin}
@@ -31,18 +31,18 @@ betaOf base = recordAt base 1
 unfoldable pub baseMatrix : List ℕ → List (List ℤ)
 baseMatrix base = matrixOf (omegaOf base) (betaOf base)
 
--- the four numbers of degree two
+-- the four numbers of degree two: the parts of the two records
 abbrev pub sOf : List ℕ → ℤ
-sOf base = signedAt base 0
+sOf base = part (recordAt base 0) 0
 
 abbrev pub tOf : List ℕ → ℤ
-tOf base = signedAt base 2
+tOf base = part (recordAt base 0) 1
 
 abbrev pub uOf : List ℕ → ℤ
-uOf base = signedAt base 4
+uOf base = part (recordAt base 1) 0
 
 abbrev pub vOf : List ℕ → ℤ
-vOf base = signedAt base 6
+vOf base = part (recordAt base 1) 1
 
 -- 5: s² + 4t is a perfect square, 0 included
 unfoldable pub discriminantAllowed : List ℕ → Bool

@@ -1,13 +1,12 @@
 -- Elements as they stand in the table file (document 01, "Table file"): signed 16-bit parts, lowest power first.
 use mathlib.Core.Bool.{not}
 use mathlib.Core.List.{List}
-use Prim.Native.Nat.{ℕ, _+_, _*_, _/_, _<_}
-use lib.ListN.{length}
+use Prim.Native.Nat.{ℕ, _+_, _*_, _<_}
 use lib.IntN.{ℤ}
 use Rattle.lists.specs.Span.{span}
 use Rattle.lists.specs.Scan.{firstFailing}
 use Rattle.layout_rules.specs.Number.{signedAt}
-use Rattle.layout_rules.specs.Section.{degree, elementSize}
+use Rattle.layout_rules.specs.Section.{degree, elementSize, recordCount}
 use Rattle.ring.specs.Element.{same, Within}
 
 -- the element whose first byte stands at a place
@@ -19,7 +18,7 @@ abbrev pub recordAt : List ℕ → ℕ → List ℤ
 recordAt part k = elementAt part (k * elementSize)
 
 abbrev pub elementCount : List ℕ → ℕ
-elementCount part = length part / elementSize
+elementCount part = recordCount 1 part
 
 -- every part of every record is at most so large, as rule 4 leaves it
 abbrev pub RecordsWithin : ℕ → List ℕ → Type 0

@@ -2,18 +2,18 @@
 -- of bytes, from a file or not.
 use mathlib.Core.List.{List, []}
 use mathlib.Core.Bool.{true, false, _&&_}
-use Prim.Native.Nat.{ℕ, _+_, _-_, _*_, _/_}
+use Prim.Native.Nat.{ℕ, _+_, _-_, _*_}
 use lib.ListN.{length, getD, take, drop}
 use lib.IntN.{ℤ}
 use lib.Dec.{ltb, leb}
 use Rattle.ring.specs.Element.{zeros}
 use Rattle.layout_rules.specs.Number.{unsignedAt}
-use Rattle.layout_rules.specs.Section.{degree, leafSize}
+use Rattle.layout_rules.specs.Section.{degree, leafSize, recordCount}
 use Rattle.digit_rules.specs.Record.{elementAt}
 use Rattle.numeration.specs.Code.{Code}
 
 abbrev pub leafCount : List ℕ → ℕ
-leafCount leaves = length leaves / leafSize
+leafCount leaves = recordCount 3 leaves
 
 -- where the word of leaf k starts in section 4, its length and where it ends, as whole numbers
 abbrev pub wordStart : List ℕ → ℕ → ℕ

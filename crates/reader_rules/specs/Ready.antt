@@ -18,9 +18,13 @@ use Rattle.leaf_rules.specs.Window.{digits, LookedUp}
 use Rattle.reader_rules.specs.declared.Part.{Part}
 use Rattle.reader_rules.specs.Table.{basePart, alphabetPart, inputPart, leafPart, wordPart, tableFacts}
 
--- the elements with multiplication by the file's base, its count of input digits, and its leaves
+-- the ring's elements with multiplication by the base, by the bytes of section 0
+abbrev pub system : List ℕ → Operations (List ℤ)
+system base = elements degree (baseMatrix base)
+
+-- of a file: its elements with multiplication by its base, its count of input digits, and its leaves
 abbrev pub operationsOf : List ℕ → Operations (List ℤ)
-operationsOf file = elements degree (baseMatrix (basePart file))
+operationsOf file = system (basePart file)
 
 abbrev pub inputCount : List ℕ → ℕ
 inputCount file = elementCount (inputPart file)

@@ -16,7 +16,8 @@ use Rattle.leaf_rules.specs.Leaf.{leafCount, codeOf}
 use Rattle.faults.specs.Check.{refusal, none}
 use Rattle.faults.proofs.Check.{judge-broken, judge-kept}
 use Rattle.table_rules.specs.declared.Pair.{Pair}
-use Rattle.table_rules.specs.Pairs.{system, inAlphabet, badLower, badUpper, badPair, pairCheck}
+use Rattle.table_rules.specs.Pairs.{inAlphabet, badLower, badUpper, badPair, pairCheck}
+use Rattle.reader_rules.specs.Ready.{system}
 
 module _ (base alphabet inputs leaves words : List ℕ) where
   abbrev N : ℕ

@@ -32,7 +32,8 @@ use Rattle.reader_rules.specs.Formed.{WellFormed}
 use Rattle.reader_rules.proofs.Broken.{table-decided}
 use Rattle.reader_rules.proofs.Formed.{well-formed}
 use Rattle.reader_rules.proofs.Ready.{ready-passed}
-use Rattle.table_rules.specs.Pairs.{system, inAlphabet, pairCheck}
+use Rattle.table_rules.specs.Pairs.{inAlphabet, pairCheck}
+use Rattle.reader_rules.specs.Ready.{system}
 use Rattle.table_rules.specs.Check.{pairCheckOf, checkFacts, checkOutcome}
 use Rattle.table_rules.specs.Broken.{Broken14, checkRules, checkStages, RowsConverted}
 

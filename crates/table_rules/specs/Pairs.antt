@@ -11,18 +11,11 @@ use Rattle.faults.specs.declared.Refusal.{Refusal}
 use Rattle.faults.specs.Check.{judge}
 use Rattle.ring.specs.Element.{minus}
 use Rattle.ring.specs.Matrix.{times}
-use Rattle.layout_rules.specs.Section.{degree}
 use Rattle.digit_rules.specs.Record.{recordAt, elementCount, indexIn}
-use Rattle.digit_rules.specs.Base.{baseMatrix}
-use Rattle.numeration.specs.Group.{Operations}
-use Rattle.numeration.specs.Elements.{elements}
 use Rattle.numeration.specs.Pairs.{pairPasses, upperPasses}
 use Rattle.leaf_rules.specs.Leaf.{leafCount, codeOf, wordGiven, weightGiven}
+use Rattle.reader_rules.specs.Ready.{system}
 use Rattle.table_rules.specs.declared.Pair.{Pair}
-
--- the ring's elements with multiplication by the base
-abbrev pub system : List ℕ → Operations (List ℤ)
-system base = elements degree (baseMatrix base)
 
 -- an element is in the alphabet
 unfoldable pub inAlphabet : List ℕ → List ℤ → Bool

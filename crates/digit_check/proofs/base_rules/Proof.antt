@@ -4,6 +4,8 @@ use Prim.Native.Nat.{ℕ}
 use borrow.Author.Tests.{not-true, not-false}
 use borrow.Author.Needs.{needs}
 use Rattle.ring.specs.Base.{perfectSquare, discriminant, expanding}
+use Rattle.lists.specs.Span.{span}
+use Rattle.digit_rules.specs.Record.{elementAt}
 use Rattle.digit_rules.specs.Base.{sOf, tOf, uOf, vOf}
 use Rattle.digit_rules.proofs.Base.{base-limits, square-refused, not-expanding, base-kept}
 use Rattle.digit_rules.proofs.Record.{passed-on}
@@ -15,11 +17,13 @@ base c = c .before .before .before .before .before .before .before .args .base .
 
 -- both answers, of the numbers as they stand in the section
 square-is : (c : tie.After-is-expanding) → c .before .before .before .has-square-discriminant .result ≡ perfectSquare (discriminant (sOf (base c)) (tOf (base c)))
+unfolding elementAt span
 square-is c =
     let d = c .before .before .before in
     rw (passed-on _ _ (d .before .before .signed .ensures), passed-on _ _ (d .before .signed2 .ensures)) at (d .has-square-discriminant .ensures)
 
 expanding-is : (c : tie.After-is-expanding) → c .is-expanding .result ≡ expanding (sOf (base c)) (tOf (base c)) (uOf (base c)) (vOf (base c))
+unfolding elementAt span
 expanding-is c =
     let d = c .before .before .before in
     rw (passed-on _ _ (d .before .before .signed .ensures), passed-on _ _ (d .before .signed2 .ensures), passed-on _ _ (c .before .before .signed3 .ensures), passed-on _ _ (c .before .signed4 .ensures)) at (c .is-expanding .ensures)
@@ -31,6 +35,7 @@ signed-requires-2 : tie.Need-signed-requires-2
 signed-requires-2 c κs = search needs
 
 has-square-discriminant-requires : tie.Need-has-square-discriminant-requires
+unfolding elementAt span
 has-square-discriminant-requires c κs = let l = base-limits _ (c .before .before .before .pre) in rw (passed-on _ _ (c .before .signed .ensures), passed-on _ _ (c .signed2 .ensures)) (l .of-s, l .of-t)
 
 signed-requires-3 : tie.Need-signed-requires-3
@@ -40,6 +45,7 @@ signed-requires-4 : tie.Need-signed-requires-4
 signed-requires-4 c κs = search needs
 
 is-expanding-requires : tie.Need-is-expanding-requires
+unfolding elementAt span
 is-expanding-requires c κs = rw (passed-on _ _ (c .before .before .before .before .signed .ensures), passed-on _ _ (c .before .before .before .signed2 .ensures), passed-on _ _ (c .before .signed3 .ensures), passed-on _ _ (c .signed4 .ensures)) (base-limits _ (c .before .before .before .before .before .before .pre))
 
 returns : tie.Need-returns
