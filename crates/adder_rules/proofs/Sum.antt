@@ -13,7 +13,8 @@ use Rattle.faults.proofs.Exit.{exit-lent, exit-written}
 use Rattle.faults.specs.Unless.{unless}
 use Rattle.faults.specs.Check.{refusal, none}
 use Rattle.faults.proofs.Unless.{unless-found, unless-none}
-use Rattle.reader_rules.specs.Table.{tableCheck, tableFacts, readOutcome}
+use Rattle.reader_rules.specs.Table.{tableFacts}
+use Rattle.reader_rules.specs.Check.{tableCheck, readOutcome}
 use Rattle.reader_rules.proofs.Answer.{read-fault}
 use Rattle.row_rules.specs.Check.{rowCheck}
 use Rattle.adder_rules.specs.declared.AddedFacts.{AddedFacts}

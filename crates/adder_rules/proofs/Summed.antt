@@ -24,8 +24,9 @@ use Rattle.numeration.specs.Elements.{elements, HasParts}
 use Rattle.numeration.specs.Value.{value}
 use Rattle.numeration.proofs.Laws.{same-value}
 use Rattle.numeration.proofs.Sums.{value-sum}
-use Rattle.reader_rules.specs.Table.{basePart, alphabetPart, inputPart, leafPart, wordPart, tableCheck, tableFacts}
-use Rattle.reader_rules.specs.Ready.{operationsOf, inputCount, leavesIn, valueOf}
+use Rattle.reader_rules.specs.Table.{basePart, alphabetPart, inputPart, leafPart, wordPart, tableFacts}
+use Rattle.reader_rules.specs.Check.{tableCheck}
+use Rattle.reader_rules.specs.Table.{operationsOf, inputCount, leavesIn, valueOf}
 use Rattle.reader_rules.proofs.Formed.{well-formed}
 use Rattle.reader_rules.proofs.Ready.{ready-passed}
 use Rattle.row_rules.specs.Check.{rowCheck}

@@ -10,8 +10,9 @@ use Rattle.faults.specs.declared.Refusal.{Refusal}
 use Rattle.faults.specs.Check.{judge}
 use Rattle.faults.specs.Outcome.{Outcome, facts, author, rows, atExit}
 use Rattle.faults.specs.Unless.{unless}
-use Rattle.reader_rules.specs.Table.{alphabetPart, inputPart, leafPart, wordPart, tableCheck, tableFacts}
-use Rattle.reader_rules.specs.Ready.{operationsOf}
+use Rattle.reader_rules.specs.Table.{alphabetPart, inputPart, leafPart, wordPart, tableFacts}
+use Rattle.reader_rules.specs.Check.{tableCheck}
+use Rattle.reader_rules.specs.Table.{operationsOf}
 use Rattle.row_rules.specs.Check.{rowCheck}
 use Rattle.place_rules.specs.Place.{inputAt, digitAt, indexAt, digitAllowed}
 use Rattle.adder_rules.specs.declared.AddedFacts.{AddedFacts}

@@ -3,7 +3,7 @@ ghost use mathlib.Core.Path.{_≡_};
 ghost use Prim.Native.Nat.{_+_, _<_};
 ghost use Rattle.ring.specs.Element.{Within};
 ghost use Rattle.digit_rules.specs.Record.{elementCount};
-ghost use Rattle.digit_rules.specs.Base.{BasePart, baseCheck};
+ghost use Rattle.digit_rules.specs.Digits.{BasePart, baseCheck};
 ghost use Rattle.digit_rules.specs.Digits.{alphabetCheck, sumsListed, allSumsListed, isSum, inputAllowed, inputCheck, digitCheck};
 use faults::Refusal;
 

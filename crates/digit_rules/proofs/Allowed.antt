@@ -13,8 +13,10 @@ use Rattle.lists.proofs.Scan.{scan-on}
 use Rattle.faults.specs.Check.{refusal, none, judge}
 use Rattle.faults.proofs.Check.{judge-here, judge-out}
 use Rattle.layout_rules.specs.Section.{degree}
-use Rattle.ring.specs.Element.{zeros, minus, same}
-use Rattle.digit_rules.specs.Record.{recordAt, elementCount, indexIn}
+use Rattle.ring.specs.Element.{zeros, minus}
+use Rattle.ring.specs.Tests.{same}
+use Rattle.digit_rules.specs.Record.{recordAt, elementCount}
+use Rattle.digit_rules.specs.Digits.{indexIn}
 use Rattle.digit_rules.specs.Digits.{recordAllowed, sumIndex, sumListed, allSumsListed, noSumWith, inputAllowed, inputsAllowed, inputCheck}
 use Rattle.digit_rules.proofs.Index.{index-high}
 

@@ -10,12 +10,14 @@ use Rattle.faults.specs.Check.{refusal, none, judge}
 use Rattle.faults.proofs.Check.{once-broken, once-kept, then-found, then-next}
 use Rattle.ring.specs.Element.{part, Within}
 use Rattle.ring.specs.Matrix.{matrixOf, RowsWithin}
-use Rattle.ring.specs.Base.{BaseLimits, perfectSquare, discriminant, expanding}
+use Rattle.ring.specs.Base.{discriminant}
+use Rattle.ring.specs.Tests.{BaseLimits, perfectSquare, expanding}
 use Rattle.ring.proofs.Parts.{within-part, within-two, s-term, t-term, u-term, v-term}
 use Rattle.ring.proofs.Base.{rows-of-two}
 use Rattle.lists.specs.Span.{span}
 use Rattle.digit_rules.specs.Record.{elementAt, recordAt}
-use Rattle.digit_rules.specs.Base.{BasePart, omegaOf, betaOf, baseMatrix, sOf, tOf, uOf, vOf, discriminantAllowed, expandingBase, baseCheck}
+use Rattle.digit_rules.specs.Base.{omegaOf, betaOf, baseMatrix, sOf, tOf, uOf, vOf}
+use Rattle.digit_rules.specs.Digits.{BasePart, discriminantAllowed, expandingBase, baseCheck}
 
 -- degree two: ω² is s·ω + t and β is u + v·ω
 pub matrix-of-two : (base : List ℕ) → baseMatrix base ≡ matrixOf (tOf base ∷ sOf base ∷ []) (uOf base ∷ vOf base ∷ [])

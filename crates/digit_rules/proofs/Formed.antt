@@ -17,8 +17,9 @@ use Rattle.layout_rules.specs.Section.{degree}
 use Rattle.ring.specs.Element.{zeros, plus}
 use Rattle.ring.proofs.Element.{same→≡, zeros-plus}
 use Rattle.ring.proofs.Base.{expanding-test, square-test}
-use Rattle.digit_rules.specs.Record.{recordAt, elementCount, indexIn}
-use Rattle.digit_rules.specs.Base.{discriminantAllowed, expandingBase, baseCheck}
+use Rattle.digit_rules.specs.Record.{recordAt, elementCount}
+use Rattle.digit_rules.specs.Digits.{indexIn}
+use Rattle.digit_rules.specs.Digits.{discriminantAllowed, expandingBase, baseCheck}
 use Rattle.digit_rules.specs.Digits.{recordAllowed, alphabetCheck, sumIndex, inputsAllowed, inputCheck, digitCheck}
 use Rattle.digit_rules.specs.Broken.{Broken7, Broken8}
 use Rattle.digit_rules.specs.Formed.{DigitList, DigitsFormed}

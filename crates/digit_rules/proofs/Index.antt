@@ -10,9 +10,10 @@ use borrow.Author.Tests.{not-false}
 use Rattle.lists.specs.Scan.{firstFailing}
 use Rattle.lists.proofs.Scan.{scan-high, scan-passed, scan-failed}
 use Rattle.lists.proofs.Test.{clash}
-use Rattle.ring.specs.Element.{same}
+use Rattle.ring.specs.Tests.{same}
 use Rattle.ring.proofs.Element.{same-refl, same→≡}
-use Rattle.digit_rules.specs.Record.{recordAt, indexIn}
+use Rattle.digit_rules.specs.Record.{recordAt}
+use Rattle.digit_rules.specs.Digits.{indexIn}
 
 -- an element as a test of the records: another one passes
 abbrev pub differs : List ℕ → List ℤ → ℕ → Bool

@@ -13,9 +13,11 @@ use Rattle.lists.specs.Scan.{every}
 use Rattle.lists.proofs.Scan.{every-sound, every-fails}
 use Rattle.lists.proofs.Test.{clash, not-passed}
 use Rattle.layout_rules.specs.Section.{degree, elementSize}
-use Rattle.ring.specs.Element.{zeros, plus, minus, same}
+use Rattle.ring.specs.Element.{zeros, plus, minus}
+use Rattle.ring.specs.Tests.{same}
 use Rattle.ring.proofs.Element.{plus-comm, minus-plus, plus-minus, same-refl, same→≡}
-use Rattle.digit_rules.specs.Record.{recordAt, elementCount, indexIn}
+use Rattle.digit_rules.specs.Record.{recordAt, elementCount}
+use Rattle.digit_rules.specs.Digits.{indexIn}
 use Rattle.digit_rules.specs.Digits.{recordAllowed, sumIndex, sumListed, sumsListed, allSumsListed, noSumWith, isSum}
 use Rattle.digit_rules.specs.Broken.{Broken7, Sum, Listed}
 use Rattle.digit_rules.proofs.Record.{element-parts}

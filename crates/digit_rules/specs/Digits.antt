@@ -1,17 +1,42 @@
--- Rules 7 and 8 of document 01: the alphabet and the input digits; the stage of rules 5 to 8. The three sections are given as
--- lists of bytes, of a file or not.
+-- Pinned by digits-exact and the laws of sums (proofs/Broken.antt, proofs/Formed.antt): a reader may skip this file. Rules 5 to 8 of
+-- document 01 as a check of three sections, given as lists of bytes, of a file or not.
 use mathlib.Core.Bool.{Bool, true, false, _&&_, not}
 use mathlib.Core.List.{List}
-use Prim.Native.Nat.{ℕ, zero, suc, _+_}
+use Prim.Native.Nat.{ℕ, zero, suc, _+_, _*_}
 use lib.IntN.{ℤ}
 use lib.Dec.{ltb, eqb}
-use Rattle.lists.specs.Scan.{every}
+use Rattle.lists.specs.Scan.{every, firstFailing}
 use Rattle.faults.specs.declared.Refusal.{Refusal}
 use Rattle.faults.specs.Check.{judge, _then_}
 use Rattle.layout_rules.specs.Section.{degree}
-use Rattle.ring.specs.Element.{zeros, plus, minus, same}
-use Rattle.digit_rules.specs.Record.{recordAt, elementCount, indexIn}
-use Rattle.digit_rules.specs.Base.{baseCheck}
+use Rattle.ring.specs.Element.{zeros, plus, minus, part}
+use Rattle.ring.specs.Tests.{same, expanding, perfectSquare}
+use Rattle.digit_rules.specs.Record.{recordAt, elementCount, RecordsWithin}
+use Rattle.digit_rules.specs.Base.{sOf, tOf, uOf, vOf}
+use mathlib.Core.Path.{_≡_}
+use lib.ListN.{length}
+use Rattle.layout_rules.specs.Limit.{sizeLimit}
+use Rattle.ring.specs.Base.{discriminant}
+
+-- the first of the first n records that equals an element; n where none does
+unfoldable pub indexIn : List ℕ → ℕ → List ℤ → ℕ
+indexIn part n x = firstFailing (λ k. not (same (recordAt part k) x)) 0 n
+
+-- what rules 3 and 4 leave of it: its length, and numbers within their size limits
+pub record BasePart (base : List ℕ) : Type 0 where
+  pub long : length base ≡ 4 * degree
+  pub small : RecordsWithin (sizeLimit 0) base
+
+-- 5: s² + 4t is a perfect square, 0 included
+unfoldable pub discriminantAllowed : List ℕ → Bool
+discriminantAllowed base = not (perfectSquare (discriminant (sOf base) (tOf base)))
+
+-- 6: base not expanding
+unfoldable pub expandingBase : List ℕ → Bool
+expandingBase base = expanding (sOf base) (tOf base) (uOf base) (vOf base)
+
+unfoldable pub baseCheck : List ℕ → Refusal
+baseCheck base = judge 5 (λ k. k) (λ _. discriminantAllowed base) 1 then judge 6 (λ k. k) (λ _. expandingBase base) 1
 
 -- 7: record 0 isn't zero, or a record repeats an earlier one
 unfoldable pub recordAllowed : List ℕ → ℕ → Bool

@@ -1,4 +1,4 @@
--- Document 01, "Ring and base" and "Table file": what rules 5 to 8 ask of base, alphabet and input digits.
+-- Pinned by formed and formed-passes (proofs/Formed.antt): it holds exactly where no rule of Broken.antt is broken. What rules 5 to 8 ask of base, alphabet and input digits.
 use mathlib.Core.Path.{_≡_}
 use mathlib.Core.List.{List}
 use Prim.Native.Nat.{ℕ, _<_}

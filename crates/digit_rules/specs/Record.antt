@@ -1,13 +1,11 @@
 -- Elements as they stand in the table file (document 01, "Table file"): signed 16-bit parts, lowest power first.
-use mathlib.Core.Bool.{not}
 use mathlib.Core.List.{List}
 use Prim.Native.Nat.{ℕ, _+_, _*_, _<_}
 use lib.IntN.{ℤ}
 use Rattle.lists.specs.Span.{span}
-use Rattle.lists.specs.Scan.{firstFailing}
 use Rattle.layout_rules.specs.Number.{signedAt}
 use Rattle.layout_rules.specs.Section.{degree, elementSize, recordCount}
-use Rattle.ring.specs.Element.{same, Within}
+use Rattle.ring.specs.Element.{Within}
 
 -- the element whose first byte stands at a place
 unfoldable pub elementAt : List ℕ → ℕ → List ℤ
@@ -23,7 +21,3 @@ elementCount part = recordCount 1 part
 -- every part of every record is at most so large, as rule 4 leaves it
 abbrev pub RecordsWithin : ℕ → List ℕ → Type 0
 RecordsWithin limit part = (k : ℕ) → k < elementCount part → Within limit (recordAt part k)
-
--- the first of the first n records that equals an element; n where none does
-unfoldable pub indexIn : List ℕ → ℕ → List ℤ → ℕ
-indexIn part n x = firstFailing (λ k. not (same (recordAt part k) x)) 0 n

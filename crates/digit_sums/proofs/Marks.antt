@@ -16,9 +16,11 @@ use Rattle.lists.proofs.Scan.{scan-all}
 use Rattle.lists.proofs.Test.{clash}
 use Rattle.faults.specs.Check.{none}
 use Rattle.faults.proofs.Check.{judge-kept}
-use Rattle.ring.specs.Element.{plus, same}
+use Rattle.ring.specs.Element.{plus}
+use Rattle.ring.specs.Tests.{same}
 use Rattle.ring.proofs.Element.{same→≡}
-use Rattle.digit_rules.specs.Record.{recordAt, elementCount, indexIn}
+use Rattle.digit_rules.specs.Record.{recordAt, elementCount}
+use Rattle.digit_rules.specs.Digits.{indexIn}
 use Rattle.digit_rules.specs.Digits.{recordAllowed, sumIndex, sumListed, allSumsListed, inputAllowed, inputsAllowed, inputCheck}
 use Rattle.digit_rules.specs.Broken.{Broken7}
 use Rattle.slots.specs.Slot.{slotOf}

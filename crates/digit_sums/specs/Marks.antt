@@ -1,4 +1,4 @@
--- How a quick look at rule 8 finds sums among the input digits: by a slot for each element, and links from an input digit to
+-- For helpers' contracts only: how a quick look at rule 8 finds sums among the input digits: by a slot for each element, and links from an input digit to
 -- another one of its slot. Marks at input indexes: each marks a sum of two alphabet digits, at the index where it is found.
 use mathlib.Core.Path.{_≡_}
 use mathlib.Core.Bool.{true, false}
@@ -7,7 +7,8 @@ use Prim.Native.Nat.{ℕ, zero, suc, _<_}
 use lib.ListN.{getD}
 use lib.Dec.{ltb}
 use lib.IntN.{ℤ}
-use Rattle.ring.specs.Element.{plus, same}
+use Rattle.ring.specs.Element.{plus}
+use Rattle.ring.specs.Tests.{same}
 use Rattle.digit_rules.specs.Record.{recordAt, elementCount}
 use Rattle.slots.specs.Slot.{slotOf}
 

@@ -4,8 +4,10 @@ ghost use mathlib.Core.Path.{_≡_};
 ghost use Prim.Native.Nat.{_+_, _≤_, _<_};
 ghost use lib.ListN.{length};
 ghost use Rattle.ring.specs.Element.{Within};
-ghost use Rattle.digit_rules.specs.Record.{elementAt, recordAt, elementCount, indexIn};
-ghost use Rattle.digit_rules.specs.Base.{BasePart, baseMatrix};
+ghost use Rattle.digit_rules.specs.Record.{elementAt, recordAt, elementCount};
+ghost use Rattle.digit_rules.specs.Digits.{indexIn};
+ghost use Rattle.digit_rules.specs.Base.{baseMatrix};
+ghost use Rattle.digit_rules.specs.Digits.{BasePart};
 ghost use Rattle.digit_rules.specs.Digits.{recordAllowed, sumIndex};
 
 // The bytes of an element.

@@ -21,7 +21,7 @@ use Rattle.digit_rules.specs.Digits.{sumIndex}
 use Rattle.numeration.specs.Changes.{Changes, Local, digitRow, renewed, storeTaken, storeAll}
 use Rattle.numeration.proofs.Changes.{stored-taken, stored-other, renewed-right, valid-storeTaken, valid-storeAll}
 use Rattle.reader_rules.specs.Table.{alphabetPart, inputPart, tableFacts}
-use Rattle.reader_rules.specs.Ready.{valueOf}
+use Rattle.reader_rules.specs.Table.{valueOf}
 use Rattle.reader_rules.proofs.Kept.{no-number}
 use Rattle.row_rules.specs.declared.Change.{Change}
 use Rattle.row_rules.specs.Changed.{changed, noChange}

@@ -11,7 +11,7 @@ use Rattle.calls.specs.Answers.{stage, Answers}
 use Rattle.digit_rules.specs.Record.{recordAt}
 use Rattle.numeration.specs.Changes.{Changes, storeAll}
 use Rattle.reader_rules.specs.Table.{alphabetPart, tableFacts}
-use Rattle.reader_rules.specs.Ready.{operationsOf, valueOf}
+use Rattle.reader_rules.specs.Table.{operationsOf, valueOf}
 use Rattle.row_rules.specs.declared.Change.{Change}
 use Rattle.row_rules.specs.Changed.{changed, noChange}
 use Rattle.row_rules.specs.Broken.{editRules}

@@ -1,7 +1,7 @@
 // Elements: products, expanding bases, midpoints.
 ghost use Prim.Native.Nat.{_≤_};
 ghost use lib.IntN.{natAbs};
-ghost use Rattle.ring.specs.Base.{BaseLimits};
+ghost use Rattle.ring.specs.Tests.{BaseLimits};
 use crate::output;
 use midpoint::Element;
 

@@ -1,4 +1,4 @@
--- Checks run in their order, and the place is that of the first offender (document 01, "Who sends a fault").
+-- Pinned by the laws of proofs/Rule.antt: a reader may skip this file. Checks run in their order, and the place is that of the first offender (document 01, "Who sends a fault").
 use mathlib.Core.Bool.{Bool, true, false}
 use Prim.Native.Nat.{ℕ, zero, suc}
 use lib.Dec.{eqb, ltb}

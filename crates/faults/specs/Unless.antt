@@ -1,4 +1,4 @@
--- From a check's refusal to a call's outcome (document 01, "Who sends a fault").
+-- Pinned by the laws of crate calls: a reader may skip this file. From a check's refusal to a call's outcome.
 use mathlib.Core.Bool.{true, false}
 use lib.Dec.{eqb}
 use Rattle.faults.specs.declared.Refusal.{Refusal}

@@ -1,4 +1,4 @@
--- Equality of integers as a test that computes.
+-- Pinned by proofs/Test.antt: a reader may skip this file. Equality of integers as a test that computes.
 use mathlib.Core.Bool.{Bool, false}
 use lib.IntN.{ℤ, pos, negsuc}
 use lib.Dec.{eqb}

@@ -14,7 +14,8 @@ use Rattle.faults.proofs.Check.{judge-passed, turn-kept}
 use Rattle.layout_rules.specs.Number.{signedAt}
 use Rattle.layout_rules.specs.Section.{degree, elementSize, recordSize, recordCount, elementStart, sectionLength, sectionEnd, partOf}
 use Rattle.layout_rules.specs.Directory.{directoryCheck}
-use Rattle.layout_rules.specs.Length.{leastRecords, mostRecords, lengthAllowed, sectionAllowed, lengthCheck, sectionLengths}
+use Rattle.layout_rules.specs.Length.{leastRecords, mostRecords, lengthAllowed, sectionAllowed, lengthCheck}
+use Rattle.layout_rules.specs.Section.{sectionLengths}
 use Rattle.layout_rules.specs.Limit.{sizeLimit, numberCount, numberAllowed, limitCheckIn, limitCheckOf, limitCheck}
 use Rattle.layout_rules.proofs.Laid.{Laid, laid, part-length}
 use Rattle.layout_rules.proofs.Length.{sized}

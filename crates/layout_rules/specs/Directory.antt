@@ -1,4 +1,5 @@
--- Rules 1 and 2 of document 01: the file's size and its directory.
+-- Pinned by layout-exact (proofs/Broken.antt): a reader may skip this file. Rules 1 and 2 of document 01 as a check: the file's size
+-- and its directory.
 use mathlib.Core.List.{List}
 use mathlib.Core.Bool.{Bool, _&&_, _||_}
 use Prim.Native.Nat.{ℕ, zero, suc}

@@ -1,13 +1,13 @@
--- Rule 3 of document 01: the lengths of the five sections, which need not come from a file.
+-- Pinned by layout-exact (proofs/Broken.antt): a reader may skip this file. Rule 3 of document 01 as a check: the lengths of the five
+-- sections, which need not come from a file.
 use mathlib.Core.List.{List, [], _∷_}
 use mathlib.Core.Bool.{Bool, _&&_}
 use Prim.Native.Nat.{ℕ, _*_, _%_}
 use lib.ListN.{getD}
 use lib.Dec.{leb, eqb}
-use Rattle.lists.specs.Span.{span}
 use Rattle.faults.specs.declared.Refusal.{Refusal}
 use Rattle.faults.specs.Check.{judge}
-use Rattle.layout_rules.specs.Section.{recordSize, sectionLength}
+use Rattle.layout_rules.specs.Section.{recordSize}
 
 -- the least and the most records of each section; the base section is two elements
 abbrev pub leastRecords : ℕ → ℕ
@@ -27,7 +27,3 @@ sectionAllowed lengths section = lengthAllowed section (getD lengths section 0)
 
 unfoldable pub lengthCheck : List ℕ → Refusal
 lengthCheck lengths = judge 3 (λ k. k) (sectionAllowed lengths) 5
-
--- the five lengths that a file's directory names
-abbrev pub sectionLengths : List ℕ → List ℕ
-sectionLengths file = span (sectionLength file) 0 5

@@ -1,4 +1,5 @@
--- Rule 4 of document 01: size limits, in file order; the place is the file offset of the number's low byte.
+-- Pinned by layout-exact (proofs/Broken.antt): a reader may skip this file. Rule 4 of document 01 as a check: size limits, in file
+-- order; the place is the file offset of the number's low byte.
 use mathlib.Core.List.{List, [], _∷_}
 use mathlib.Core.Bool.{Bool}
 use Prim.Native.Nat.{ℕ, _+_, _-_, _*_, _/_, _%_}

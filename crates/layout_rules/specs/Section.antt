@@ -3,6 +3,7 @@ use mathlib.Core.List.{List, [], _∷_}
 use Prim.Native.Nat.{ℕ, _+_, _-_, _*_, _/_}
 use lib.ListN.{length, getD, take, drop}
 use Rattle.layout_rules.specs.Number.{unsignedAt}
+use Rattle.lists.specs.Span.{span}
 
 -- the degree of the ring: an element is this many numbers
 abbrev pub degree : ℕ
@@ -40,3 +41,7 @@ sectionEnd file section = sectionStart file section + sectionLength file section
 -- a section as that part of the file
 abbrev pub partOf : List ℕ → ℕ → List ℕ
 partOf file section = take (sectionEnd file section - sectionStart file section) (drop (sectionStart file section) file)
+
+-- the five lengths that a file's directory names
+abbrev pub sectionLengths : List ℕ → List ℕ
+sectionLengths file = span (sectionLength file) 0 5

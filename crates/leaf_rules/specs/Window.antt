@@ -1,4 +1,4 @@
--- The look-up (document 01, "Conversion and addition"): from a window of eight input indexes to the number of the leaf that begins it.
+-- For helpers' contracts only: the look-up (document 01, "Conversion and addition"): from a window of eight input indexes to the number of the leaf that begins it.
 use mathlib.Core.Path.{_≡_}
 use mathlib.Core.List.{List}
 use Prim.Native.Nat.{ℕ, suc, _<_, _≤_}

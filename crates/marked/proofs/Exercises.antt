@@ -3,8 +3,10 @@ use mathlib.Core.Path.{refl}
 use Rattle.lists.specs.Overwrite.{overwrite}
 use Rattle.lists.specs.Scan.{firstFailing, every}
 use Rattle.lists.specs.Span.{span}
-use Rattle.ring.specs.Base.{baseTrace, baseNorm, expanding, discriminant, squareBelow, perfectSquare}
-use Rattle.ring.specs.Element.{plus, negative, minus, scale, timesOmega, product, unit, same}
+use Rattle.ring.specs.Base.{baseTrace, baseNorm, discriminant}
+use Rattle.ring.specs.Tests.{expanding, squareBelow, perfectSquare}
+use Rattle.ring.specs.Element.{plus, negative, minus, scale, timesOmega, product, unit}
+use Rattle.ring.specs.Tests.{same}
 use Rattle.ring.specs.Matrix.{dot, times, columns, matrixOf, trace, alternating, without, determinant}
 use Rattle.faults.specs.Outcome.{atExit}
 use Rattle.faults.specs.Check.{judge, _then_, inTurn}
@@ -13,9 +15,11 @@ use Rattle.layout_rules.specs.Directory.{sizeAllowed, expectedStart, pairAllowe
 use Rattle.layout_rules.specs.Length.{lengthAllowed, lengthCheck}
 use Rattle.layout_rules.specs.Limit.{numberPlace, numberCount, numberAllowed, limitCheckIn, limitCheckOf, limitCheck}
 use Rattle.layout_rules.specs.Number.{unsignedAt, toSigned}
-use Rattle.digit_rules.specs.Base.{omegaOf, betaOf, baseMatrix, discriminantAllowed, expandingBase, baseCheck}
+use Rattle.digit_rules.specs.Base.{omegaOf, betaOf, baseMatrix}
+use Rattle.digit_rules.specs.Digits.{discriminantAllowed, expandingBase, baseCheck}
 use Rattle.digit_rules.specs.Digits.{recordAllowed, alphabetCheck, sumIndex, sumListed, sumsListed, allSumsListed, noSumWith, isSum, inputAllowed, inputsAllowed, inputCheck, digitCheck}
-use Rattle.digit_rules.specs.Record.{elementAt, indexIn}
+use Rattle.digit_rules.specs.Record.{elementAt}
+use Rattle.digit_rules.specs.Digits.{indexIn}
 use Rattle.numeration.specs.Code.{agree, lower, largest, begins, leafOf, depth, precedes}
 use Rattle.numeration.specs.Conversion.{window, outDigit, weightInto, weightAt, convert, convertRow}
 use Rattle.numeration.specs.Elements.{elements}
@@ -23,7 +27,8 @@ use Rattle.numeration.specs.Pairs.{tail, fits, pairDigitAt, pairString, pairRow
 use Rattle.prefix_rules.specs.Check.{expectedWordStart, leafAllowed, placeCheck, wordIndexCheck, orderCheck, coverCheck, zeroCheck, leafCheck}
 use Rattle.prefix_rules.specs.Coverage.{runEnd, everyRun, covered}
 use Rattle.leaf_rules.specs.Leaf.{wordGiven, weightGiven}
-use Rattle.reader_rules.specs.Table.{layoutCheck, digitCheckOf, leafCheckOf, tableCheck, partFacts, tableFacts, readOutcome}
+use Rattle.reader_rules.specs.Table.{partFacts, tableFacts}
+use Rattle.reader_rules.specs.Check.{layoutCheck, digitCheckOf, leafCheckOf, tableCheck, readOutcome}
 use Rattle.table_rules.specs.Check.{pairCheckOf, checkFacts, checkOutcome}
 use Rattle.table_rules.specs.Pairs.{inAlphabet, badLower, badUpper, pairCheck, badPair}
 use Rattle.carried.specs.Tables.{unsigned16, signed16, joined, record4, leafRecords, directory, sections, fileOf, ternInputs, ternWeight, ternLeaves, ternFile, binInputs, binWeight2, binWeight1, binLeavesOf, binLeaves, binFile}

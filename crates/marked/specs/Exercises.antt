@@ -6,7 +6,7 @@ use Prim.Native.Nat.{ℕ}
 use lib.IntN.{ℤ, pos, negsuc}
 use lib.ListN.{set, length}
 use Rattle.ring.specs.Element.{product}
-use Rattle.ring.specs.Base.{expanding}
+use Rattle.ring.specs.Tests.{expanding}
 use Rattle.faults.specs.Outcome.{Outcome, author, facts, refused}
 use Rattle.table_rules.specs.declared.Facts.{Facts}
 use Rattle.table_rules.specs.Check.{checkOutcome}

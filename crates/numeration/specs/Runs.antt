@@ -1,4 +1,4 @@
--- Where the lower leaves that fit an upper leaf stand: a run of neighbours in the order of the words.
+-- For helpers' contracts only: where the lower leaves that fit an upper leaf stand: a run of neighbours in the order of the words.
 use mathlib.Core.Bool.{true, false}
 use Prim.Native.Nat.{ℕ, pred}
 use lib.Dec.{ltb}

@@ -12,9 +12,10 @@ use lib.ListN.{length, getD, set, List·getD-eq-default}
 use lib.Seq.{getD-set-same, getD-set-other}
 use borrow.Author.Tests.{lt-ltb, le-ltb, ltb-true}
 use Rattle.lists.proofs.Test.{same-outcome}
-use Rattle.ring.specs.Element.{same}
+use Rattle.ring.specs.Tests.{same}
 use Rattle.ring.proofs.Element.{same-refl, same→≡}
-use Rattle.digit_rules.specs.Record.{recordAt, elementCount, indexIn}
+use Rattle.digit_rules.specs.Record.{recordAt, elementCount}
+use Rattle.digit_rules.specs.Digits.{indexIn}
 use Rattle.digit_rules.proofs.Index.{index-is, index-first}
 use Rattle.table_rules.specs.Pairs.{inAlphabet}
 use Rattle.slots.specs.Slot.{slotOf}

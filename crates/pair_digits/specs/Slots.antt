@@ -1,4 +1,4 @@
--- Slots for the alphabet digits: a digit that has one of its own is found at once.
+-- For helpers' contracts only: slots for the alphabet digits: a digit that has one of its own is found at once.
 use mathlib.Core.Path.{_≡_}
 use mathlib.Core.List.{List}
 use Prim.Native.Nat.{ℕ, _<_}

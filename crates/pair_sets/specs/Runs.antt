@@ -1,4 +1,4 @@
--- Words as numbers, the runs of lower leaves that fit, and what the quick look of rule 14 says.
+-- For helpers' contracts only: words as numbers, the runs of lower leaves that fit, and what the quick look of rule 14 says.
 use mathlib.Core.Path.{_≡_}
 use mathlib.Core.Bool.{true}
 use mathlib.Core.List.{List}

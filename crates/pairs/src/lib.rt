@@ -3,7 +3,7 @@ ghost use mathlib.Core.Path.{_≡_};
 ghost use lib.ListN.{length, getD};
 ghost use Rattle.ring.specs.Matrix.{RowsWithin};
 ghost use Rattle.layout_rules.specs.Section.{degree};
-ghost use Rattle.digit_rules.specs.Base.{BasePart};
+ghost use Rattle.digit_rules.specs.Digits.{BasePart};
 ghost use Rattle.digit_rules.specs.Record.{recordAt, elementCount};
 ghost use Rattle.numeration.specs.Code.{agree};
 ghost use Rattle.numeration.specs.Elements.{elements};

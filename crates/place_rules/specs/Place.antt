@@ -4,7 +4,8 @@ use mathlib.Core.List.{List}
 use Prim.Native.Nat.{ℕ}
 use lib.ListN.{getD}
 use lib.IntN.{ℤ}
-use Rattle.digit_rules.specs.Record.{recordAt, elementCount, indexIn}
+use Rattle.digit_rules.specs.Record.{recordAt, elementCount}
+use Rattle.digit_rules.specs.Digits.{indexIn}
 use Rattle.digit_rules.specs.Digits.{sumIndex}
 use Rattle.numeration.specs.Group.{Operations}
 use Rattle.numeration.specs.Conversion.{convert}

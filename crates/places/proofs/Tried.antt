@@ -10,7 +10,7 @@ use lib.Seq.{getD-set-same, getD-set-other}
 use lib.IntN.{ℤ}
 use lib.Dec.{T}
 use Rattle.integers.proofs.Machine.{leaf}
-use Rattle.ring.specs.Element.{same}
+use Rattle.ring.specs.Tests.{same}
 use Rattle.digit_rules.specs.Record.{recordAt, elementCount}
 use Rattle.digit_rules.proofs.Index.{index-is, index-first}
 use Rattle.numeration.specs.Code.{Begins}

@@ -1,4 +1,4 @@
--- What the quick look in front of the scans finds: no rule of 9 to 12 is broken.
+-- For helpers' contracts only: what the quick look in front of the scans finds: no rule of 9 to 12 is broken.
 use mathlib.Core.Path.{_≡_}
 use mathlib.Core.List.{List}
 use Prim.Native.Nat.{ℕ, _<_}

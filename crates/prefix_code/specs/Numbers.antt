@@ -1,4 +1,4 @@
--- Words by their numbers: a quick way to see that rules 11 and 12 hold.
+-- For helpers' contracts only: words by their numbers, a quick way to see that rules 11 and 12 hold.
 use mathlib.Core.Path.{_≡_}
 use Prim.Native.Nat.{ℕ, zero, suc, _+_, _-_, _^_, _<_, _≤_}
 use Rattle.numeration.specs.Code.{Code}

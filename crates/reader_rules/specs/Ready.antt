@@ -1,40 +1,20 @@
--- The table of the bytes: what addition, edit, value and check go by on a file that is well formed.
+-- For helpers' contracts only: what addition, edit, value and check go by on a file that is well formed.
 use mathlib.Core.Path.{_≡_}
-use mathlib.Core.List.{List, map}
+use mathlib.Core.List.{List}
 use Prim.Native.Nat.{ℕ, _-_, _<_, _≤_}
 use lib.ListN.{length, take, drop}
-use lib.IntN.{ℤ}
 use Rattle.layout_rules.specs.Section.{degree}
 use Rattle.ring.specs.Element.{zeros}
 use Rattle.digit_rules.specs.Record.{recordAt, elementCount}
-use Rattle.digit_rules.specs.Base.{BasePart, baseMatrix}
-use Rattle.numeration.specs.Group.{Operations, AdditiveGroup}
-use Rattle.numeration.specs.Elements.{elements, HasParts}
-use Rattle.numeration.specs.Code.{Code, Agree, Inputs, OrderedCode, PrefixCode, leafOf}
+use Rattle.digit_rules.specs.Digits.{BasePart}
+use Rattle.numeration.specs.Group.{AdditiveGroup}
+use Rattle.numeration.specs.Elements.{HasParts}
+use Rattle.numeration.specs.Code.{Agree, Inputs, OrderedCode, PrefixCode, leafOf}
 use Rattle.numeration.specs.Conversion.{InGroup}
-use Rattle.numeration.specs.Value.{value}
-use Rattle.leaf_rules.specs.Leaf.{leafCount, wordLength, weightOf, codeOf}
+use Rattle.leaf_rules.specs.Leaf.{leafCount, wordLength, weightOf}
 use Rattle.leaf_rules.specs.Window.{digits, LookedUp}
 use Rattle.reader_rules.specs.declared.Part.{Part}
-use Rattle.reader_rules.specs.Table.{basePart, alphabetPart, inputPart, leafPart, wordPart, tableFacts}
-
--- the ring's elements with multiplication by the base, by the bytes of section 0
-abbrev pub system : List ℕ → Operations (List ℤ)
-system base = elements degree (baseMatrix base)
-
--- of a file: its elements with multiplication by its base, its count of input digits, and its leaves
-abbrev pub operationsOf : List ℕ → Operations (List ℤ)
-operationsOf file = system (basePart file)
-
-abbrev pub inputCount : List ℕ → ℕ
-inputCount file = elementCount (inputPart file)
-
-abbrev pub leavesIn : List ℕ → Code (List ℤ)
-leavesIn file = codeOf (leafPart file) (wordPart file)
-
--- "The value of a row is the sum of its digits, each times β to the power of its place"
-abbrev pub valueOf : List ℕ → List ℕ → List ℤ
-valueOf file row = value (operationsOf file) (map (recordAt (alphabetPart file)) row)
+use Rattle.reader_rules.specs.Table.{basePart, alphabetPart, inputPart, leafPart, wordPart, tableFacts, operationsOf, inputCount, leavesIn}
 
 -- where a section lies in the file: its bytes, and its count of records
 pub record Lies (file : List ℕ) (fact : Part) (bytes : List ℕ) (count : ℕ) : Type 0 where

@@ -1,23 +1,17 @@
--- A table as its file gives it (document 01, "Table file"): rules 1 to 13, and the facts that addition, edit and value go by.
-use mathlib.Core.List.{List}
+-- A table as its file gives it (document 01, "Table file"): its sections, and the facts that addition, edit and value go by.
+use mathlib.Core.List.{List, map}
 use Prim.Native.Nat.{ℕ}
-use Rattle.faults.specs.declared.Refusal.{Refusal}
-use Rattle.faults.specs.Check.{_then_}
-use Rattle.faults.specs.Outcome.{Outcome, facts, author, refusedBy}
-use Rattle.faults.specs.Unless.{unless}
-use Rattle.layout_rules.specs.Section.{sectionStart, sectionEnd, partOf, recordCount}
-use Rattle.layout_rules.specs.Directory.{directoryCheck}
-use Rattle.layout_rules.specs.Length.{lengthCheck, sectionLengths}
-use Rattle.layout_rules.specs.Limit.{limitCheck}
-use Rattle.digit_rules.specs.Record.{elementCount}
-use Rattle.digit_rules.specs.Digits.{digitCheck}
-use Rattle.numeration.specs.Code.{depth}
+use Rattle.layout_rules.specs.Section.{degree, sectionStart, sectionEnd, partOf, recordCount}
+use Rattle.digit_rules.specs.Record.{elementCount, recordAt}
+use Rattle.numeration.specs.Code.{depth, Code}
 use Rattle.leaf_rules.specs.Leaf.{codeOf}
-use Rattle.prefix_rules.specs.Check.{leafCheck}
 use Rattle.reader_rules.specs.declared.Part.{Part}
 use Rattle.reader_rules.specs.declared.Table.{Table}
-use Rattle.reader_rules.specs.declared.Reading.{Reading}
-use Rattle.reader_rules.specs.declared.Reading.the-variants.{Facts, Refused}
+use lib.IntN.{ℤ}
+use Rattle.digit_rules.specs.Base.{baseMatrix}
+use Rattle.numeration.specs.Group.{Operations}
+use Rattle.numeration.specs.Elements.{elements}
+use Rattle.numeration.specs.Value.{value}
 
 -- the five sections
 abbrev pub basePart : List ℕ → List ℕ
@@ -35,19 +29,6 @@ leafPart file = partOf file 3
 abbrev pub wordPart : List ℕ → List ℕ
 wordPart file = partOf file 4
 
--- rules 1 to 4, 5 to 8, 9 to 13, and all of them in their order
-unfoldable pub layoutCheck : List ℕ → Refusal
-layoutCheck file = directoryCheck file then lengthCheck (sectionLengths file) then limitCheck file
-
-unfoldable pub digitCheckOf : List ℕ → Refusal
-digitCheckOf file = digitCheck (basePart file) (alphabetPart file) (inputPart file)
-
-unfoldable pub leafCheckOf : List ℕ → Refusal
-leafCheckOf file = leafCheck (leafPart file) (wordPart file) (elementCount (inputPart file))
-
-unfoldable pub tableCheck : List ℕ → Refusal
-tableCheck file = layoutCheck file then digitCheckOf file then leafCheckOf file
-
 -- where a section lies, and how many records it has
 unfoldable pub partFacts : List ℕ → ℕ → Part
 partFacts file section =
@@ -64,10 +45,20 @@ tableFacts file =
       depth = depth (codeOf (leafPart file) (wordPart file));
     }
 
--- the reader's answer, and what it is for every list of bytes
-abbrev pub readAs : Reading → Outcome Table
-readAs (Facts table) = facts table
-readAs (Refused fault) = refusedBy fault
+-- the ring's elements with multiplication by the base, by the bytes of section 0
+abbrev pub system : List ℕ → Operations (List ℤ)
+system base = elements degree (baseMatrix base)
 
-unfoldable pub readOutcome : List ℕ → Outcome Table
-readOutcome file = unless author (tableCheck file) (facts (tableFacts file))
+-- of a file: its elements with multiplication by its base, its count of input digits, and its leaves
+abbrev pub operationsOf : List ℕ → Operations (List ℤ)
+operationsOf file = system (basePart file)
+
+abbrev pub inputCount : List ℕ → ℕ
+inputCount file = elementCount (inputPart file)
+
+abbrev pub leavesIn : List ℕ → Code (List ℤ)
+leavesIn file = codeOf (leafPart file) (wordPart file)
+
+-- "The value of a row is the sum of its digits, each times β to the power of its place"
+abbrev pub valueOf : List ℕ → List ℕ → List ℤ
+valueOf file row = value (operationsOf file) (map (recordAt (alphabetPart file)) row)

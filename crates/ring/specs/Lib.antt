@@ -1,3 +1,4 @@
 pub mod Element
 pub mod Matrix
 pub mod Base
+pub mod Tests

@@ -3,9 +3,11 @@ ghost use mathlib.Core.Path.{_≡_};
 ghost use mathlib.Core.List.{[], _∷_};
 ghost use Prim.Native.Nat.{_≤_, _<_, _^_};
 ghost use lib.IntN.{pos, natAbs};
-ghost use Rattle.ring.specs.Element.{plus, minus, same, Within};
+ghost use Rattle.ring.specs.Element.{plus, minus, Within};
+ghost use Rattle.ring.specs.Tests.{same};
 ghost use Rattle.ring.specs.Matrix.{dot, times, matrixOf, RowsWithin};
-ghost use Rattle.ring.specs.Base.{BaseLimits, baseTrace, baseNorm, expanding, perfectSquare, discriminant};
+ghost use Rattle.ring.specs.Base.{baseTrace, baseNorm, discriminant};
+ghost use Rattle.ring.specs.Tests.{BaseLimits, expanding, perfectSquare};
 
 // One part of matrix times element.
 fn dot_product(row: [i64; 2], x: [i64; 2]) -> i64

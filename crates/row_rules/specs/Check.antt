@@ -1,4 +1,5 @@
--- Rules 20 to 26 of document 01: the rows that are lent and what an editor asks for.
+-- Pinned by rows-exact, one-row-exact and edit-exact (proofs/Broken.antt): a reader may skip this file. Rules 20 to 26 of document 01
+-- as checks: the rows that are lent and what an editor asks for.
 use mathlib.Core.List.{List}
 use mathlib.Core.Bool.{Bool, _&&_}
 use Prim.Native.Nat.{ℕ, _+_}

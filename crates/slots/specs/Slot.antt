@@ -1,4 +1,4 @@
--- A slot for each element, of 256. Those of a square of 16 by 16 have different ones.
+-- For helpers' contracts only: a slot for each element, of 256. Those of a square of 16 by 16 have different ones.
 use mathlib.Core.Bool.{true, false}
 use mathlib.Core.List.{List}
 use Prim.Native.Nat.{ℕ, _%_}

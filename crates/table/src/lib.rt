@@ -3,7 +3,7 @@ ghost use mathlib.Core.Path.{_≡_};
 ghost use lib.ListN.{length};
 ghost use Prim.Native.Nat.{_≤_, _<_};
 ghost use Rattle.lists.specs.Overwrite.{overwrite};
-ghost use Rattle.reader_rules.specs.Table.{tableCheck};
+ghost use Rattle.reader_rules.specs.Check.{tableCheck};
 ghost use Rattle.table_rules.specs.Check.{pairCheckOf, checkOutcome};
 ghost use Rattle.table.specs.Answer.{outcomeOf};
 ghost use Rattle.table.specs.Line.{acceptedLine, refusedLine, lineCount, lineInto};

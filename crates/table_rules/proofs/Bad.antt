@@ -17,7 +17,7 @@ use Rattle.faults.specs.Check.{refusal, none}
 use Rattle.faults.proofs.Check.{judge-broken, judge-kept}
 use Rattle.table_rules.specs.declared.Pair.{Pair}
 use Rattle.table_rules.specs.Pairs.{inAlphabet, badLower, badUpper, badPair, pairCheck}
-use Rattle.reader_rules.specs.Ready.{system}
+use Rattle.reader_rules.specs.Table.{system}
 
 module _ (base alphabet inputs leaves words : List ℕ) where
   abbrev N : ℕ

@@ -20,20 +20,22 @@ use Rattle.faults.proofs.Check.{then-kept, then-next, judge-passed}
 use Rattle.faults.proofs.Unless.{unless-none, unless-then, accepted-nothing}
 use Rattle.calls.specs.Answers.{Answers}
 use Rattle.calls.proofs.Answers.{stage-answers}
-use Rattle.digit_rules.specs.Record.{recordAt, elementCount, indexIn}
+use Rattle.digit_rules.specs.Record.{recordAt, elementCount}
+use Rattle.digit_rules.specs.Digits.{indexIn}
 use Rattle.digit_rules.specs.Broken.{Listed}
 use Rattle.digit_rules.proofs.Index.{index-is, index-first}
 use Rattle.numeration.specs.Pairs.{fits, Fits, pairDigit, pairPasses, upperPasses, PairsConvert, RowsConvert}
 use Rattle.numeration.proofs.Agreement.{agree-sound, agree-complete}
 use Rattle.numeration.proofs.Pairs.{pairs-rows}
 use Rattle.leaf_rules.specs.Leaf.{leafCount, codeOf}
-use Rattle.reader_rules.specs.Table.{basePart, alphabetPart, inputPart, leafPart, wordPart, tableCheck}
+use Rattle.reader_rules.specs.Table.{basePart, alphabetPart, inputPart, leafPart, wordPart}
+use Rattle.reader_rules.specs.Check.{tableCheck}
 use Rattle.reader_rules.specs.Formed.{WellFormed}
 use Rattle.reader_rules.proofs.Broken.{table-decided}
 use Rattle.reader_rules.proofs.Formed.{well-formed}
 use Rattle.reader_rules.proofs.Ready.{ready-passed}
 use Rattle.table_rules.specs.Pairs.{inAlphabet, pairCheck}
-use Rattle.reader_rules.specs.Ready.{system}
+use Rattle.reader_rules.specs.Table.{system}
 use Rattle.table_rules.specs.Check.{pairCheckOf, checkFacts, checkOutcome}
 use Rattle.table_rules.specs.Broken.{Broken14, checkRules, checkStages, RowsConverted}
 

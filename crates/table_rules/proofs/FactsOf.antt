@@ -7,7 +7,8 @@ use Rattle.faults.specs.Outcome.{facts}
 use Rattle.layout_rules.specs.Section.{recordSize, sectionLength}
 use Rattle.layout_rules.proofs.Passed.{whole-records}
 use Rattle.leaf_rules.specs.Leaf.{wordLength}
-use Rattle.reader_rules.specs.Table.{leafPart, tableCheck, tableFacts, partFacts}
+use Rattle.reader_rules.specs.Table.{leafPart, tableFacts, partFacts}
+use Rattle.reader_rules.specs.Check.{tableCheck}
 use Rattle.reader_rules.proofs.Kept.{layout-kept, table-kept}
 use Rattle.reader_rules.proofs.Formed.{well-formed}
 use Rattle.reader_rules.proofs.Ready.{ready-passed}

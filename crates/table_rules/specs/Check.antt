@@ -1,10 +1,12 @@
--- The check of a table file: rules 1 to 14, and its facts ("Who sends a fault" of document 01).
+-- Pinned by demand-1 and facts-of (proofs/Demand.antt, proofs/FactsOf.antt): a reader may skip this file. The check of a table file:
+-- rules 1 to 14, and its facts.
 use mathlib.Core.List.{List}
 use Prim.Native.Nat.{ℕ}
 use Rattle.faults.specs.declared.Refusal.{Refusal}
 use Rattle.faults.specs.Outcome.{Outcome, facts, author}
 use Rattle.faults.specs.Unless.{unless}
-use Rattle.reader_rules.specs.Table.{basePart, alphabetPart, inputPart, leafPart, wordPart, tableCheck, tableFacts}
+use Rattle.reader_rules.specs.Table.{basePart, alphabetPart, inputPart, leafPart, wordPart, tableFacts}
+use Rattle.reader_rules.specs.Check.{tableCheck}
 use Rattle.table_rules.specs.declared.Facts.{Facts}
 use Rattle.table_rules.specs.Pairs.{pairCheck}
 

@@ -1,4 +1,4 @@
--- Rule 14 of document 01 over the five sections, of a file or not: "The check also takes every two leaves, upper U and lower L,
+-- Pinned by demand-1 (proofs/Demand.antt): a reader may skip this file. Rule 14 of document 01 as a check over the five sections, of a file or not: "The check also takes every two leaves, upper U and lower L,
 -- that fit .. The first digit of U, plus L's weight, minus β times U's weight, must be in the alphabet."
 use mathlib.Core.Bool.{Bool, true, false}
 use mathlib.Core.List.{List}
@@ -11,10 +11,11 @@ use Rattle.faults.specs.declared.Refusal.{Refusal}
 use Rattle.faults.specs.Check.{judge}
 use Rattle.ring.specs.Element.{minus}
 use Rattle.ring.specs.Matrix.{times}
-use Rattle.digit_rules.specs.Record.{recordAt, elementCount, indexIn}
+use Rattle.digit_rules.specs.Record.{recordAt, elementCount}
+use Rattle.digit_rules.specs.Digits.{indexIn}
 use Rattle.numeration.specs.Pairs.{pairPasses, upperPasses}
 use Rattle.leaf_rules.specs.Leaf.{leafCount, codeOf, wordGiven, weightGiven}
-use Rattle.reader_rules.specs.Ready.{system}
+use Rattle.reader_rules.specs.Table.{system}
 use Rattle.table_rules.specs.declared.Pair.{Pair}
 
 -- an element is in the alphabet

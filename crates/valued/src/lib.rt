@@ -1,10 +1,12 @@
 // The value of a row: rules 1 to 13 of the table, 20 and 21 of the row, then 28.
 ghost use mathlib.Core.Path.{_≡_};
-ghost use Rattle.digit_rules.specs.Base.{BasePart, baseMatrix};
+ghost use Rattle.digit_rules.specs.Base.{baseMatrix};
+ghost use Rattle.digit_rules.specs.Digits.{BasePart};
 ghost use Rattle.digit_rules.specs.Record.{elementCount};
 ghost use Rattle.row_rules.specs.Fit.{Indexes};
 ghost use Rattle.worth_rules.specs.Total.{worthOf};
-ghost use Rattle.reader_rules.specs.Table.{alphabetPart, tableCheck};
+ghost use Rattle.reader_rules.specs.Table.{alphabetPart};
+ghost use Rattle.reader_rules.specs.Check.{tableCheck};
 ghost use Rattle.valued_rules.specs.Value.{rowOutcome, valueOutcome};
 ghost use Rattle.valued.specs.Answer.{valuedAs};
 use faults::Fault;

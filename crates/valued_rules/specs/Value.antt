@@ -1,4 +1,4 @@
--- The value call ("Value, midpoint, program" of document 01): "takes a table and one row: 1 to 13, 20, 21, then 28 (rows group)".
+-- Pinned by demand-1 (proofs/Demand.antt): a reader may skip this file. The value call ("Value, midpoint, program" of document 01): "takes a table and one row: 1 to 13, 20, 21, then 28 (rows group)".
 use mathlib.Core.List.{List}
 use Prim.Native.Nat.{ℕ}
 use lib.IntN.{ℤ}
@@ -6,7 +6,8 @@ use Rattle.faults.specs.Outcome.{Outcome, author, rows}
 use Rattle.faults.specs.Unless.{unless}
 use Rattle.digit_rules.specs.Base.{baseMatrix}
 use Rattle.digit_rules.specs.Record.{elementCount}
-use Rattle.reader_rules.specs.Table.{basePart, alphabetPart, tableCheck}
+use Rattle.reader_rules.specs.Table.{basePart, alphabetPart}
+use Rattle.reader_rules.specs.Check.{tableCheck}
 use Rattle.row_rules.specs.Check.{oneRowCheck}
 use Rattle.worth_rules.specs.Total.{worthOf}
 

@@ -1,4 +1,4 @@
--- Sets of numbers below 64 as 64-bit numbers.
+-- For helpers' contracts only: sets of numbers below 64 as 64-bit numbers.
 use mathlib.Core.Path.{_≡_}
 use Prim.Native.Nat.{ℕ, _/_, _%_, _^_}
 

@@ -1,4 +1,4 @@
--- Weights by number, sets of these numbers for neighbouring leaves, and the sets that give alphabet digits.
+-- For helpers' contracts only: weights by number, sets of these numbers for neighbouring leaves, and the sets that give alphabet digits.
 use mathlib.Core.Path.{_≡_}
 use mathlib.Core.Bool.{true}
 use mathlib.Core.List.{List}

@@ -1,4 +1,4 @@
--- What an answer of the row's value states.
+-- For helpers' contracts only: what an answer of the row's value states.
 use mathlib.Core.List.{List}
 use lib.IntN.{ℤ}
 use Rattle.midpoint.specs.Midpoint.{parts}

@@ -1,4 +1,5 @@
--- The value of a row from the top place down, with rule 28 ("Value, midpoint, program" of document 01).
+-- Pinned by worth-exact and worth-outcome (proofs/Broken.antt): a reader may skip this file. The value of a row from the top place
+-- down, with rule 28, as it is computed.
 use mathlib.Core.Bool.{Bool, true, false, _&&_}
 use mathlib.Core.List.{List, [], _∷_}
 use Prim.Native.Nat.{ℕ, zero, suc}

@@ -11,7 +11,8 @@ use Rattle.faults.specs.declared.Refusal.{Refusal}
 use Rattle.row_rules.proofs.Fit.{rows-fit}
 use Rattle.row_rules.specs.Check.{rowCheck}
 use Rattle.reader_rules.proofs.Answer.{read-facts}
-use Rattle.reader_rules.specs.Table.{readAs, tableCheck, tableFacts}
+use Rattle.reader_rules.specs.Table.{tableFacts}
+use Rattle.reader_rules.specs.Check.{readAs, tableCheck}
 use Rattle.adder_rules.specs.Sum.{digitCount}
 use Rattle.adder_rules.proofs.Sum.{table-refused, rows-refused, rows-passed, sum-lent, sum-by}
 use borrow.Author.Needs.{needs}

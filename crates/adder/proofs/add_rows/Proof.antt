@@ -1,7 +1,7 @@
 -- The digits are found in a local array, and written where none fails.
 use Rattle.faults.specs.Outcome.{author}
 use Rattle.numeration.specs.Code.{Inputs}
-use Rattle.reader_rules.specs.Ready.{inputCount}
+use Rattle.reader_rules.specs.Table.{inputCount}
 use Rattle.adder_rules.specs.Sum.{inputRow, placeCount, digitsOutcome, digitCount, sumRow}
 use lib.ListN.{getD, length, take, length-replicate}
 use Prim.Native.Nat.{_≤_, ℕ}

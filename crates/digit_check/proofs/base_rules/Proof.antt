@@ -3,7 +3,8 @@ use mathlib.Core.List.{List}
 use Prim.Native.Nat.{ℕ}
 use borrow.Author.Tests.{not-true, not-false}
 use borrow.Author.Needs.{needs}
-use Rattle.ring.specs.Base.{perfectSquare, discriminant, expanding}
+use Rattle.ring.specs.Base.{discriminant}
+use Rattle.ring.specs.Tests.{perfectSquare, expanding}
 use Rattle.lists.specs.Span.{span}
 use Rattle.digit_rules.specs.Record.{elementAt}
 use Rattle.digit_rules.specs.Base.{sOf, tOf, uOf, vOf}

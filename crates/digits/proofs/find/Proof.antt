@@ -4,7 +4,7 @@ use native.Mathlib.Nat.{sub-zero}
 use borrow.Author.Needs.{needs}
 use Rattle.lists.proofs.Scan.{scan-on, scan-here, scan-out}
 use Rattle.lists.specs.Scan.{firstFailing}
-use Rattle.digit_rules.specs.Record.{indexIn}
+use Rattle.digit_rules.specs.Digits.{indexIn}
 use Rattle.digit_rules.proofs.Index.{differs, found-here, not-here}
 use Rattle.digits.proofs.find.Statement.{statement}
 use Rattle.digits.proofs.find.Tie as tie

@@ -8,7 +8,8 @@ use Rattle.row_rules.specs.declared.Change.{Change}
 use Rattle.row_rules.specs.Check.{rowCheck, editCheck}
 use Rattle.row_rules.specs.Fit.{EditFits}
 use Rattle.row_rules.proofs.Fit.{rows-fit, edit-fits}
-use Rattle.reader_rules.specs.Table.{readAs, tableCheck, tableFacts}
+use Rattle.reader_rules.specs.Table.{tableFacts}
+use Rattle.reader_rules.specs.Check.{readAs, tableCheck}
 use Rattle.reader_rules.proofs.Answer.{read-facts}
 use Rattle.reader_rules.proofs.Ready.{ready-passed}
 use Rattle.adder_rules.specs.Sum.{digitCount}

@@ -1,5 +1,5 @@
 use Rattle.table_rules.specs.Pairs.{inAlphabet}
-use Rattle.digit_rules.specs.Record.{indexIn}
+use Rattle.digit_rules.specs.Digits.{indexIn}
 use Rattle.ring.proofs.Element.{within-plus, within-le}
 use Rattle.ring.specs.Element.{plus, Within}
 use lib.Dec.{ltb, lit≤}

@@ -1,5 +1,5 @@
 use Rattle.pair_digits.proofs.Slots.{slot-none, slot-some}
-use Rattle.ring.specs.Element.{same}
+use Rattle.ring.specs.Tests.{same}
 use lib.ListN.{getD}
 use denote.Ref.{now}
 use native.Mathlib.Omega.{arith}

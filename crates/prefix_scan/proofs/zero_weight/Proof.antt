@@ -4,7 +4,8 @@ use lib.IntN.{ℤ}
 use borrow.Author.Needs.{needs}
 use Rattle.faults.proofs.Check.{once-kept, once-broken}
 use Rattle.layout_rules.specs.Section.{degree}
-use Rattle.ring.specs.Element.{same, zeros}
+use Rattle.ring.specs.Element.{zeros}
+use Rattle.ring.specs.Tests.{same}
 use Rattle.prefix_rules.specs.Check.{zeroCheck}
 use Rattle.prefix_scan.proofs.zero_weight.Statement.{statement}
 use Rattle.prefix_scan.proofs.zero_weight.Tie as tie

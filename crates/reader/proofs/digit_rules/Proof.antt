@@ -1,8 +1,9 @@
 use Rattle.reader_rules.proofs.Kept.{layout-kept}
-use Rattle.reader_rules.specs.Table.{digitCheckOf, basePart, alphabetPart, inputPart}
+use Rattle.reader_rules.specs.Table.{basePart, alphabetPart, inputPart}
+use Rattle.reader_rules.specs.Check.{digitCheckOf}
 use Rattle.digit_rules.proofs.Passed.{base-ready}
 use Rattle.digit_rules.specs.Digits.{digitCheck}
-use Rattle.digit_rules.specs.Base.{BasePart}
+use Rattle.digit_rules.specs.Digits.{BasePart}
 use lib.Dec.{lit<}
 use Prim.Native.Nat.{ℕ}
 use mathlib.Core.Path.{_≡_, sym, ap, subst, _∙_}

@@ -1,7 +1,8 @@
 use Rattle.reader_rules.proofs.Kept.{stage-nothing, directory-room}
-use Rattle.reader_rules.specs.Table.{layoutCheck}
+use Rattle.reader_rules.specs.Check.{layoutCheck}
 use Rattle.layout_rules.specs.Limit.{limitCheck}
-use Rattle.layout_rules.specs.Length.{lengthCheck, sectionLengths}
+use Rattle.layout_rules.specs.Length.{lengthCheck}
+use Rattle.layout_rules.specs.Section.{sectionLengths}
 use Rattle.faults.proofs.Check.{found-first, found-next}
 use Rattle.layout_rules.specs.Directory.{directoryCheck}
 use Rattle.faults.specs.Check.{_then_}

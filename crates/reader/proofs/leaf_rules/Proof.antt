@@ -1,6 +1,6 @@
 use Rattle.layout_rules.specs.Section.{recordCount}
 use Rattle.reader_rules.proofs.Kept.{layout-kept}
-use Rattle.reader_rules.specs.Table.{leafCheckOf}
+use Rattle.reader_rules.specs.Check.{leafCheckOf}
 use Rattle.prefix_rules.specs.Check.{leafCheck}
 use lib.Dec.{lit<}
 use mathlib.Core.Path.{_≡_, ap, _∙_}

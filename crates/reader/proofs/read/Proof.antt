@@ -1,5 +1,6 @@
 use Rattle.reader_rules.proofs.Kept.{stage-nothing, table-kept}
-use Rattle.reader_rules.specs.Table.{layoutCheck, digitCheckOf, leafCheckOf, tableCheck, tableFacts, readOutcome}
+use Rattle.reader_rules.specs.Table.{tableFacts}
+use Rattle.reader_rules.specs.Check.{layoutCheck, digitCheckOf, leafCheckOf, tableCheck, readOutcome}
 use Rattle.faults.proofs.Check.{then-kept}
 use Rattle.faults.proofs.Unless.{unless-found, unless-none}
 use Rattle.faults.specs.Outcome.{author, facts, refused}

@@ -1,5 +1,5 @@
 use Rattle.reader_rules.proofs.Kept.{stage-nothing}
-use Rattle.reader_rules.specs.Table.{layoutCheck, digitCheckOf, tableCheck}
+use Rattle.reader_rules.specs.Check.{layoutCheck, digitCheckOf, tableCheck}
 use Rattle.faults.proofs.Check.{found-first, found-next}
 use borrow.Author.Needs.{needs}
 use Rattle.reader.proofs.rules.Statement.{statement}

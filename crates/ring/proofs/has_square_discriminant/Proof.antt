@@ -5,7 +5,8 @@ use lib.Signed.{pos-natAbs}
 use mir.Syntax.{w64}
 use Rattle.integers.proofs.Machine.{Term, _⊕_, _⊗_, stored, computed-fits, stored-is, stored-bound}
 use Rattle.integers.proofs.Sign.{not-below-zero}
-use Rattle.ring.specs.Base.{discriminant, perfectSquare}
+use Rattle.ring.specs.Base.{discriminant}
+use Rattle.ring.specs.Tests.{perfectSquare}
 use Rattle.ring.proofs.Base.{square-below-zero}
 use Rattle.ring.proofs.Parts.{constant, number}
 use Rattle.ring.proofs.has_square_discriminant.Statement.{statement}

@@ -9,7 +9,8 @@ use borrow.Author.Tests.{le-leb, lt-leb}
 use mir.Syntax.{w64}
 use mir.ValLaws.{toZ-ofZ}
 use Rattle.integers.proofs.Machine.{Term, leaf, _⊕_, computed-fits, stored-is, stored-below}
-use Rattle.ring.specs.Base.{baseTrace, baseNorm, expanding}
+use Rattle.ring.specs.Base.{baseTrace, baseNorm}
+use Rattle.ring.specs.Tests.{expanding}
 use Rattle.ring.proofs.Parts.{constant, norm-size, trace-size}
 use Rattle.ring.proofs.is_expanding.Statement.{statement}
 use Rattle.ring.proofs.is_expanding.Tie as tie

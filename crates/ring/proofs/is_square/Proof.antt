@@ -13,7 +13,8 @@ use lib.IntN.{pos, natAbs}
 use mir.Syntax.{w64}
 use mir.Val.{Fits}
 use Rattle.lists.proofs.Test.{same-outcome}
-use Rattle.ring.specs.Base.{perfectSquare, Square}
+use Rattle.ring.specs.Base.{Square}
+use Rattle.ring.specs.Tests.{perfectSquare}
 use Rattle.ring.proofs.Base.{self-square, square-test}
 use Rattle.ring.proofs.is_square.Statement.{statement}
 use Rattle.ring.proofs.is_square.Tie as tie

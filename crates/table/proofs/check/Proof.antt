@@ -3,7 +3,8 @@ use Rattle.table_rules.specs.Check.{pairCheckOf, checkFacts, checkOutcome}
 use Rattle.table_rules.specs.declared.Facts.{Facts}
 use Rattle.reader_rules.proofs.Answer.{read-facts, read-fault}
 use Rattle.reader_rules.proofs.Kept.{stage-nothing}
-use Rattle.reader_rules.specs.Table.{readAs, tableCheck, tableFacts}
+use Rattle.reader_rules.specs.Table.{tableFacts}
+use Rattle.reader_rules.specs.Check.{readAs, tableCheck}
 use Rattle.reader_rules.specs.declared.Table.{Table}
 use Rattle.faults.proofs.Unless.{unless-found, unless-none}
 use Rattle.faults.specs.Unless.{unless}

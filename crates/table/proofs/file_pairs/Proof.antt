@@ -4,7 +4,7 @@ use Rattle.table_rules.specs.Pairs.{pairCheck}
 use Rattle.reader_rules.proofs.Kept.{layout-kept, table-kept, sections}
 use Rattle.prefix_rules.specs.Check.{leafCheck}
 use Rattle.digit_rules.specs.Record.{elementCount}
-use Rattle.digit_rules.specs.Base.{BasePart}
+use Rattle.digit_rules.specs.Digits.{BasePart}
 use Prim.Native.Nat.{ℕ, _<_}
 use lib.Dec.{lit<}
 use mathlib.Core.Path.{_≡_, sym, subst, _∙_}

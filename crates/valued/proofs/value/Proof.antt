@@ -5,7 +5,8 @@ use lib.IntN.{ℤ}
 use Rattle.faults.proofs.Unless.{unless-none}
 use Rattle.faults.specs.Outcome.{author, whose, numberOf, placeOf}
 use Rattle.reader_rules.proofs.Answer.{read-facts, read-fault}
-use Rattle.reader_rules.specs.Table.{readAs, tableCheck, tableFacts, partFacts}
+use Rattle.reader_rules.specs.Table.{tableFacts, partFacts}
+use Rattle.reader_rules.specs.Check.{readAs, tableCheck}
 use Rattle.reader_rules.specs.declared.Table.{Table}
 use Rattle.valued_rules.specs.Value.{rowOutcome, valueOutcome}
 use borrow.Author.Needs.{needs}

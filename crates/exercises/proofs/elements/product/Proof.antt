@@ -4,7 +4,7 @@ use mathlib.Core.List.{[], _∷_}
 use lib.IntN.{ℤ, natAbs}
 use mir.Val.{SFits, toZ, ofZ}
 use mir.ValLaws.{toZ-ofZ}
-use Rattle.ring.specs.Base.{BaseLimits}
+use Rattle.ring.specs.Tests.{BaseLimits}
 use Rattle.ring.specs.Element.{Within}
 use Rattle.exercises.proofs.Product.{within-more, rows-more, entries, product-within}
 use Rattle.ring.proofs.Parts.{entry, within-two}
