@@ -8,7 +8,7 @@ ghost use Rattle.lists.specs.Overwrite.{overwrite};
 ghost use Rattle.faults.specs.Outcome.{facts};
 ghost use Rattle.midpoint.specs.Midpoint.{midpointOf};
 ghost use Rattle.table_rules.specs.Check.{checkOutcome};
-ghost use Rattle.adder_rules.specs.Sum.{addOutcome, addSum};
+ghost use Rattle.adder_rules.specs.Add.{addOutcome, addSum};
 ghost use Rattle.edit_rules.specs.Edit.{state, editOutcome, editState};
 ghost use Rattle.valued_rules.specs.Value.{valueOutcome};
 ghost use Rattle.carried.specs.Tables.{ternFile, binFile};

@@ -26,7 +26,8 @@ use Rattle.row_rules.proofs.Fit.{rows-fit}
 use Rattle.row_rules.proofs.Broken.{rows-exact}
 use Rattle.table_rules.specs.Check.{checkFacts, checkOutcome}
 use Rattle.table_rules.proofs.Demand.{demand-2}
-use Rattle.adder_rules.specs.Sum.{inputOf, inputRow, digitCount, placeCount, outputCheck, digitsOutcome, addOutcome}
+use Rattle.adder_rules.specs.Sum.{inputOf, inputRow, digitCount, placeCount}
+use Rattle.adder_rules.specs.Add.{outputCheck, digitsOutcome, addOutcome}
 use Rattle.adder_rules.specs.Broken.{outputRules}
 use Rattle.adder_rules.proofs.Rows.{inputs-below}
 use Rattle.adder_rules.proofs.Sum.{rows-passed}

@@ -7,7 +7,8 @@ use lib.ListN.{length, getD, take, drop, length-take}
 use lib.Seq.{getD-take}
 use Rattle.lists.proofs.Entries.{rest-same}
 use Rattle.row_rules.specs.Fit.{Indexes}
-use Rattle.adder_rules.specs.Sum.{digitCount, placeCount, addSum}
+use Rattle.adder_rules.specs.Sum.{digitCount, placeCount}
+use Rattle.adder_rules.specs.Add.{addSum}
 use Rattle.adder_rules.specs.Summed.{Summed}
 
 module _ (file first second sum : List ℕ) (is : Summed file first second sum) where

@@ -24,8 +24,8 @@ use Rattle.table_rules.specs.Pairs.{inAlphabet}
 use Rattle.place_rules.specs.Place.{alphabetIndex, indexAt}
 use Rattle.place_rules.specs.Helpers.{partRow}
 use Rattle.place_rules.proofs.Part.{part-in, part-behind, part-each}
-use Rattle.adder_rules.specs.Sum.{inputOf, inputRow, digitCount, placeCount, rowDigit, rowIndex, rowAllowed}
-use Rattle.adder_rules.proofs.Table.{digits-counted}
+use Rattle.adder_rules.specs.Sum.{inputOf, inputRow, digitCount, placeCount, rowDigit, rowIndex}
+use Rattle.adder_rules.specs.Add.{rowAllowed}
 
 -- the digit at place j is the same for rows that agree at its own place and the h places below it
 module _ (file r s : List ℕ) (j : ℕ) (same : (k : ℕ) → k ≤ j → j ≤ k + tableFacts file .depth → getD r k 0 ≡ getD s k 0) where
@@ -48,8 +48,7 @@ read-unchanged digits number change row e l all k h =
 module _ (file first second : List ℕ) (room : ℕ) (passes : tableCheck file .number ≡ 0) (fit : RowsFit first second room (digitCount file) (tableFacts file .depth)) where
   pub inputs-below : (k : ℕ) → k < length first → inputOf file first second k < inputCount file
   inputs-below k h =
-      let size = digits-counted file passes (alphabetPart file) (λ i. alphabetPart file) in
-      sum-index-below (basePart file) (alphabetPart file) (inputPart file) (well-formed file .1 passes .digits) _ _ (omega (arith, size, fit .first-indexes k h)) (omega (arith, size, fit .second-indexes k (omega (arith, fit .same-length))))
+      sum-index-below (basePart file) (alphabetPart file) (inputPart file) (well-formed file .1 passes .digits) _ _ (fit .first-indexes k h) (fit .second-indexes k (omega (arith, fit .same-length)))
 
   -- a part of the row, as an array holds it: input indexes, and those of the row from place `from` on as far as the part reaches
   module _ (from end : ℕ) (low : from ≤ end) (high : end ≤ length first) where

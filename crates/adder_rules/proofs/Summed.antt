@@ -37,9 +37,9 @@ use Rattle.place_rules.specs.Place.{indexAt}
 use Rattle.place_rules.proofs.Place.{input-is, index-names}
 use Rattle.lists.proofs.Entries.{overwrite-in, overwrite-behind}
 use Rattle.adder_rules.specs.declared.AddedFacts.{AddedFacts}
-use Rattle.adder_rules.specs.Sum.{inputOf, inputRow, digitCount, placeCount, rowDigit, rowIndex, rowAllowed, rowPart, outputCheck, sumRow, digitsOutcome, addOutcome, addSum}
+use Rattle.adder_rules.specs.Sum.{inputOf, inputRow, digitCount, placeCount, rowDigit, rowIndex}
+use Rattle.adder_rules.specs.Add.{rowAllowed, rowPart, outputCheck, sumRow, digitsOutcome, addOutcome, addSum}
 use Rattle.adder_rules.specs.Summed.{DigitsAdded, Summed}
-use Rattle.adder_rules.proofs.Table.{digits-counted}
 use Rattle.adder_rules.proofs.Part.{written-first}
 
 -- byte j of the sum row
@@ -89,9 +89,8 @@ module _ (file first second : List ℕ) (room : ℕ) (is : Passed file first sec
   -- w(j) is the sum of the two digits at place j
   sum-at : (k : ℕ) → k < length first → recordAt (inputPart file) (inputOf file first second k) ≡ plus (recordAt (alphabetPart file) (getD first k 0)) (recordAt (alphabetPart file) (getD second k 0))
   sum-at k h =
-      let size = digits-counted file (is .table) (alphabetPart file) (λ i. alphabetPart file) in
-      let low : getD first k 0 < elementCount (alphabetPart file) = omega (arith, size, is .fit .first-indexes k h) in
-      let also : getD second k 0 < elementCount (alphabetPart file) = omega (arith, size, is .fit .second-indexes k (omega (arith, is .fit .same-length))) in
+      let low : getD first k 0 < elementCount (alphabetPart file) = is .fit .first-indexes k h in
+      let also : getD second k 0 < elementCount (alphabetPart file) = is .fit .second-indexes k (omega (arith, is .fit .same-length)) in
       input-is (basePart file) (alphabetPart file) (inputPart file) (well-formed file .1 (is .table) .digits) first second k low also
 
   -- and zero outside the rows
@@ -140,7 +139,7 @@ summed file first second sum f e =
     record {
       inputs = digits-added file first second (length sum) is;
       index = at;
-      in-alphabet = λ j h. omega (arith, at j h, is .digits j h, digits-counted file (is .table) (alphabetPart file) (λ i. alphabetPart file));
+      in-alphabet = λ j h. omega (arith, at j h, is .digits j h);
       digit = λ j h. ap (recordAt (alphabetPart file)) (at j h) ∙ digit-is file first second (length sum) is j h;
       further = λ j h. let k : j ≡ 0 + length row + (j - n) = omega arith in ap (λ (s : List ℕ). getD s j 0) written ∙ ap (λ (m : ℕ). getD (overwrite sum 0 row) m 0) k ∙ overwrite-behind sum row 0 (omega arith) (j - n) ∙ ap (λ (m : ℕ). getD sum m 0) (sym k);
       long = ap length written ∙ length-overwrite sum 0 row (omega arith);

@@ -1,3 +1,4 @@
 pub mod Sum
+pub mod Add
 pub mod Broken
 pub mod Summed

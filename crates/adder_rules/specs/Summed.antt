@@ -8,7 +8,8 @@ use Rattle.ring.specs.Element.{zeros, plus}
 use Rattle.digit_rules.specs.Record.{recordAt}
 use Rattle.reader_rules.specs.Table.{alphabetPart, inputPart}
 use Rattle.reader_rules.specs.Table.{operationsOf, valueOf}
-use Rattle.adder_rules.specs.Sum.{inputRow, digitCount, placeCount, rowDigit, rowIndex, addSum}
+use Rattle.adder_rules.specs.Sum.{inputRow, digitCount, placeCount, rowDigit, rowIndex}
+use Rattle.adder_rules.specs.Add.{addSum}
 
 -- "w(j) is the sum of the two digits at place j, and zero outside 0 to n − 1": the elements of the input indexes that are converted
 pub record DigitsAdded (file first second : List ℕ) : Type 0 where

@@ -33,8 +33,8 @@ use Rattle.table_rules.specs.Pairs.{inAlphabet}
 use Rattle.table_rules.proofs.Demand.{demand-2, listed-test}
 use Rattle.place_rules.specs.Place.{indexAt}
 use Rattle.adder_rules.specs.declared.AddedFacts.{AddedFacts}
-use Rattle.adder_rules.specs.Sum.{inputOf, inputRow, digitCount, placeCount, rowDigit, rowIndex, rowPart, sumRow, addOutcome, addSum}
-use Rattle.adder_rules.proofs.Table.{digits-counted}
+use Rattle.adder_rules.specs.Sum.{inputOf, inputRow, digitCount, placeCount, rowDigit, rowIndex}
+use Rattle.adder_rules.specs.Add.{rowPart, sumRow, addOutcome, addSum}
 use Rattle.adder_rules.proofs.Rows.{same-index}
 use Rattle.adder_rules.proofs.Summed.{sum-row-long, passed, summed}
 use Rattle.adder_rules.proofs.Accepted.{row-inputs, accepted-passes, accepted-adds}
@@ -81,8 +81,7 @@ module _ (file : List ℕ) (accepted : checkOutcome file ≡ facts (checkFacts f
       let passes = accepted-passes file accepted in
       let all = row-inputs file (r .0) (r .1) room passes (v .0) in
       let listed = demand-2 file .0 accepted .1 (inputRow file (r .0) (r .1)) all j in
-      let low : rowIndex file (inputRow file (r .0) (r .1)) j < elementCount (alphabetPart file) = ltb-true _ _ (listed-test (alphabetPart file) (rowDigit file (inputRow file (r .0) (r .1)) j) .1 listed) in
-      omega (arith, low, digits-counted file passes (alphabetPart file) (λ i. alphabetPart file))
+      ltb-true _ _ (listed-test (alphabetPart file) (rowDigit file (inputRow file (r .0) (r .1)) j) .1 listed)
 
   -- what the list law asks: a change keeps the kind of rows, and reaches p to p + h
   pub local : Local k Rows

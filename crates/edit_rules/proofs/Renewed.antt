@@ -27,7 +27,8 @@ use Rattle.row_rules.specs.Fit.{RowsFit, EditFits}
 use Rattle.row_rules.proofs.Changed.{length-changed, changed-fit}
 use Rattle.place_rules.specs.Helpers.{partRow}
 use Rattle.lists.proofs.Entries.{overwrite-in}
-use Rattle.adder_rules.specs.Sum.{inputOf, digitCount, rowIndex, rowAllowed, rowPart, outputCheck}
+use Rattle.adder_rules.specs.Sum.{inputOf, digitCount, rowIndex}
+use Rattle.adder_rules.specs.Add.{rowAllowed, rowPart, outputCheck}
 use Rattle.adder_rules.proofs.Rows.{part-inputs, part-same}
 use Rattle.adder_rules.proofs.Part.{check-refused, check-kept, part-found, part-room}
 use Rattle.edit_rules.specs.declared.EditedFacts.{EditedFacts}

@@ -29,7 +29,8 @@ use Rattle.row_rules.proofs.Fit.{edit-fits}
 use Rattle.row_rules.proofs.Broken.{rows-pass, edit-passes, edit-decided}
 use Rattle.table_rules.specs.Check.{checkFacts, checkOutcome}
 use Rattle.lists.proofs.Entries.{overwrite-before, overwrite-behind}
-use Rattle.adder_rules.specs.Sum.{digitCount, rowPart, outputCheck}
+use Rattle.adder_rules.specs.Sum.{digitCount}
+use Rattle.adder_rules.specs.Add.{rowPart, outputCheck}
 use Rattle.adder_rules.proofs.Accepted.{row-inputs, accepted-passes, digits-kept}
 use Rattle.edit_rules.specs.declared.EditedFacts.{EditedFacts}
 use Rattle.edit_rules.specs.Count.{failing, differing}

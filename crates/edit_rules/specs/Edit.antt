@@ -10,7 +10,8 @@ use Rattle.reader_rules.specs.Check.{tableCheck}
 use Rattle.row_rules.specs.declared.Change.{Change}
 use Rattle.row_rules.specs.Changed.{changed}
 use Rattle.row_rules.specs.Check.{rowCheck, editCheck}
-use Rattle.adder_rules.specs.Sum.{inputRow, digitCount, rowPart, outputCheck}
+use Rattle.adder_rules.specs.Sum.{inputRow, digitCount}
+use Rattle.adder_rules.specs.Add.{rowPart, outputCheck}
 use Rattle.edit_rules.specs.declared.EditedFacts.{EditedFacts}
 use Rattle.edit_rules.specs.Count.{differing}
 

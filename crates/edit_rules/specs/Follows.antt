@@ -17,7 +17,8 @@ use Rattle.row_rules.specs.Changed.{changed, noChange}
 use Rattle.row_rules.specs.Broken.{editRules}
 use Rattle.row_rules.specs.Fit.{EditFits}
 use Rattle.adder_rules.specs.Summed.{DigitsAdded}
-use Rattle.adder_rules.specs.Sum.{inputRow, digitCount, placeCount, rowDigit, rowIndex, addOutcome, addSum}
+use Rattle.adder_rules.specs.Sum.{inputRow, digitCount, placeCount, rowDigit, rowIndex}
+use Rattle.adder_rules.specs.Add.{addOutcome, addSum}
 use Rattle.edit_rules.specs.declared.EditedFacts.{EditedFacts}
 use Rattle.edit_rules.specs.Count.{differing}
 use Rattle.edit_rules.specs.Edit.{State}

@@ -36,7 +36,8 @@ use Rattle.row_rules.specs.Changed.{changed}
 use Rattle.row_rules.specs.Check.{lengthsAllowed, indexAllowed, wordIndexCheck as indexCheck, roomAllowed, rowCheck, oneRowCheck, editCheck}
 use Rattle.place_rules.specs.Place.{indexAt}
 use Rattle.place_rules.specs.Helpers.{partRow}
-use Rattle.adder_rules.specs.Sum.{inputRow, rowPart, outputCheck, sumRow, digitsOutcome, addOutcome, addSum}
+use Rattle.adder_rules.specs.Sum.{inputRow}
+use Rattle.adder_rules.specs.Add.{rowPart, outputCheck, sumRow, digitsOutcome, addOutcome, addSum}
 use Rattle.edit_rules.specs.Count.{tally, failing}
 use Rattle.edit_rules.specs.Edit.{newSum, count, renewOutcome, editOutcome, editState}
 use Rattle.edit_rules.specs.Run.{editAll, editAnswers, run}

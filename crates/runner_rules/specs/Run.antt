@@ -6,7 +6,7 @@ use lib.ListN.{length}
 use Rattle.faults.specs.Outcome.{Outcome, facts, refused}
 use Rattle.row_rules.specs.declared.Change.{Change}
 use Rattle.table_rules.specs.Check.{checkOutcome}
-use Rattle.adder_rules.specs.Sum.{addOutcome}
+use Rattle.adder_rules.specs.Add.{addOutcome}
 use Rattle.edit_rules.specs.Edit.{State}
 use Rattle.edit_rules.specs.Run.{Ran, run}
 use Rattle.runner_rules.specs.List.{editList}

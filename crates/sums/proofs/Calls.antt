@@ -20,7 +20,8 @@ use Rattle.row_rules.specs.Check.{oneRowCheck}
 use Rattle.row_rules.proofs.Broken.{one-row-exact}
 use Rattle.table_rules.specs.Check.{checkFacts, checkOutcome}
 use Rattle.adder_rules.specs.declared.AddedFacts.{AddedFacts}
-use Rattle.adder_rules.specs.Sum.{placeCount, addOutcome}
+use Rattle.adder_rules.specs.Sum.{placeCount}
+use Rattle.adder_rules.specs.Add.{addOutcome}
 use Rattle.adder_rules.proofs.Accepted.{accepted-passes}
 use Rattle.adder_rules.proofs.Summed.{passed}
 use Rattle.edit_rules.specs.Edit.{State}

@@ -11,7 +11,7 @@ use Rattle.numeration.specs.Elements.{elements}
 use Rattle.digit_rules.specs.Base.{baseMatrix}
 use Rattle.digit_rules.specs.Digits.{BasePart}
 use Rattle.place_rules.specs.Place.{indexAt, digitAllowed}
-use Rattle.adder_rules.specs.Sum.{rowPart}
+use Rattle.adder_rules.specs.Add.{rowPart}
 use Rattle.reader_rules.proofs.Ready.{ready-passed}
 use Rattle.adder_rules.proofs.Table.{directory-kept, few-digits, few-inputs, base-small, inputs-in, windows-begun}
 use borrow.Author.Needs.{needs}

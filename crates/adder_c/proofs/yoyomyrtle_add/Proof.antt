@@ -4,7 +4,7 @@ use mathlib.Core.Path.{sym, ap, refl, _∙_}
 use Rattle.lists.proofs.Cons.{cons≡}
 use Rattle.lists.specs.Overwrite.{overwrite}
 use Rattle.adder.specs.Answer.{outcomeOf}
-use Rattle.adder_rules.specs.Sum.{addOutcome, addSum}
+use Rattle.adder_rules.specs.Add.{addOutcome, addSum}
 use Rattle.adder_c.specs.Answer.{addWords}
 use Rattle.answer_words.proofs.Bits.{kept}
 use Rattle.adder_c.proofs.Answer.{no-room, some-room, short, with-facts, with-fault}

@@ -6,7 +6,7 @@ use native.Mathlib.Omega.{arith}
 use lib.ListN.{length, take, length-replicate}
 use lib.Seq.{length-take-le}
 use Rattle.faults.specs.Outcome.{author}
-use Rattle.adder_rules.specs.Sum.{rowPart}
+use Rattle.adder_rules.specs.Add.{rowPart}
 use Rattle.edit_rules.specs.Edit.{State, state, reach, newInputs}
 use Rattle.edit_rules.proofs.Renewed.{renew-given, renew-lent, renew-written, lent-long, sum-renewed, count-is, shallow, part-fits, bytes-asked, row-inputs, outside-found, none-outside, digits-found, digits-room}
 use borrow.Author.Needs.{needs}

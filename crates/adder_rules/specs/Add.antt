@@ -1,0 +1,50 @@
+-- Pinned by demand-1, refused-lent and summed (proofs/Demand.antt, proofs/Summed.antt): a reader may skip this file. Addition as a
+-- function of the table file, the rows and the sum buffer.
+use mathlib.Core.Bool.{Bool}
+use mathlib.Core.List.{List}
+use Prim.Native.Nat.{ℕ, _+_}
+use lib.ListN.{length}
+use Rattle.lists.specs.Span.{span}
+use Rattle.lists.specs.Overwrite.{overwrite}
+use Rattle.faults.specs.declared.Refusal.{Refusal}
+use Rattle.faults.specs.Check.{judge}
+use Rattle.faults.specs.Outcome.{Outcome, facts, author, rows, atExit}
+use Rattle.faults.specs.Unless.{unless}
+use Rattle.reader_rules.specs.Table.{alphabetPart, inputPart, leafPart, wordPart, tableFacts, operationsOf}
+use Rattle.reader_rules.specs.Check.{tableCheck}
+use Rattle.row_rules.specs.Check.{rowCheck}
+use Rattle.place_rules.specs.Place.{digitAllowed}
+use Rattle.adder_rules.specs.declared.AddedFacts.{AddedFacts}
+use Rattle.adder_rules.specs.Sum.{inputRow, digitCount, placeCount, rowIndex}
+
+module _ (file : List ℕ) where
+  -- of a row of input indexes: whether z(j) has an alphabet index
+  module _ (row : List ℕ) where
+    abbrev pub rowAllowed : ℕ → Bool
+    rowAllowed j = digitAllowed (operationsOf file) (alphabetPart file) (inputPart file) (leafPart file) (wordPart file) row j
+
+    -- the indexes at `count` places from p on
+    unfoldable pub rowPart : ℕ → ℕ → List ℕ
+    rowPart p count = span (λ k. rowIndex file row (p + k)) 0 count
+
+    -- 27 over these places: a sum digit isn't in the alphabet (place)
+    unfoldable pub outputCheck : ℕ → ℕ → Refusal
+    outputCheck p count = judge 27 (λ k. p + k) (λ k. rowAllowed (p + k)) count
+
+  module _ (first second : List ℕ) where
+    -- "the sum row": z(j) for j from 0 to n + h − 1
+    unfoldable pub sumRow : List ℕ
+    sumRow = rowPart (inputRow file first second) 0 (placeCount file first)
+
+    -- 27 over all places, then n + h
+    unfoldable pub digitsOutcome : Outcome AddedFacts
+    digitsOutcome = unless author (outputCheck (inputRow file first second) 0 (placeCount file first)) (facts (record { places = placeCount file first }))
+
+    -- 1 to 13, then 20 to 23 with the sum buffer's length, then 27
+    unfoldable pub addOutcome : ℕ → Outcome AddedFacts
+    addOutcome room =
+        unless author (tableCheck file) (unless rows (rowCheck first second room (digitCount file) (tableFacts file .depth)) digitsOutcome)
+
+-- "Addition writes the first n + h bytes of the sum buffer, the sum row; further bytes keep their contents"
+unfoldable pub addSum : List ℕ → List ℕ → List ℕ → List ℕ → List ℕ
+addSum file first second sum = atExit (addOutcome file first second (length sum)) sum (overwrite sum 0 (sumRow file first second))
