@@ -1,5 +1,5 @@
--- A fault's text: room for its numbers, and its pieces.
-use mathlib.Core.Path.{_≡_, ap, _∙_}
+-- A fault's text: room for its numbers, its pieces, and whole texts.
+use mathlib.Core.Path.{_≡_, refl, ap, _∙_}
 use mathlib.Core.List.{List, _++_, append-assoc}
 use Prim.Native.Nat.{ℕ, _+_, _≤_}
 use native.Mathlib.Omega.{arith}
@@ -8,10 +8,12 @@ use mir.Syntax.{w64}
 use mir.Val.{Fits}
 use Rattle.lists.specs.Overwrite.{overwrite}
 use Rattle.lists.proofs.Overwrite.{overwrite-append}
-use Rattle.text.specs.Decimal.{decimal}
+use Rattle.text.specs.Bytes.{bytesOf}
+use Rattle.text.specs.Decimal.{decimalWithin, decimal}
 use Rattle.text.proofs.Decimal.{decimal-short}
 use Rattle.faults.specs.declared.Fault.{Fault}
-use Rattle.text.specs.Fault.{faultText}
+use Rattle.faults.specs.declared.Fault.the-variants.{Author, Rows, Editor}
+use Rattle.text.specs.Fault.{refusedWord, placeWord, groupWord, faultText}
 
 -- a word and a 64-bit number, which has at most 20 digits
 pub item-room : (word : List ℕ) (n : ℕ) → Fits w64 n → length (word ++ decimal n) ≤ length word + 20
@@ -27,3 +29,8 @@ two-items s t u a b c d p q r qe te re ue h =
 -- the text of a fault that is known by its case
 pub by-case : (s u : List ℕ) (p r : ℕ) (f g : Fault) → f ≡ g → (r ≡ p + length (faultText g)) × (u ≡ overwrite s p (faultText g)) → (r ≡ p + length (faultText f)) × (u ≡ overwrite s p (faultText f))
 by-case s u p r f g e w = rw e w
+
+-- whole texts, by computation: one for each group
+texts : (faultText (Author 14 2) ≡ bytesOf "refused author 14 place 2") × (faultText (Rows 21 0) ≡ bytesOf "refused rows 21 place 0") × (faultText (Editor 24 0) ≡ bytesOf "refused editor 24 place 0")
+unfolding bytesOf decimalWithin decimal refusedWord placeWord groupWord faultText
+texts = (refl, refl, refl)

@@ -1,6 +1,8 @@
-use Rattle.table.proofs.Room.{item-room, three-items}
-use Rattle.table.specs.Line.{acceptedLine, acceptedWord, leavesWord, digitsWord, lineFeed}
+use Rattle.table.proofs.Room.{three-items}
+use Rattle.line_rules.specs.Line.{acceptedLine, acceptedWord, leavesWord, digitsWord, lineFeed}
+use Rattle.text.specs.Bytes.{bytesOf}
 use Rattle.text.specs.Decimal.{decimal}
+use Rattle.text.proofs.Fault.{item-room}
 use Rattle.lists.proofs.Overwrite.{Written, written-none, written-more}
 use Rattle.lists.specs.Overwrite.{overwrite}
 use mir.Val.{Fits}
@@ -28,35 +30,35 @@ slice-aggregate-put-item : tie.Need-slice-aggregate-put-item
 slice-aggregate-put-item c = search needs
 
 put-item-requires : tie.Need-put-item-requires
-unfolding acceptedWord
+unfolding bytesOf acceptedWord
 put-item-requires c κs = omega (arith, first-room (c .before .before .before))
 
 slice-aggregate-put-item-2 : tie.Need-slice-aggregate-put-item-2
 slice-aggregate-put-item-2 c = search needs
 
 put-item-requires-2 : tie.Need-put-item-requires-2
-unfolding acceptedWord leavesWord
+unfolding bytesOf acceptedWord leavesWord
 put-item-requires-2 c κs = omega (arith, first-room (c .before .before .before .before .before .before .before .before), second-room (c .before .before .before .before .before .before .before .before))
 
 slice-aggregate-put-item-3 : tie.Need-slice-aggregate-put-item-3
 slice-aggregate-put-item-3 c = search needs
 
 put-item-requires-3 : tie.Need-put-item-requires-3
-unfolding acceptedWord leavesWord digitsWord
+unfolding bytesOf acceptedWord leavesWord digitsWord
 put-item-requires-3 c κs = omega (arith, first-room (c .before .before .before .before .before .before .before .before .before .before .before .before .before), second-room (c .before .before .before .before .before .before .before .before .before .before .before .before .before), third-room (c .before .before .before .before .before .before .before .before .before .before .before .before .before))
 
 slice-aggregate-put : tie.Need-slice-aggregate-put
 slice-aggregate-put c = search needs
 
 put-requires : tie.Need-put-requires
-unfolding acceptedWord leavesWord digitsWord
+unfolding bytesOf acceptedWord leavesWord digitsWord
 put-requires c κs = omega (arith, first-room (c .before .before .before .before .before .before .before .before .before .before .before .before .before .before .before .before .before .before), second-room (c .before .before .before .before .before .before .before .before .before .before .before .before .before .before .before .before .before .before), third-room (c .before .before .before .before .before .before .before .before .before .before .before .before .before .before .before .before .before .before))
 
 same-length : tie.Need-same-length
 same-length c = search needs
 
 returns : tie.Need-returns
-unfolding acceptedWord leavesWord digitsWord acceptedLine
+unfolding bytesOf acceptedWord leavesWord digitsWord acceptedLine
 returns c =
     let st = (c .before .before .before .before .before .before .before .before .before .before .before .before .before .before .before .before .before .before .before .before .before) in
     let s = st .args .out .now in

@@ -1,5 +1,5 @@
 use Rattle.table.proofs.Room.{line-short, line-long}
-use Rattle.table.specs.Line.{lineOf}
+use Rattle.line_rules.specs.Line.{lineOf}
 use Rattle.table.specs.Answer.{outcomeOf}
 use Rattle.table.specs.declared.Checked.the-variants.{Refused}
 use Rattle.table.specs.declared.Checked.{Checked}

@@ -1,6 +1,8 @@
-use Rattle.table.proofs.Room.{item-room}
-use Rattle.table.specs.Line.{refusedLine, refusedWord, placeWord, lineFeed}
+use Rattle.line_rules.specs.Line.{refusedLine, lineFeed}
+use Rattle.text.specs.Fault.{refusedWord, placeWord}
+use Rattle.text.specs.Bytes.{bytesOf}
 use Rattle.text.specs.Decimal.{decimal}
+use Rattle.text.proofs.Fault.{item-room}
 use Rattle.lists.proofs.Overwrite.{Written, written-none, written-more}
 use Rattle.lists.specs.Overwrite.{overwrite}
 use lib.ListN.{length, length-append}
@@ -16,14 +18,14 @@ slice-aggregate-put-item : tie.Need-slice-aggregate-put-item
 slice-aggregate-put-item c = search needs
 
 put-item-requires : tie.Need-put-item-requires
-unfolding refusedWord
+unfolding bytesOf refusedWord
 put-item-requires c κs = omega (arith, item-room refusedWord (c .before .before .before .args .number) (c .before .before .before .fits .number))
 
 slice-aggregate-put-item-2 : tie.Need-slice-aggregate-put-item-2
 slice-aggregate-put-item-2 c = search needs
 
 put-item-requires-2 : tie.Need-put-item-requires-2
-unfolding refusedWord placeWord
+unfolding bytesOf refusedWord placeWord
 put-item-requires-2 c κs =
     omega (arith, item-room refusedWord (c .before .before .before .before .before .before .before .before .args .number) (c .before .before .before .before .before .before .before .before .fits .number), item-room placeWord (c .before .before .before .before .before .before .before .before .args .place) (c .before .before .before .before .before .before .before .before .fits .place))
 
@@ -31,7 +33,7 @@ slice-aggregate-put : tie.Need-slice-aggregate-put
 slice-aggregate-put c = search needs
 
 put-requires : tie.Need-put-requires
-unfolding refusedWord placeWord
+unfolding bytesOf refusedWord placeWord
 put-requires c κs =
     omega (arith, item-room refusedWord (c .before .before .before .before .before .before .before .before .before .before .before .before .before .args .number) (c .before .before .before .before .before .before .before .before .before .before .before .before .before .fits .number), item-room placeWord (c .before .before .before .before .before .before .before .before .before .before .before .before .before .args .place) (c .before .before .before .before .before .before .before .before .before .before .before .before .before .fits .place))
 
@@ -39,7 +41,7 @@ same-length : tie.Need-same-length
 same-length c = search needs
 
 returns : tie.Need-returns
-unfolding refusedWord placeWord refusedLine
+unfolding bytesOf refusedWord placeWord refusedLine
 returns c =
     let s = c .before .before .before .before .before .before .before .before .before .before .before .before .before .before .before .before .args .out .now in
     let first : List ℕ = refusedWord ++ decimal (c .before .before .before .before .before .before .before .before .before .before .before .before .before .before .before .before .args .number) in
