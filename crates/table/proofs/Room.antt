@@ -2,6 +2,7 @@
 use mathlib.Core.Path.{_≡_, refl, sym, ap, _∙_}
 use mathlib.Core.List.{List, _++_, append-assoc}
 use Prim.Native.Nat.{ℕ, _≤_, _<_}
+use native.Mathlib.Omega.{arith}
 use lib.ListN.{length}
 use borrow.Author.Tests.{lt-ltb, le-ltb}
 use Rattle.lists.specs.Overwrite.{overwrite}
@@ -15,11 +16,13 @@ three-items a b c d e f g = simp append-assoc
 
 -- ---- the line in a lent buffer
 
-pub line-short : (o : Outcome Facts) (s : List ℕ) → length s < 128 → (0 ≡ lineCount o (length s)) × (s ≡ lineInto o s)
+-- one that is too short: nothing is written
+pub line-short : (o : Outcome Facts) (s : List ℕ) → length s < 128 → (0 ≡ lineCount o (length s)) × ((s ≡ lineInto o s) × (0 ≤ length s))
 unfolding lineCount lineInto
-line-short o s h = (rw (lt-ltb (length s) 128 h, lineCount), rw (lt-ltb (length s) 128 h, lineInto))
+line-short o s h = (rw (lt-ltb (length s) 128 h, lineCount), (rw (lt-ltb (length s) 128 h, lineInto), omega arith))
 
-pub line-long : (o : Outcome Facts) (s t text : List ℕ) (r : ℕ) → 128 ≤ length s → lineOf o ≡ text → r ≡ length text → t ≡ overwrite s 0 text → (r ≡ lineCount o (length s)) × (t ≡ lineInto o s)
+-- one that is long enough: what one of the two functions below the public one has written
+pub line-long : (o : Outcome Facts) (s t text : List ℕ) (r : ℕ) → 128 ≤ length s → lineOf o ≡ text → (r ≡ length text) × ((t ≡ overwrite s 0 text) × (r ≤ 128)) → (r ≡ lineCount o (length s)) × ((t ≡ lineInto o s) × (r ≤ length s))
 unfolding lineCount lineInto
-line-long o s t text r h e p q =
-    (p ∙ ap length (sym e) ∙ rw (le-ltb (length s) 128 h, lineCount), q ∙ ap (overwrite s 0) (sym e) ∙ rw (le-ltb (length s) 128 h, lineInto))
+line-long o s t text r h e (p, (q, w)) =
+    (p ∙ ap length (sym e) ∙ rw (le-ltb (length s) 128 h, lineCount), (q ∙ ap (overwrite s 0) (sym e) ∙ rw (le-ltb (length s) 128 h, lineInto), omega arith))

@@ -71,7 +71,7 @@ returns c =
     let three = written-more s _ _ (first ++ second) third _ _ two (c .before .before .before .before .before .before .before .put-item3 .ensures .1) (c .before .before .before .before .before .before .before .put-item3 .ensures .0) (omega (arith, first-room st, second-room st, third-room st, length-append first second)) in
     let all = written-more s _ _ ((first ++ second) ++ third) lineFeed _ _ three (c .before .before .put .ensures .1) (c .before .before .put .ensures .0) (omega (arith, first-room st, second-room st, third-room st, length-append first second, length-append (first ++ second) third)) in
     let line : ((first ++ second) ++ third) ++ lineFeed ≡ acceptedLine (f .depth) (f .leaves) (f .digits) = three-items acceptedWord (decimal (f .depth)) leavesWord (decimal (f .leaves)) digitsWord (decimal (f .digits)) lineFeed in
-    (all .place ∙ ap length line, all .entries ∙ ap (overwrite s 0) line)
+    (all .place ∙ ap length line, (all .entries ∙ ap (overwrite s 0) line, omega (arith, all .place, first-room st, second-room st, third-room st, length-append first second, length-append (first ++ second) third, length-append ((first ++ second) ++ third) lineFeed)))
 
 pub accepted-line-spec : {M : Type 1} → statement M
 accepted-line-spec =

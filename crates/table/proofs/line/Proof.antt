@@ -44,7 +44,7 @@ same-length c = search needs
 returns-2 : tie.Need-returns-2
 unfolding lineOf
 returns-2 c =
-    line-long (outcomeOf (c .before .before .before .before .before .before .before .before .before .args .answer)) (c .before .before .before .before .before .before .before .before .before .args .out .now) _ _ _ (c .before .before .before .before .before .before .before .if1 .left) (ap (λ a. lineOf (outcomeOf a)) (c .before .before .before .before .before .answer .given .1)) (c .before .before .accepted-line .ensures .0) (c .before .before .accepted-line .ensures .1)
+    line-long (outcomeOf (c .before .before .before .before .before .before .before .before .before .args .answer)) (c .before .before .before .before .before .before .before .before .before .args .out .now) _ _ _ (c .before .before .before .before .before .before .before .if1 .left) (ap (λ a. lineOf (outcomeOf a)) (c .before .before .before .before .before .answer .given .1)) (c .before .before .accepted-line .ensures)
 
 same-length-2 : tie.Need-same-length-2
 same-length-2 c = search needs
@@ -52,7 +52,7 @@ same-length-2 c = search needs
 returns-3 : tie.Need-returns-3
 unfolding lineOf
 returns-3 c =
-    line-long (outcomeOf (c .before .before .before .before .before .before .before .before .before .before .before .before .args .answer)) (c .before .before .before .before .before .before .before .before .before .before .before .before .args .out .now) _ _ _ (c .before .before .before .before .before .before .before .before .before .before .if1 .left) (ap (λ a. lineOf (outcomeOf a)) (c .before .before .before .before .before .before .before .before .answer2 .given .1) ∙ ap (λ f. lineOf (outcomeOf (Refused f))) (c .before .before .before .before .before .fault .given .1)) (c .before .before .refused-line .ensures .0) (c .before .before .refused-line .ensures .1)
+    line-long (outcomeOf (c .before .before .before .before .before .before .before .before .before .before .before .before .args .answer)) (c .before .before .before .before .before .before .before .before .before .before .before .before .args .out .now) _ _ _ (c .before .before .before .before .before .before .before .before .before .before .if1 .left) (ap (λ a. lineOf (outcomeOf a)) (c .before .before .before .before .before .before .before .before .answer2 .given .1) ∙ ap (λ f. lineOf (outcomeOf (Refused f))) (c .before .before .before .before .before .fault .given .1)) (c .before .before .refused-line .ensures)
 
 same-length-3 : tie.Need-same-length-3
 same-length-3 c = search needs
@@ -60,7 +60,7 @@ same-length-3 c = search needs
 returns-4 : tie.Need-returns-4
 unfolding lineOf
 returns-4 c =
-    line-long (outcomeOf (c .before .before .before .before .before .before .before .before .before .before .before .before .args .answer)) (c .before .before .before .before .before .before .before .before .before .before .before .before .args .out .now) _ _ _ (c .before .before .before .before .before .before .before .before .before .before .if1 .left) (ap (λ a. lineOf (outcomeOf a)) (c .before .before .before .before .before .before .before .before .answer2 .given .1) ∙ ap (λ f. lineOf (outcomeOf (Refused f))) (c .before .before .before .before .before .fault2 .given .1)) (c .before .before .refused-line2 .ensures .0) (c .before .before .refused-line2 .ensures .1)
+    line-long (outcomeOf (c .before .before .before .before .before .before .before .before .before .before .before .before .args .answer)) (c .before .before .before .before .before .before .before .before .before .before .before .before .args .out .now) _ _ _ (c .before .before .before .before .before .before .before .before .before .before .if1 .left) (ap (λ a. lineOf (outcomeOf a)) (c .before .before .before .before .before .before .before .before .answer2 .given .1) ∙ ap (λ f. lineOf (outcomeOf (Refused f))) (c .before .before .before .before .before .fault2 .given .1)) (c .before .before .refused-line2 .ensures)
 
 same-length-4 : tie.Need-same-length-4
 same-length-4 c = search needs
@@ -68,7 +68,7 @@ same-length-4 c = search needs
 returns-5 : tie.Need-returns-5
 unfolding lineOf
 returns-5 c =
-    line-long (outcomeOf (c .before .before .before .before .before .before .before .before .before .before .before .before .args .answer)) (c .before .before .before .before .before .before .before .before .before .before .before .before .args .out .now) _ _ _ (c .before .before .before .before .before .before .before .before .before .before .if1 .left) (ap (λ a. lineOf (outcomeOf a)) (c .before .before .before .before .before .before .before .before .answer2 .given .1) ∙ ap (λ f. lineOf (outcomeOf (Refused f))) (c .before .before .before .before .before .fault3 .given .1)) (c .before .before .refused-line3 .ensures .0) (c .before .before .refused-line3 .ensures .1)
+    line-long (outcomeOf (c .before .before .before .before .before .before .before .before .before .before .before .before .args .answer)) (c .before .before .before .before .before .before .before .before .before .before .before .before .args .out .now) _ _ _ (c .before .before .before .before .before .before .before .before .before .before .if1 .left) (ap (λ a. lineOf (outcomeOf a)) (c .before .before .before .before .before .before .before .before .answer2 .given .1) ∙ ap (λ f. lineOf (outcomeOf (Refused f))) (c .before .before .before .before .before .fault3 .given .1)) (c .before .before .refused-line3 .ensures)
 
 pub line-spec : {M : Type 1} → statement M
 line-spec =

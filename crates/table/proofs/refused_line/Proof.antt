@@ -43,14 +43,17 @@ same-length c = search needs
 returns : tie.Need-returns
 unfolding bytesOf refusedWord placeWord refusedLine
 returns c =
-    let s = c .before .before .before .before .before .before .before .before .before .before .before .before .before .before .before .before .args .out .now in
-    let first : List ℕ = refusedWord ++ decimal (c .before .before .before .before .before .before .before .before .before .before .before .before .before .before .before .before .args .number) in
-    let second : List ℕ = placeWord ++ decimal (c .before .before .before .before .before .before .before .before .before .before .before .before .before .before .before .before .args .place) in
-    let one = written-more s s _ [] first 0 _ (written-none s) (c .before .before .before .before .before .before .before .before .before .before .before .before .put-item .ensures .1) (c .before .before .before .before .before .before .before .before .before .before .before .before .put-item .ensures .0) (omega (arith, item-room refusedWord (c .before .before .before .before .before .before .before .before .before .before .before .before .before .before .before .before .args .number) (c .before .before .before .before .before .before .before .before .before .before .before .before .before .before .before .before .fits .number))) in
-    let two = written-more s _ _ first second _ _ one (c .before .before .before .before .before .before .before .put-item2 .ensures .1) (c .before .before .before .before .before .before .before .put-item2 .ensures .0) (omega (arith, item-room refusedWord (c .before .before .before .before .before .before .before .before .before .before .before .before .before .before .before .before .args .number) (c .before .before .before .before .before .before .before .before .before .before .before .before .before .before .before .before .fits .number), item-room placeWord (c .before .before .before .before .before .before .before .before .before .before .before .before .before .before .before .before .args .place) (c .before .before .before .before .before .before .before .before .before .before .before .before .before .before .before .before .fits .place))) in
-    let all = written-more s _ _ (first ++ second) lineFeed _ _ two (c .before .before .put .ensures .1) (c .before .before .put .ensures .0) (omega (arith, item-room refusedWord (c .before .before .before .before .before .before .before .before .before .before .before .before .before .before .before .before .args .number) (c .before .before .before .before .before .before .before .before .before .before .before .before .before .before .before .before .fits .number), item-room placeWord (c .before .before .before .before .before .before .before .before .before .before .before .before .before .before .before .before .args .place) (c .before .before .before .before .before .before .before .before .before .before .before .before .before .before .before .before .fits .place), length-append first second)) in
-    let line : (first ++ second) ++ lineFeed ≡ refusedLine (c .before .before .before .before .before .before .before .before .before .before .before .before .before .before .before .before .args .number) (c .before .before .before .before .before .before .before .before .before .before .before .before .before .before .before .before .args .place) = simp append-assoc in
-    (all .place ∙ ap length line, all .entries ∙ ap (overwrite s 0) line)
+    let st = c .before .before .before .before .before .before .before .before .before .before .before .before .before .before .before .before in
+    let s = st .args .out .now in
+    let first : List ℕ = refusedWord ++ decimal (st .args .number) in
+    let second : List ℕ = placeWord ++ decimal (st .args .place) in
+    let first-room = item-room refusedWord (st .args .number) (st .fits .number) in
+    let second-room = item-room placeWord (st .args .place) (st .fits .place) in
+    let one = written-more s s _ [] first 0 _ (written-none s) (c .before .before .before .before .before .before .before .before .before .before .before .before .put-item .ensures .1) (c .before .before .before .before .before .before .before .before .before .before .before .before .put-item .ensures .0) (omega (arith, first-room)) in
+    let two = written-more s _ _ first second _ _ one (c .before .before .before .before .before .before .before .put-item2 .ensures .1) (c .before .before .before .before .before .before .before .put-item2 .ensures .0) (omega (arith, first-room, second-room)) in
+    let all = written-more s _ _ (first ++ second) lineFeed _ _ two (c .before .before .put .ensures .1) (c .before .before .put .ensures .0) (omega (arith, first-room, second-room, length-append first second)) in
+    let line : (first ++ second) ++ lineFeed ≡ refusedLine (st .args .number) (st .args .place) = simp append-assoc in
+    (all .place ∙ ap length line, (all .entries ∙ ap (overwrite s 0) line, omega (arith, all .place, first-room, second-room, length-append first second, length-append (first ++ second) lineFeed)))
 
 pub refused-line-spec : {M : Type 1} → statement M
 refused-line-spec =
