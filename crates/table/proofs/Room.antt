@@ -6,9 +6,13 @@ use native.Mathlib.Omega.{arith}
 use lib.ListN.{length}
 use borrow.Author.Tests.{lt-ltb, le-ltb}
 use Rattle.lists.specs.Overwrite.{overwrite}
-use Rattle.faults.specs.Outcome.{Outcome}
+use Rattle.faults.specs.declared.Fault.{Fault}
+use Rattle.faults.specs.Outcome.{Outcome, numberOf, placeOf}
 use Rattle.table_rules.specs.declared.Facts.{Facts}
-use Rattle.line_rules.specs.Line.{lineOf, lineInto, lineCount}
+use Rattle.line_rules.specs.Line.{refusedLine, lineOf, lineInto, lineCount}
+use Rattle.table.specs.declared.Checked.{Checked}
+use Rattle.table.specs.declared.Checked.the-variants.{Refused}
+use Rattle.table.specs.Answer.{outcomeOf}
 
 -- the items, one behind the other, as the definition brackets them
 pub three-items : (a b c d e f g : List ℕ) → (((a ++ b) ++ (c ++ d)) ++ (e ++ f)) ++ g ≡ a ++ (b ++ (c ++ (d ++ (e ++ (f ++ g)))))
@@ -26,3 +30,8 @@ pub line-long : (o : Outcome Facts) (s t text : List ℕ) (r : ℕ) → 128 ≤ 
 unfolding lineCount lineInto
 line-long o s t text r h e (p, (q, w)) =
     (p ∙ ap length (sym e) ∙ rw (le-ltb (length s) 128 h, lineCount), (q ∙ ap (overwrite s 0) (sym e) ∙ rw (le-ltb (length s) 128 h, lineInto), omega arith))
+
+-- the line of an answer whose fault is known by its case
+pub refused-case : (answer : Checked) (fault known : Fault) → answer ≡ Refused fault → fault ≡ known → lineOf (outcomeOf answer) ≡ refusedLine (numberOf known) (placeOf known)
+unfolding lineOf
+refused-case answer fault known e f = rw (e, f)

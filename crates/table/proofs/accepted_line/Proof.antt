@@ -45,14 +45,14 @@ slice-aggregate-put-item-3 c = search needs
 
 put-item-requires-3 : tie.Need-put-item-requires-3
 unfolding bytesOf acceptedWord leavesWord digitsWord
-put-item-requires-3 c κs = omega (arith, first-room (c .before .before .before .before .before .before .before .before .before .before .before .before .before), second-room (c .before .before .before .before .before .before .before .before .before .before .before .before .before), third-room (c .before .before .before .before .before .before .before .before .before .before .before .before .before))
+put-item-requires-3 c κs = let st = c .before .before .before .before .before .before .before .before .before .before .before .before .before in omega (arith, first-room st, second-room st, third-room st)
 
 slice-aggregate-put : tie.Need-slice-aggregate-put
 slice-aggregate-put c = search needs
 
 put-requires : tie.Need-put-requires
 unfolding bytesOf acceptedWord leavesWord digitsWord
-put-requires c κs = omega (arith, first-room (c .before .before .before .before .before .before .before .before .before .before .before .before .before .before .before .before .before .before), second-room (c .before .before .before .before .before .before .before .before .before .before .before .before .before .before .before .before .before .before), third-room (c .before .before .before .before .before .before .before .before .before .before .before .before .before .before .before .before .before .before))
+put-requires c κs = let st = c .before .before .before .before .before .before .before .before .before .before .before .before .before .before .before .before .before .before in omega (arith, first-room st, second-room st, third-room st)
 
 same-length : tie.Need-same-length
 same-length c = search needs
@@ -66,7 +66,8 @@ returns c =
     let first : List ℕ = acceptedWord ++ decimal (f .depth) in
     let second : List ℕ = leavesWord ++ decimal (f .leaves) in
     let third : List ℕ = digitsWord ++ decimal (f .digits) in
-    let one = written-more s s _ [] first 0 _ (written-none s) (c .before .before .before .before .before .before .before .before .before .before .before .before .before .before .before .before .before .put-item .ensures .1) (c .before .before .before .before .before .before .before .before .before .before .before .before .before .before .before .before .before .put-item .ensures .0) (omega (arith, first-room st)) in
+    let put1 = c .before .before .before .before .before .before .before .before .before .before .before .before .before .before .before .before .before .put-item in
+    let one = written-more s s _ [] first 0 _ (written-none s) (put1 .ensures .1) (put1 .ensures .0) (omega (arith, first-room st)) in
     let two = written-more s _ _ first second _ _ one (c .before .before .before .before .before .before .before .before .before .before .before .before .put-item2 .ensures .1) (c .before .before .before .before .before .before .before .before .before .before .before .before .put-item2 .ensures .0) (omega (arith, first-room st, second-room st)) in
     let three = written-more s _ _ (first ++ second) third _ _ two (c .before .before .before .before .before .before .before .put-item3 .ensures .1) (c .before .before .before .before .before .before .before .put-item3 .ensures .0) (omega (arith, first-room st, second-room st, third-room st, length-append first second)) in
     let all = written-more s _ _ ((first ++ second) ++ third) lineFeed _ _ three (c .before .before .put .ensures .1) (c .before .before .put .ensures .0) (omega (arith, first-room st, second-room st, third-room st, length-append first second, length-append (first ++ second) third)) in

@@ -27,7 +27,7 @@ slice-aggregate-put-item-2 c = search needs
 put-item-requires-2 : tie.Need-put-item-requires-2
 unfolding bytesOf refusedWord placeWord
 put-item-requires-2 c κs =
-    omega (arith, item-room refusedWord (c .before .before .before .before .before .before .before .before .args .number) (c .before .before .before .before .before .before .before .before .fits .number), item-room placeWord (c .before .before .before .before .before .before .before .before .args .place) (c .before .before .before .before .before .before .before .before .fits .place))
+    let st = c .before .before .before .before .before .before .before .before in omega (arith, item-room refusedWord (st .args .number) (st .fits .number), item-room placeWord (st .args .place) (st .fits .place))
 
 slice-aggregate-put : tie.Need-slice-aggregate-put
 slice-aggregate-put c = search needs
@@ -35,7 +35,7 @@ slice-aggregate-put c = search needs
 put-requires : tie.Need-put-requires
 unfolding bytesOf refusedWord placeWord
 put-requires c κs =
-    omega (arith, item-room refusedWord (c .before .before .before .before .before .before .before .before .before .before .before .before .before .args .number) (c .before .before .before .before .before .before .before .before .before .before .before .before .before .fits .number), item-room placeWord (c .before .before .before .before .before .before .before .before .before .before .before .before .before .args .place) (c .before .before .before .before .before .before .before .before .before .before .before .before .before .fits .place))
+    let st = c .before .before .before .before .before .before .before .before .before .before .before .before .before in omega (arith, item-room refusedWord (st .args .number) (st .fits .number), item-room placeWord (st .args .place) (st .fits .place))
 
 same-length : tie.Need-same-length
 same-length c = search needs
