@@ -1,5 +1,5 @@
--- The check accepts both tables, by computation: every definition on the way is opened.
-use mathlib.Core.Path.{_≡_, refl}
+-- The check accepts both tables, by computation: every definition on the way is opened. The program's line for TERN.
+use mathlib.Core.Path.{_≡_, refl, ap, _∙_}
 use Rattle.faults.specs.Outcome.{facts}
 use Rattle.lists.specs.Overwrite.{overwrite}
 use Rattle.lists.specs.Scan.{firstFailing, every}
@@ -31,8 +31,16 @@ use Rattle.reader_rules.specs.Table.{partFacts, tableFacts}
 use Rattle.reader_rules.specs.Check.{layoutCheck, digitCheckOf, leafCheckOf, tableCheck, readOutcome}
 use Rattle.table_rules.specs.Check.{pairCheckOf, checkFacts, checkOutcome}
 use Rattle.table_rules.specs.Pairs.{inAlphabet, badLower, badUpper, pairCheck, badPair}
+use Rattle.text.specs.Bytes.{bytesOf}
+use Rattle.line_rules.specs.Line.{lineOf}
+use Rattle.line_rules.proofs.Lines.{lines}
 use Rattle.carried.specs.Tables.{unsigned16, signed16, joined, record4, leafRecords, directory, sections, fileOf, ternInputs, ternWeight, ternLeaves, ternFile, binInputs, binWeight2, binWeight1, binLeavesOf, binLeaves, binFile}
 
+-- depth, leaves and alphabet digits of TERN and of BIN
 pub accepted : (checkOutcome ternFile ≡ facts (record { depth = 1; leaves = 9; digits = 5 })) × (checkOutcome binFile ≡ facts (record { depth = 2; leaves = 13; digits = 3 }))
 unfolding overwrite firstFailing every span baseTrace baseNorm expanding discriminant squareBelow perfectSquare plus negative minus scale timesOmega product unit same dot times columns matrixOf trace alternating without determinant judge _then_ inTurn unless sizeAllowed expectedStart pairAllowed directoryCheck lengthAllowed lengthCheck numberPlace numberCount numberAllowed limitCheckIn limitCheckOf limitCheck unsignedAt toSigned omegaOf betaOf baseMatrix discriminantAllowed expandingBase baseCheck recordAllowed alphabetCheck sumIndex sumListed sumsListed allSumsListed noSumWith isSum inputAllowed inputsAllowed inputCheck digitCheck elementAt indexIn agree lower largest begins leafOf depth precedes window outDigit weightInto weightAt convert convertRow elements tail fits pairDigitAt pairString pairRow pairDigit pairPasses upperPasses lowestBadUpper expectedWordStart leafAllowed placeCheck wordIndexCheck orderCheck coverCheck zeroCheck leafCheck runEnd everyRun covered wordGiven weightGiven layoutCheck digitCheckOf leafCheckOf tableCheck partFacts tableFacts readOutcome pairCheckOf checkFacts checkOutcome inAlphabet badLower badUpper pairCheck badPair unsigned16 signed16 joined record4 leafRecords directory sections fileOf ternInputs ternWeight ternLeaves ternFile binInputs binWeight2 binWeight1 binLeavesOf binLeaves binFile
 accepted = (refl, refl)
+
+-- "For TERN the whole output is: accepted depth 1 leaves 9 digits 5"
+pub tern-line : lineOf (checkOutcome ternFile) ≡ bytesOf "accepted depth 1 leaves 9 digits 5\n"
+tern-line = ap lineOf (accepted .0) ∙ lines .0

@@ -1,6 +1,10 @@
 // The tables TERN and BIN, carried as constant arrays and handed out as files: directory, base, alphabet and input digits, then
 // the leaves' records with their weights, then the words.
 ghost use mathlib.Core.Path.{_≡_};
+ghost use mathlib.Core.List.{_++_};
+ghost use Prim.Native.Nat.{_+_, _≤_};
+ghost use lib.ListN.{length};
+ghost use Rattle.lists.specs.Overwrite.{overwrite};
 ghost use Rattle.carried.specs.Tables.{ternFile, binFile};
 
 const TERN_HEAD: [u8; 84] = [
@@ -363,13 +367,21 @@ const BIN_WORDS: [u8; 23] = [
     4,
 ];
 
+// Writes the three parts of a file, one behind the other.
+fn put_parts(out: &mut [u8], head: &[u8], leaves: &[u8], words: &[u8])
+    requires { ⌜ length (now head) + length (now leaves) + length (now words) ≤ length (now out) ⌝ }
+    ensures { λ r. ⌜ now (out .exit) ≡ overwrite (now (out .entry)) 0 ((now (head .entry) ++ now (leaves .entry)) ++ now (words .entry)) ⌝ }
+{
+    let second = text::put(out, 0, head);
+    let third = text::put(out, second, leaves);
+    text::put(out, third, words);
+}
+
 pub fn tern() -> [u8; 165]
     ensures { λ r. ⌜ r ≡ ternFile ⌝ }
 {
     let mut file = [0u8; 165];
-    let weights = text::put(&mut file, 0, &TERN_HEAD);
-    let words = text::put(&mut file, weights, &TERN_WEIGHTS);
-    text::put(&mut file, words, &TERN_WORDS);
+    put_parts(&mut file, &TERN_HEAD, &TERN_WEIGHTS, &TERN_WORDS);
     file
 }
 
@@ -377,8 +389,6 @@ pub fn bin() -> [u8; 187]
     ensures { λ r. ⌜ r ≡ binFile ⌝ }
 {
     let mut file = [0u8; 187];
-    let weights = text::put(&mut file, 0, &BIN_HEAD);
-    let words = text::put(&mut file, weights, &BIN_WEIGHTS);
-    text::put(&mut file, words, &BIN_WORDS);
+    put_parts(&mut file, &BIN_HEAD, &BIN_WEIGHTS, &BIN_WORDS);
     file
 }

@@ -3,6 +3,7 @@
 mod additions;
 mod changes;
 mod elements;
+mod lines;
 mod output;
 mod tables;
 mod values;
@@ -49,4 +50,5 @@ fn main() {
     tables_and_sums();
     edited_rows();
     elements_of_rows();
+    lines::of_files();
 }

@@ -1,22 +1,18 @@
--- The line: how long it can be, a 64-bit number's text having at most 20 bytes, and how it stands in a buffer.
+-- The line: its items, and how it stands in a buffer.
 use mathlib.Core.Path.{_≡_, refl, sym, ap, _∙_}
 use mathlib.Core.List.{List, _++_, append-assoc}
-use Prim.Native.Nat.{ℕ, _+_, _≤_, _<_}
+use Prim.Native.Nat.{ℕ, _≤_, _<_}
 use native.Mathlib.Omega.{arith}
-use lib.ListN.{length, length-append}
-use mir.Syntax.{w64}
-use mir.Val.{Fits}
+use lib.ListN.{length}
 use borrow.Author.Tests.{lt-ltb, le-ltb}
 use Rattle.lists.specs.Overwrite.{overwrite}
-use Rattle.faults.specs.Outcome.{Outcome}
-use Rattle.text.specs.Decimal.{decimal}
-use Rattle.text.proofs.Decimal.{decimal-short}
+use Rattle.faults.specs.declared.Fault.{Fault}
+use Rattle.faults.specs.Outcome.{Outcome, numberOf, placeOf}
 use Rattle.table_rules.specs.declared.Facts.{Facts}
-use Rattle.table.specs.Line.{lineOf, lineInto, lineCount}
-
--- a word and a number
-pub item-room : (word : List ℕ) (n : ℕ) → Fits w64 n → length (word ++ decimal n) ≤ length word + 20
-item-room word n f = omega (arith, length-append word (decimal n), decimal-short 19 n (omega (arith, f .fits)))
+use Rattle.line_rules.specs.Line.{refusedLine, lineOf, lineInto, lineCount}
+use Rattle.table.specs.declared.Checked.{Checked}
+use Rattle.table.specs.declared.Checked.the-variants.{Refused}
+use Rattle.table.specs.Answer.{outcomeOf}
 
 -- the items, one behind the other, as the definition brackets them
 pub three-items : (a b c d e f g : List ℕ) → (((a ++ b) ++ (c ++ d)) ++ (e ++ f)) ++ g ≡ a ++ (b ++ (c ++ (d ++ (e ++ (f ++ g)))))
@@ -24,11 +20,18 @@ three-items a b c d e f g = simp append-assoc
 
 -- ---- the line in a lent buffer
 
-pub line-short : (o : Outcome Facts) (s : List ℕ) → length s < 128 → (0 ≡ lineCount o (length s)) × (s ≡ lineInto o s)
+-- one that is too short: nothing is written
+pub line-short : (o : Outcome Facts) (s : List ℕ) → length s < 128 → (0 ≡ lineCount o (length s)) × ((s ≡ lineInto o s) × (0 ≤ length s))
 unfolding lineCount lineInto
-line-short o s h = (rw (lt-ltb (length s) 128 h, lineCount), rw (lt-ltb (length s) 128 h, lineInto))
+line-short o s h = (rw (lt-ltb (length s) 128 h, lineCount), (rw (lt-ltb (length s) 128 h, lineInto), omega arith))
 
-pub line-long : (o : Outcome Facts) (s t text : List ℕ) (r : ℕ) → 128 ≤ length s → lineOf o ≡ text → r ≡ length text → t ≡ overwrite s 0 text → (r ≡ lineCount o (length s)) × (t ≡ lineInto o s)
+-- one that is long enough: what one of the two functions below the public one has written
+pub line-long : (o : Outcome Facts) (s t text : List ℕ) (r : ℕ) → 128 ≤ length s → lineOf o ≡ text → (r ≡ length text) × ((t ≡ overwrite s 0 text) × (r ≤ 128)) → (r ≡ lineCount o (length s)) × ((t ≡ lineInto o s) × (r ≤ length s))
 unfolding lineCount lineInto
-line-long o s t text r h e p q =
-    (p ∙ ap length (sym e) ∙ rw (le-ltb (length s) 128 h, lineCount), q ∙ ap (overwrite s 0) (sym e) ∙ rw (le-ltb (length s) 128 h, lineInto))
+line-long o s t text r h e (p, (q, w)) =
+    (p ∙ ap length (sym e) ∙ rw (le-ltb (length s) 128 h, lineCount), (q ∙ ap (overwrite s 0) (sym e) ∙ rw (le-ltb (length s) 128 h, lineInto), omega arith))
+
+-- the line of an answer whose fault is known by its case
+pub refused-case : (answer : Checked) (fault known : Fault) → answer ≡ Refused fault → fault ≡ known → lineOf (outcomeOf answer) ≡ refusedLine (numberOf known) (placeOf known)
+unfolding lineOf
+refused-case answer fault known e f = rw (e, f)

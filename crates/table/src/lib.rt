@@ -5,8 +5,8 @@ ghost use Prim.Native.Nat.{_≤_, _<_};
 ghost use Rattle.lists.specs.Overwrite.{overwrite};
 ghost use Rattle.reader_rules.specs.Check.{tableCheck};
 ghost use Rattle.table_rules.specs.Check.{pairCheckOf, checkOutcome};
+ghost use Rattle.line_rules.specs.Line.{acceptedLine, refusedLine, lineCount, lineInto};
 ghost use Rattle.table.specs.Answer.{outcomeOf};
-ghost use Rattle.table.specs.Line.{acceptedLine, refusedLine, lineCount, lineInto};
 use faults::Fault;
 use faults::Refusal;
 use reader_rules::Reading;
@@ -59,7 +59,9 @@ pub fn check(file: &[u8]) -> Checked
 
 fn accepted_line(f: Facts, out: &mut [u8]) -> usize
     requires { ⌜ 128 ≤ length (now out) ⌝ }
-    ensures { λ r. ⌜ (r ≡ length (acceptedLine (f .depth) (f .leaves) (f .digits))) × (now (out .exit) ≡ overwrite (now (out .entry)) 0 (acceptedLine (f .depth) (f .leaves) (f .digits))) ⌝ }
+    ensures count { λ r. ⌜ r ≡ length (acceptedLine (f .depth) (f .leaves) (f .digits)) ⌝ }
+    ensures buffer { λ r. ⌜ now (out .exit) ≡ overwrite (now (out .entry)) 0 (acceptedLine (f .depth) (f .leaves) (f .digits)) ⌝ }
+    ensures within { λ r. ⌜ r ≤ 128 ⌝ }
 {
     let leaves = text::put_item(out, 0, b"accepted depth ", f.depth);
     let digits = text::put_item(out, leaves, b" leaves ", f.leaves);
@@ -69,7 +71,9 @@ fn accepted_line(f: Facts, out: &mut [u8]) -> usize
 
 fn refused_line(number: usize, place: usize, out: &mut [u8]) -> usize
     requires { ⌜ 128 ≤ length (now out) ⌝ }
-    ensures { λ r. ⌜ (r ≡ length (refusedLine number place)) × (now (out .exit) ≡ overwrite (now (out .entry)) 0 (refusedLine number place)) ⌝ }
+    ensures count { λ r. ⌜ r ≡ length (refusedLine number place) ⌝ }
+    ensures buffer { λ r. ⌜ now (out .exit) ≡ overwrite (now (out .entry)) 0 (refusedLine number place) ⌝ }
+    ensures within { λ r. ⌜ r ≤ 128 ⌝ }
 {
     let at = text::put_item(out, 0, b"refused ", number);
     let end = text::put_item(out, at, b" place ", place);
@@ -78,7 +82,9 @@ fn refused_line(number: usize, place: usize, out: &mut [u8]) -> usize
 
 // Writes the program's line; the count of its bytes. A buffer under 128 bytes is left as it is, and the count is 0.
 pub fn line(answer: Checked, out: &mut [u8]) -> usize
-    ensures { λ r. ⌜ (r ≡ lineCount (outcomeOf answer) (length (now (out .entry)))) × (now (out .exit) ≡ lineInto (outcomeOf answer) (now (out .entry))) ⌝ }
+    ensures count { λ r. ⌜ r ≡ lineCount (outcomeOf answer) (length (now (out .entry))) ⌝ }
+    ensures buffer { λ r. ⌜ now (out .exit) ≡ lineInto (outcomeOf answer) (now (out .entry)) ⌝ }
+    ensures within { λ r. ⌜ r ≤ length (now (out .entry)) ⌝ }
 {
     if out.len() < 128 {
         return 0;
@@ -91,4 +97,13 @@ pub fn line(answer: Checked, out: &mut [u8]) -> usize
             Fault::Editor { number, place } => refused_line(number, place, out),
         },
     }
+}
+
+// The program `check` on the bytes that it reads: writes the line for a file; the count of its bytes.
+pub fn check_line(file: &[u8], out: &mut [u8]) -> usize
+    ensures count { λ r. ⌜ r ≡ lineCount (checkOutcome (now (file .entry))) (length (now (out .entry))) ⌝ }
+    ensures buffer { λ r. ⌜ now (out .exit) ≡ lineInto (checkOutcome (now (file .entry))) (now (out .entry)) ⌝ }
+    ensures within { λ r. ⌜ r ≤ length (now (out .entry)) ⌝ }
+{
+    line(check(file), out)
 }

@@ -1,9 +1,7 @@
-use Rattle.table.proofs.Room.{line-short, line-long}
-use Rattle.table.specs.Line.{lineOf}
+use Rattle.table.proofs.Room.{line-short, line-long, refused-case}
+use Rattle.line_rules.specs.Line.{lineOf}
 use Rattle.table.specs.Answer.{outcomeOf}
-use Rattle.table.specs.declared.Checked.the-variants.{Refused}
-use Rattle.table.specs.declared.Checked.{Checked}
-use mathlib.Core.Path.{_≡_, refl, ap, _∙_}
+use mathlib.Core.Path.{ap}
 use borrow.Author.Needs.{needs}
 use Rattle.table.proofs.line.Statement.{statement}
 use Rattle.table.proofs.line.Tie as tie
@@ -44,31 +42,32 @@ same-length c = search needs
 returns-2 : tie.Need-returns-2
 unfolding lineOf
 returns-2 c =
-    line-long (outcomeOf (c .before .before .before .before .before .before .before .before .before .args .answer)) (c .before .before .before .before .before .before .before .before .before .args .out .now) _ _ _ (c .before .before .before .before .before .before .before .if1 .left) (ap (λ a. lineOf (outcomeOf a)) (c .before .before .before .before .before .answer .given .1)) (c .before .before .accepted-line .ensures .0) (c .before .before .accepted-line .ensures .1)
+    let st = c .before .before .before .before .before .before .before .before .before in
+    line-long (outcomeOf (st .args .answer)) (st .args .out .now) _ _ _ (c .before .before .before .before .before .before .before .if1 .left) (ap (λ a. lineOf (outcomeOf a)) (c .before .before .before .before .before .answer .given .1)) (c .before .before .accepted-line .ensures)
 
 same-length-2 : tie.Need-same-length-2
 same-length-2 c = search needs
 
 returns-3 : tie.Need-returns-3
-unfolding lineOf
 returns-3 c =
-    line-long (outcomeOf (c .before .before .before .before .before .before .before .before .before .before .before .before .args .answer)) (c .before .before .before .before .before .before .before .before .before .before .before .before .args .out .now) _ _ _ (c .before .before .before .before .before .before .before .before .before .before .if1 .left) (ap (λ a. lineOf (outcomeOf a)) (c .before .before .before .before .before .before .before .before .answer2 .given .1) ∙ ap (λ f. lineOf (outcomeOf (Refused f))) (c .before .before .before .before .before .fault .given .1)) (c .before .before .refused-line .ensures .0) (c .before .before .refused-line .ensures .1)
+    let st = c .before .before .before .before .before .before .before .before .before .before .before .before in
+    line-long (outcomeOf (st .args .answer)) (st .args .out .now) _ _ _ (c .before .before .before .before .before .before .before .before .before .before .if1 .left) (refused-case _ _ _ (c .before .before .before .before .before .before .before .before .answer2 .given .1) (c .before .before .before .before .before .fault .given .1)) (c .before .before .refused-line .ensures)
 
 same-length-3 : tie.Need-same-length-3
 same-length-3 c = search needs
 
 returns-4 : tie.Need-returns-4
-unfolding lineOf
 returns-4 c =
-    line-long (outcomeOf (c .before .before .before .before .before .before .before .before .before .before .before .before .args .answer)) (c .before .before .before .before .before .before .before .before .before .before .before .before .args .out .now) _ _ _ (c .before .before .before .before .before .before .before .before .before .before .if1 .left) (ap (λ a. lineOf (outcomeOf a)) (c .before .before .before .before .before .before .before .before .answer2 .given .1) ∙ ap (λ f. lineOf (outcomeOf (Refused f))) (c .before .before .before .before .before .fault2 .given .1)) (c .before .before .refused-line2 .ensures .0) (c .before .before .refused-line2 .ensures .1)
+    let st = c .before .before .before .before .before .before .before .before .before .before .before .before in
+    line-long (outcomeOf (st .args .answer)) (st .args .out .now) _ _ _ (c .before .before .before .before .before .before .before .before .before .before .if1 .left) (refused-case _ _ _ (c .before .before .before .before .before .before .before .before .answer2 .given .1) (c .before .before .before .before .before .fault2 .given .1)) (c .before .before .refused-line2 .ensures)
 
 same-length-4 : tie.Need-same-length-4
 same-length-4 c = search needs
 
 returns-5 : tie.Need-returns-5
-unfolding lineOf
 returns-5 c =
-    line-long (outcomeOf (c .before .before .before .before .before .before .before .before .before .before .before .before .args .answer)) (c .before .before .before .before .before .before .before .before .before .before .before .before .args .out .now) _ _ _ (c .before .before .before .before .before .before .before .before .before .before .if1 .left) (ap (λ a. lineOf (outcomeOf a)) (c .before .before .before .before .before .before .before .before .answer2 .given .1) ∙ ap (λ f. lineOf (outcomeOf (Refused f))) (c .before .before .before .before .before .fault3 .given .1)) (c .before .before .refused-line3 .ensures .0) (c .before .before .refused-line3 .ensures .1)
+    let st = c .before .before .before .before .before .before .before .before .before .before .before .before in
+    line-long (outcomeOf (st .args .answer)) (st .args .out .now) _ _ _ (c .before .before .before .before .before .before .before .before .before .before .if1 .left) (refused-case _ _ _ (c .before .before .before .before .before .before .before .before .answer2 .given .1) (c .before .before .before .before .before .fault3 .given .1)) (c .before .before .refused-line3 .ensures)
 
 pub line-spec : {M : Type 1} → statement M
 line-spec =

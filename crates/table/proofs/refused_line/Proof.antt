@@ -1,6 +1,8 @@
-use Rattle.table.proofs.Room.{item-room}
-use Rattle.table.specs.Line.{refusedLine, refusedWord, placeWord, lineFeed}
+use Rattle.line_rules.specs.Line.{refusedLine, lineFeed}
+use Rattle.text.specs.Fault.{refusedWord, placeWord}
+use Rattle.text.specs.Bytes.{bytesOf}
 use Rattle.text.specs.Decimal.{decimal}
+use Rattle.text.proofs.Fault.{item-room}
 use Rattle.lists.proofs.Overwrite.{Written, written-none, written-more}
 use Rattle.lists.specs.Overwrite.{overwrite}
 use lib.ListN.{length, length-append}
@@ -16,39 +18,42 @@ slice-aggregate-put-item : tie.Need-slice-aggregate-put-item
 slice-aggregate-put-item c = search needs
 
 put-item-requires : tie.Need-put-item-requires
-unfolding refusedWord
+unfolding bytesOf refusedWord
 put-item-requires c κs = omega (arith, item-room refusedWord (c .before .before .before .args .number) (c .before .before .before .fits .number))
 
 slice-aggregate-put-item-2 : tie.Need-slice-aggregate-put-item-2
 slice-aggregate-put-item-2 c = search needs
 
 put-item-requires-2 : tie.Need-put-item-requires-2
-unfolding refusedWord placeWord
+unfolding bytesOf refusedWord placeWord
 put-item-requires-2 c κs =
-    omega (arith, item-room refusedWord (c .before .before .before .before .before .before .before .before .args .number) (c .before .before .before .before .before .before .before .before .fits .number), item-room placeWord (c .before .before .before .before .before .before .before .before .args .place) (c .before .before .before .before .before .before .before .before .fits .place))
+    let st = c .before .before .before .before .before .before .before .before in omega (arith, item-room refusedWord (st .args .number) (st .fits .number), item-room placeWord (st .args .place) (st .fits .place))
 
 slice-aggregate-put : tie.Need-slice-aggregate-put
 slice-aggregate-put c = search needs
 
 put-requires : tie.Need-put-requires
-unfolding refusedWord placeWord
+unfolding bytesOf refusedWord placeWord
 put-requires c κs =
-    omega (arith, item-room refusedWord (c .before .before .before .before .before .before .before .before .before .before .before .before .before .args .number) (c .before .before .before .before .before .before .before .before .before .before .before .before .before .fits .number), item-room placeWord (c .before .before .before .before .before .before .before .before .before .before .before .before .before .args .place) (c .before .before .before .before .before .before .before .before .before .before .before .before .before .fits .place))
+    let st = c .before .before .before .before .before .before .before .before .before .before .before .before .before in omega (arith, item-room refusedWord (st .args .number) (st .fits .number), item-room placeWord (st .args .place) (st .fits .place))
 
 same-length : tie.Need-same-length
 same-length c = search needs
 
 returns : tie.Need-returns
-unfolding refusedWord placeWord refusedLine
+unfolding bytesOf refusedWord placeWord refusedLine
 returns c =
-    let s = c .before .before .before .before .before .before .before .before .before .before .before .before .before .before .before .before .args .out .now in
-    let first : List ℕ = refusedWord ++ decimal (c .before .before .before .before .before .before .before .before .before .before .before .before .before .before .before .before .args .number) in
-    let second : List ℕ = placeWord ++ decimal (c .before .before .before .before .before .before .before .before .before .before .before .before .before .before .before .before .args .place) in
-    let one = written-more s s _ [] first 0 _ (written-none s) (c .before .before .before .before .before .before .before .before .before .before .before .before .put-item .ensures .1) (c .before .before .before .before .before .before .before .before .before .before .before .before .put-item .ensures .0) (omega (arith, item-room refusedWord (c .before .before .before .before .before .before .before .before .before .before .before .before .before .before .before .before .args .number) (c .before .before .before .before .before .before .before .before .before .before .before .before .before .before .before .before .fits .number))) in
-    let two = written-more s _ _ first second _ _ one (c .before .before .before .before .before .before .before .put-item2 .ensures .1) (c .before .before .before .before .before .before .before .put-item2 .ensures .0) (omega (arith, item-room refusedWord (c .before .before .before .before .before .before .before .before .before .before .before .before .before .before .before .before .args .number) (c .before .before .before .before .before .before .before .before .before .before .before .before .before .before .before .before .fits .number), item-room placeWord (c .before .before .before .before .before .before .before .before .before .before .before .before .before .before .before .before .args .place) (c .before .before .before .before .before .before .before .before .before .before .before .before .before .before .before .before .fits .place))) in
-    let all = written-more s _ _ (first ++ second) lineFeed _ _ two (c .before .before .put .ensures .1) (c .before .before .put .ensures .0) (omega (arith, item-room refusedWord (c .before .before .before .before .before .before .before .before .before .before .before .before .before .before .before .before .args .number) (c .before .before .before .before .before .before .before .before .before .before .before .before .before .before .before .before .fits .number), item-room placeWord (c .before .before .before .before .before .before .before .before .before .before .before .before .before .before .before .before .args .place) (c .before .before .before .before .before .before .before .before .before .before .before .before .before .before .before .before .fits .place), length-append first second)) in
-    let line : (first ++ second) ++ lineFeed ≡ refusedLine (c .before .before .before .before .before .before .before .before .before .before .before .before .before .before .before .before .args .number) (c .before .before .before .before .before .before .before .before .before .before .before .before .before .before .before .before .args .place) = simp append-assoc in
-    (all .place ∙ ap length line, all .entries ∙ ap (overwrite s 0) line)
+    let st = c .before .before .before .before .before .before .before .before .before .before .before .before .before .before .before .before in
+    let s = st .args .out .now in
+    let first : List ℕ = refusedWord ++ decimal (st .args .number) in
+    let second : List ℕ = placeWord ++ decimal (st .args .place) in
+    let first-room = item-room refusedWord (st .args .number) (st .fits .number) in
+    let second-room = item-room placeWord (st .args .place) (st .fits .place) in
+    let one = written-more s s _ [] first 0 _ (written-none s) (c .before .before .before .before .before .before .before .before .before .before .before .before .put-item .ensures .1) (c .before .before .before .before .before .before .before .before .before .before .before .before .put-item .ensures .0) (omega (arith, first-room)) in
+    let two = written-more s _ _ first second _ _ one (c .before .before .before .before .before .before .before .put-item2 .ensures .1) (c .before .before .before .before .before .before .before .put-item2 .ensures .0) (omega (arith, first-room, second-room)) in
+    let all = written-more s _ _ (first ++ second) lineFeed _ _ two (c .before .before .put .ensures .1) (c .before .before .put .ensures .0) (omega (arith, first-room, second-room, length-append first second)) in
+    let line : (first ++ second) ++ lineFeed ≡ refusedLine (st .args .number) (st .args .place) = simp append-assoc in
+    (all .place ∙ ap length line, (all .entries ∙ ap (overwrite s 0) line, omega (arith, all .place, first-room, second-room, length-append first second, length-append (first ++ second) lineFeed)))
 
 pub refused-line-spec : {M : Type 1} → statement M
 refused-line-spec =

@@ -1,7 +1,7 @@
 -- The line has at most the 128 bytes of its buffer.
-use lib.Seq.{length-take-le}
-use native.Mathlib.Omega.{arith}
 use mathlib.Core.Path.{sym}
+use native.Mathlib.Omega.{arith}
+use lib.Seq.{length-take-le}
 use borrow.Author.Needs.{needs}
 use Rattle.table_check.proofs.main.Statement.{statement}
 use Rattle.table_check.proofs.main.Tie as tie
@@ -18,32 +18,26 @@ read-full-requires c κs = search needs
 array-share-prefix-file : tie.Need-array-share-prefix-file
 array-share-prefix-file c = search needs
 
-slice-aggregate-check : tie.Need-slice-aggregate-check
-slice-aggregate-check c = search needs
+slice-aggregate-check-line : tie.Need-slice-aggregate-check-line
+slice-aggregate-check-line c = search needs
 
-check-requires : tie.Need-check-requires
-check-requires c κs = search needs
+slice-aggregate-check-line-2 : tie.Need-slice-aggregate-check-line-2
+slice-aggregate-check-line-2 c = search needs
 
-slice-aggregate-line : tie.Need-slice-aggregate-line
-slice-aggregate-line c = search needs
+check-line-requires : tie.Need-check-line-requires
+check-line-requires c κs = search needs
 
-line-requires : tie.Need-line-requires
-line-requires c κs = search needs
-
-array-share-prefix-text : tie.Need-array-share-prefix-text
-array-share-prefix-text c = search needs
+array-share-prefix-line : tie.Need-array-share-prefix-line
+array-share-prefix-line c = search needs
 
 slice-aggregate-write-all : tie.Need-slice-aggregate-write-all
-slice-aggregate-write-all c = sym (length-take-le (c .before .before .before .line .result) (c .before .before .before .line .last .1 .0) (omega (arith, c .before .before .before .line .kept .1 .0, c .before .if1 .taken)))
+slice-aggregate-write-all c = sym (length-take-le (c .before .before .check-line .result) _ (omega (arith, c .before .before .check-line .ensures .1 .1)))
 
 write-all-requires : tie.Need-write-all-requires
 write-all-requires c κs = search needs
 
 returns : tie.Need-returns
 returns c = search needs
-
-returns-2 : tie.Need-returns-2
-returns-2 c = search needs
 
 pub main-spec : {M : Type 1} → statement M
 main-spec =
@@ -53,12 +47,10 @@ main-spec =
     slice-aggregate-read-full
     read-full-requires
     array-share-prefix-file
-    slice-aggregate-check
-    check-requires
-    slice-aggregate-line
-    line-requires
-    array-share-prefix-text
+    slice-aggregate-check-line
+    slice-aggregate-check-line-2
+    check-line-requires
+    array-share-prefix-line
     slice-aggregate-write-all
     write-all-requires
-    returns
-    returns-2)
+    returns)

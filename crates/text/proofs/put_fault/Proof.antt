@@ -1,5 +1,6 @@
 -- One case for each group.
 use Rattle.text.proofs.Fault.{by-case}
+use Rattle.text.specs.Bytes.{bytesOf}
 use Rattle.text.specs.Fault.{refusedWord, placeWord, groupWord, faultText}
 use borrow.Author.Needs.{needs}
 use Rattle.text.proofs.put_fault.Statement.{statement}
@@ -36,22 +37,28 @@ same-length : tie.Need-same-length
 same-length c = search needs
 
 returns : tie.Need-returns
-unfolding refusedWord placeWord groupWord faultText
-returns c = by-case (c .before .before .before .before .before .before .before .before .before .args .out .now) _ (c .before .before .before .before .before .before .before .before .before .args .at) _ (c .before .before .before .before .before .before .before .before .before .args .fault) _ (c .before .before .before .before .before .before .fault .given .1) (c .before .before .put-refusal .ensures)
+unfolding bytesOf refusedWord placeWord groupWord faultText
+returns c =
+    let st = c .before .before .before .before .before .before .before .before .before in
+    by-case (st .args .out .now) _ (st .args .at) _ (st .args .fault) _ (c .before .before .before .before .before .before .fault .given .1) (c .before .before .put-refusal .ensures)
 
 same-length-2 : tie.Need-same-length-2
 same-length-2 c = search needs
 
 returns-2 : tie.Need-returns-2
-unfolding refusedWord placeWord groupWord faultText
-returns-2 c = by-case (c .before .before .before .before .before .before .before .before .before .args .out .now) _ (c .before .before .before .before .before .before .before .before .before .args .at) _ (c .before .before .before .before .before .before .before .before .before .args .fault) _ (c .before .before .before .before .before .before .fault2 .given .1) (c .before .before .put-refusal2 .ensures)
+unfolding bytesOf refusedWord placeWord groupWord faultText
+returns-2 c =
+    let st = c .before .before .before .before .before .before .before .before .before in
+    by-case (st .args .out .now) _ (st .args .at) _ (st .args .fault) _ (c .before .before .before .before .before .before .fault2 .given .1) (c .before .before .put-refusal2 .ensures)
 
 same-length-3 : tie.Need-same-length-3
 same-length-3 c = search needs
 
 returns-3 : tie.Need-returns-3
-unfolding refusedWord placeWord groupWord faultText
-returns-3 c = by-case (c .before .before .before .before .before .before .before .before .before .args .out .now) _ (c .before .before .before .before .before .before .before .before .before .args .at) _ (c .before .before .before .before .before .before .before .before .before .args .fault) _ (c .before .before .before .before .before .before .fault3 .given .1) (c .before .before .put-refusal3 .ensures)
+unfolding bytesOf refusedWord placeWord groupWord faultText
+returns-3 c =
+    let st = c .before .before .before .before .before .before .before .before .before in
+    by-case (st .args .out .now) _ (st .args .at) _ (st .args .fault) _ (c .before .before .before .before .before .before .fault3 .given .1) (c .before .before .put-refusal3 .ensures)
 
 pub put-fault-spec : {M : Type 1} → statement M
 put-fault-spec =

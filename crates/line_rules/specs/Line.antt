@@ -7,37 +7,35 @@ use lib.Dec.{ltb}
 use lib.ListN.{length}
 use Rattle.lists.specs.Overwrite.{overwrite}
 use Rattle.faults.specs.Outcome.{Outcome, facts, refused}
+use Rattle.text.specs.Bytes.{bytesOf}
 use Rattle.text.specs.Decimal.{decimal}
+use Rattle.text.specs.Fault.{refusedWord, placeWord}
 use Rattle.table_rules.specs.declared.Facts.{Facts}
 
--- "accepted depth ", " leaves ", " digits "
+-- the words of an accepted table, each before its number
 unfoldable pub acceptedWord : List ℕ
-acceptedWord = 97 ∷ 99 ∷ 99 ∷ 101 ∷ 112 ∷ 116 ∷ 101 ∷ 100 ∷ 32 ∷ 100 ∷ 101 ∷ 112 ∷ 116 ∷ 104 ∷ 32 ∷ []
+acceptedWord = bytesOf "accepted depth "
 
 unfoldable pub leavesWord : List ℕ
-leavesWord = 32 ∷ 108 ∷ 101 ∷ 97 ∷ 118 ∷ 101 ∷ 115 ∷ 32 ∷ []
+leavesWord = bytesOf " leaves "
 
 unfoldable pub digitsWord : List ℕ
-digitsWord = 32 ∷ 100 ∷ 105 ∷ 103 ∷ 105 ∷ 116 ∷ 115 ∷ 32 ∷ []
+digitsWord = bytesOf " digits "
 
--- "refused ", " place "
-unfoldable pub refusedWord : List ℕ
-refusedWord = 114 ∷ 101 ∷ 102 ∷ 117 ∷ 115 ∷ 101 ∷ 100 ∷ 32 ∷ []
-
-unfoldable pub placeWord : List ℕ
-placeWord = 32 ∷ 112 ∷ 108 ∷ 97 ∷ 99 ∷ 101 ∷ 32 ∷ []
-
+-- "one line feed, byte 10"
 abbrev pub lineFeed : List ℕ
 lineFeed = 10 ∷ []
 
+-- the line of an accepted table
 unfoldable pub acceptedLine : ℕ → ℕ → ℕ → List ℕ
 acceptedLine h leaves digits =
     acceptedWord ++ (decimal h ++ (leavesWord ++ (decimal leaves ++ (digitsWord ++ (decimal digits ++ lineFeed)))))
 
+-- the line of a refused one
 unfoldable pub refusedLine : ℕ → ℕ → List ℕ
 refusedLine number place = refusedWord ++ (decimal number ++ (placeWord ++ (decimal place ++ lineFeed)))
 
--- the line has no group
+-- the line of an answer of the check; it has no group
 unfoldable pub lineOf : Outcome Facts → List ℕ
 lineOf (facts f) = acceptedLine (f .depth) (f .leaves) (f .digits)
 lineOf (refused whose number place) = refusedLine number place

@@ -1,0 +1,1 @@
+// No function: the program's line as a definition, with whole lines computed.
