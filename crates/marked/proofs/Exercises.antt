@@ -34,8 +34,10 @@ use Rattle.adder_rules.specs.Sum.{inputRow, rowPart, digitCheck as adder-digitC
 use Rattle.edit_rules.specs.Count.{tally, failing}
 use Rattle.edit_rules.specs.Edit.{leftBy, newSum, count, renewOutcome, editOutcome, editState}
 use Rattle.edit_rules.specs.Run.{editAll, editAnswers, run}
+use Rattle.runner_rules.specs.List.{editList}
+use Rattle.runner_rules.specs.Run.{after, runOutcome, ranBy, runAll}
 use Rattle.marked.specs.Exercises.{answer, ternWithout, table as exercises, AllRight}
 
 pub all-right : AllRight exercises
-unfolding overwrite firstFailing every span baseTrace baseNorm expanding discriminant squareBelow perfectSquare plus negative minus scale timesOmega product unit same dot times columns matrixOf trace alternating without determinant judge _then_ inTurn unless sizeAllowed expectedStart pairAllowed directoryCheck lengthAllowed lengthCheck numberPlace numberCount numberAllowed limitCheckIn limitCheckOf limitCheck unsignedAt toSigned omegaOf betaOf baseMatrix discriminantAllowed expandingBase baseCheck recordAllowed alphabetCheck sumIndex sumListed sumsListed allSumsListed noSumWith isSum inputAllowed inputsAllowed inputCheck digitCheck elementAt indexIn agree lower largest begins leafOf depth precedes window outDigit weightInto weightAt convert convertRow elements tail fits pairDigitAt pairString pairRow pairDigit pairPasses upperPasses lowestBadUpper leaves-expectedStart leafAllowed placeCheck indexCheck orderCheck coverCheck zeroCheck leafCheck runEnd everyRun covered wordGiven weightGiven above layoutCheck digitsOf leavesOf tableCheck partFacts tableFacts readOutcome pairsOf checkFacts checkOutcome inAlphabet badLower badUpper pairCheck badPair unsigned16 signed16 joined record4 leafRecords directory sections fileOf ternInputs ternWeight ternLeaves ternFile binInputs binWeight2 binWeight1 binLeavesOf binLeaves binFile changed lengthsAllowed indexAllowed rows-indexCheck roomAllowed rowCheck oneRowCheck editCheck partRow indexAt inputRow rowPart adder-digitCheck sumRow digitsOutcome addOutcome atExit addSum tally failing leftBy newSum count renewOutcome editOutcome editState editAll editAnswers run answer ternWithout exercises
-all-right = (refl, (refl, (refl, (refl, (refl, (refl, (refl, (refl, (refl, (refl, (refl, (refl, (refl, tt)))))))))))))
+unfolding overwrite firstFailing every span baseTrace baseNorm expanding discriminant squareBelow perfectSquare plus negative minus scale timesOmega product unit same dot times columns matrixOf trace alternating without determinant judge _then_ inTurn unless sizeAllowed expectedStart pairAllowed directoryCheck lengthAllowed lengthCheck numberPlace numberCount numberAllowed limitCheckIn limitCheckOf limitCheck unsignedAt toSigned omegaOf betaOf baseMatrix discriminantAllowed expandingBase baseCheck recordAllowed alphabetCheck sumIndex sumListed sumsListed allSumsListed noSumWith isSum inputAllowed inputsAllowed inputCheck digitCheck elementAt indexIn agree lower largest begins leafOf depth precedes window outDigit weightInto weightAt convert convertRow elements tail fits pairDigitAt pairString pairRow pairDigit pairPasses upperPasses lowestBadUpper leaves-expectedStart leafAllowed placeCheck indexCheck orderCheck coverCheck zeroCheck leafCheck runEnd everyRun covered wordGiven weightGiven above layoutCheck digitsOf leavesOf tableCheck partFacts tableFacts readOutcome pairsOf checkFacts checkOutcome inAlphabet badLower badUpper pairCheck badPair unsigned16 signed16 joined record4 leafRecords directory sections fileOf ternInputs ternWeight ternLeaves ternFile binInputs binWeight2 binWeight1 binLeavesOf binLeaves binFile changed lengthsAllowed indexAllowed rows-indexCheck roomAllowed rowCheck oneRowCheck editCheck partRow indexAt inputRow rowPart adder-digitCheck sumRow digitsOutcome addOutcome atExit addSum tally failing leftBy newSum count renewOutcome editOutcome editState editAll editAnswers run editList after runOutcome ranBy runAll answer ternWithout exercises
+all-right = (refl, (refl, (refl, (refl, (refl, (refl, (refl, (refl, (refl, (refl, (refl, (refl, (refl, (refl, tt))))))))))))))
