@@ -3,6 +3,7 @@
 mod additions;
 mod changes;
 mod elements;
+mod lists;
 mod output;
 mod tables;
 mod values;
@@ -33,6 +34,7 @@ fn edited_rows() {
     changes::bin_list();
     changes::longest_rows();
     changes::longer_rows();
+    lists::runs();
 }
 
 fn elements_of_rows() {
