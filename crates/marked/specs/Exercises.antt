@@ -84,7 +84,10 @@ table =
     -- M8: −2 has index 4, −1 has index 3
     ∷ record { exercise = runs ternFile (2 ∷ 2 ∷ []) (1 ∷ 2 ∷ []) (9 ∷ 9 ∷ 9 ∷ 9 ∷ []) (record { row = 0; place = 0; digit = 4 } ∷ []); expected = ran (state (4 ∷ 2 ∷ []) (1 ∷ 2 ∷ []) (3 ∷ 1 ∷ 1 ∷ 9 ∷ [])) (facts (record { count = 2 }) ∷ []) }
     -- M7 and M8 by the runner, between an edit with row number 2 and one at place 5: three are asked for, a fourth has no digit
-    ∷ record { exercise = lists ternFile (state (2 ∷ 2 ∷ []) (1 ∷ 2 ∷ []) (9 ∷ 9 ∷ 9 ∷ 9 ∷ [])) (2 ∷ 0 ∷ 1 ∷ 0 ∷ []) (0 ∷ 0 ∷ 5 ∷ 1 ∷ []) (0 ∷ 4 ∷ 1 ∷ []) (7 ∷ 7 ∷ 7 ∷ 7 ∷ []) (7 ∷ 7 ∷ 7 ∷ 7 ∷ []) (7 ∷ 7 ∷ 7 ∷ 7 ∷ []); expected = listed (facts (record { edits = 3 })) (state (4 ∷ 2 ∷ []) (1 ∷ 2 ∷ []) (3 ∷ 1 ∷ 1 ∷ 9 ∷ [])) (3 ∷ 0 ∷ 3 ∷ 7 ∷ []) (24 ∷ 0 ∷ 25 ∷ 7 ∷ []) (0 ∷ 2 ∷ 0 ∷ 7 ∷ []) }
+    ∷ record {
+      exercise = lists ternFile (state (2 ∷ 2 ∷ []) (1 ∷ 2 ∷ []) (9 ∷ 9 ∷ 9 ∷ 9 ∷ [])) (2 ∷ 0 ∷ 1 ∷ 0 ∷ []) (0 ∷ 0 ∷ 5 ∷ 1 ∷ []) (0 ∷ 4 ∷ 1 ∷ []) (7 ∷ 7 ∷ 7 ∷ 7 ∷ []) (7 ∷ 7 ∷ 7 ∷ 7 ∷ []) (7 ∷ 7 ∷ 7 ∷ 7 ∷ []);
+      expected = listed (facts (record { edits = 3 })) (state (4 ∷ 2 ∷ []) (1 ∷ 2 ∷ []) (3 ∷ 1 ∷ 1 ∷ 9 ∷ [])) (3 ∷ 0 ∷ 3 ∷ 7 ∷ []) (24 ∷ 0 ∷ 25 ∷ 7 ∷ []) (0 ∷ 2 ∷ 0 ∷ 7 ∷ []);
+    }
     ∷ record { exercise = adds binFile (1 ∷ 1 ∷ []) (1 ∷ 0 ∷ []) (9 ∷ 9 ∷ 9 ∷ 9 ∷ 9 ∷ []); expected = summed (facts (record { places = 4 })) (0 ∷ 0 ∷ 1 ∷ 0 ∷ 9 ∷ []) }
     ∷ record { exercise = adds binFile (0 ∷ 1 ∷ []) (0 ∷ 0 ∷ []) (9 ∷ 9 ∷ 9 ∷ 9 ∷ 9 ∷ []); expected = summed (facts (record { places = 4 })) (0 ∷ 1 ∷ 0 ∷ 0 ∷ 9 ∷ []) }
     ∷ record { exercise = adds ternFile [] [] (9 ∷ 9 ∷ []); expected = summed (facts (record { places = 1 })) (0 ∷ 9 ∷ []) }
