@@ -1,11 +1,11 @@
-/* Loads a table (the file named, else the carried TERN), adds two rows, edits a digit and prints the rows.
+/* Loads a table (the file named, else the carried TERN), adds two rows, edits a digit, runs a list of edits and prints the rows.
  *
  *     cc -std=c99 -I include examples/caller.c target/staticlib/libadder_c.a -o caller && ./caller tables/bin.table */
 #include <stdio.h>
 
 #include "yoyomyrtle.h"
 
-enum { DIGITS = 6, DEEPEST = 8, LONGEST_FILE = 65535 };
+enum { DIGITS = 6, DEEPEST = 8, EDITS = 3, LONGEST_FILE = 65535 };
 
 /* One byte more than the longest file, so that a file that is too long is seen to be. */
 static uint8_t table[LONGEST_FILE + 1];
@@ -25,9 +25,10 @@ static size_t load(const char *name) {
     return length;
 }
 
+static const char *const groups[] = {"nobody", "author", "rows", "editor"};
+
 static int refused(void) {
-    static const char *const whose[] = {"nobody", "author", "rows", "editor"};
-    printf("refused %s %d place %d\n", whose[answer[0]], (int)answer[1], (int)answer[2]);
+    printf("refused %s %d place %d\n", groups[answer[0]], (int)answer[1], (int)answer[2]);
     return 1;
 }
 
@@ -69,6 +70,22 @@ int main(int argc, char **argv) {
     }
     printf("edited: %d sum digits changed\n", (int)answer[1]);
     print_row("second", second, DIGITS);
+    print_row("sum", sum, DIGITS + depth);
+
+    /* Both rows get a zero at place 0; between the two stands an edit of a place that there isn't. */
+    const size_t rows[EDITS] = {0, 0, 1}, places[EDITS] = {0, DIGITS, 0}, digits[EDITS] = {0, 0, 0};
+    size_t whose[EDITS], numbers[EDITS], values[EDITS];
+    if (yoyomyrtle_run(table, length, first, DIGITS, second, DIGITS, sum, DIGITS + depth, rows, EDITS, places, EDITS, digits, EDITS,
+                       whose, EDITS, numbers, EDITS, values, EDITS, answer, YOYOMYRTLE_ANSWER_WORDS) != YOYOMYRTLE_FACTS) {
+        return refused();
+    }
+    for (size_t edit = 0; edit < (size_t)answer[1]; edit++) {
+        if (whose[edit] == 0) {
+            printf("edit %d: %d sum digits changed\n", (int)edit, (int)values[edit]);
+        } else {
+            printf("edit %d: refused %s %d place %d\n", (int)edit, groups[whose[edit]], (int)numbers[edit], (int)values[edit]);
+        }
+    }
     print_row("sum", sum, DIGITS + depth);
     return 0;
 }

@@ -1,4 +1,5 @@
-//! Loads a table (the file named, else the carried TERN), adds two rows, edits a digit and prints the rows.
+//! Loads a table (the file named, else the carried TERN), adds two rows, edits a digit, runs a list of edits and prints the
+//! rows.
 //!
 //!     rustc --edition 2021 -L target/staticlib -l static=adder_c examples/caller.rs -o caller && ./caller tables/bin.table
 
@@ -14,6 +15,12 @@ extern "C" {
     fn yoyomyrtle_edit(
         table: *const u8, table_len: usize, first: *mut u8, first_len: usize, second: *mut u8, second_len: usize,
         sum: *mut u8, sum_len: usize, row: u64, place: u64, digit: u64, answer: *mut i64, answer_len: usize,
+    ) -> u64;
+    fn yoyomyrtle_run(
+        table: *const u8, table_len: usize, first: *mut u8, first_len: usize, second: *mut u8, second_len: usize,
+        sum: *mut u8, sum_len: usize, rows: *const usize, rows_len: usize, places: *const usize, places_len: usize,
+        digits: *const usize, digits_len: usize, whose: *mut usize, whose_len: usize, numbers: *mut usize, numbers_len: usize,
+        values: *mut usize, values_len: usize, answer: *mut i64, answer_len: usize,
     ) -> u64;
     fn yoyomyrtle_tern(out: *mut u8, out_len: usize) -> u64;
 }
@@ -48,6 +55,26 @@ fn edit(table: &[u8], rows: [&mut [u8]; 2], sum: &mut [u8], row: u64, place: u64
     facts(returned, words)
 }
 
+/// An edit's answer: whose (0 for facts), the refusal number, the count or the place.
+type Told = [usize; 3];
+
+/// Runs edits, each a row number, a place and a digit, after the check and the addition; their answers.
+#[rustfmt::skip]
+fn run_list(table: &[u8], rows: [&mut [u8]; 2], sum: &mut [u8], edits: &[[usize; 3]]) -> Result<Vec<Told>, Answer> {
+    let mut words = [0; 8];
+    let [first, second] = rows;
+    let [rows, places, digits] = [0, 1, 2].map(|kind| edits.iter().map(|edit| edit[kind]).collect::<Vec<_>>());
+    let [mut whose, mut numbers, mut values] = [0, 1, 2].map(|_| vec![0; edits.len()]);
+    let returned = unsafe {
+        yoyomyrtle_run(table.as_ptr(), table.len(), first.as_mut_ptr(), first.len(), second.as_mut_ptr(), second.len(),
+            sum.as_mut_ptr(), sum.len(), rows.as_ptr(), rows.len(), places.as_ptr(), places.len(),
+            digits.as_ptr(), digits.len(), whose.as_mut_ptr(), whose.len(), numbers.as_mut_ptr(), numbers.len(),
+            values.as_mut_ptr(), values.len(), words.as_mut_ptr(), 8)
+    };
+    let edits = facts(returned, words)?[1] as usize;
+    Ok((0..edits).map(|k| [whose[k], numbers[k], values[k]]).collect())
+}
+
 fn tern() -> Vec<u8> {
     let mut table = vec![0; 165];
     unsafe { yoyomyrtle_tern(table.as_mut_ptr(), table.len()) };
@@ -62,6 +89,8 @@ fn facts(returned: u64, words: Answer) -> Result<Answer, Answer> {
         Err(words)
     }
 }
+
+const GROUPS: [&str; 4] = ["nobody", "author", "rows", "editor"];
 
 fn print_row(name: &str, row: &[u8]) {
     let digits: String = row.iter().map(|digit| format!(" {digit}")).collect();
@@ -86,6 +115,19 @@ fn run(table: &[u8]) -> Result<(), Answer> {
     println!("edited: {changed} sum digits changed");
     print_row("second", &second);
     print_row("sum", &sum);
+    // Both rows get a zero at place 0; between the two stands an edit of a place that there isn't.
+    let edits = [[0, 0, 0], [0, 6, 0], [1, 0, 0]];
+    let answers = run_list(table, [&mut first, &mut second], &mut sum, &edits)?;
+    for (edit, [whose, number, value]) in answers.into_iter().enumerate() {
+        match whose {
+            0 => println!("edit {edit}: {value} sum digits changed"),
+            _ => println!(
+                "edit {edit}: refused {} {number} place {value}",
+                GROUPS[whose]
+            ),
+        }
+    }
+    print_row("sum", &sum);
     Ok(())
 }
 
@@ -96,7 +138,7 @@ fn main() -> ExitCode {
     let Err([group, number, place, ..]) = run(&table) else {
         return ExitCode::SUCCESS;
     };
-    let whose = ["nobody", "author", "rows", "editor"][group as usize];
+    let whose = GROUPS[group as usize];
     println!("refused {whose} {number} place {place}");
     ExitCode::FAILURE
 }

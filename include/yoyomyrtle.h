@@ -47,6 +47,23 @@ uint64_t yoyomyrtle_edit(const uint8_t *table, size_t table_len,
                          uint64_t row, uint64_t place, uint64_t digit,
                          int64_t *answer, size_t answer_len);
 
+/* Checks the table, adds the rows and then makes edits in turn: edit k has the row number rows[k], the place places[k] and the digit
+ * digits[k], and there are as many as the shortest of the six arrays has entries. Its answer goes to whose[k] (0 facts, 1 author, 2 rows,
+ * 3 editor), numbers[k] (0 for facts, else the refusal number) and values[k] (how many sum bytes changed, else the place); further entries
+ * keep their contents. A refused edit changes nothing and the next one follows. Facts: the number of edits. If the check or the addition
+ * refuses, that is the fault, and nothing but the answer is written. */
+uint64_t yoyomyrtle_run(const uint8_t *table, size_t table_len,
+                        uint8_t *first, size_t first_len,
+                        uint8_t *second, size_t second_len,
+                        uint8_t *sum, size_t sum_len,
+                        const size_t *rows, size_t rows_len,
+                        const size_t *places, size_t places_len,
+                        const size_t *digits, size_t digits_len,
+                        size_t *whose, size_t whose_len,
+                        size_t *numbers, size_t numbers_len,
+                        size_t *values, size_t values_len,
+                        int64_t *answer, size_t answer_len);
+
 /* The value of a row. Facts: a and b of the element a + b*omega. */
 uint64_t yoyomyrtle_value(const uint8_t *table, size_t table_len,
                           const uint8_t *row, size_t row_len,

@@ -94,7 +94,8 @@ fn depth(parts: &Parts) -> usize {
 /// Runs one case.
 pub fn run(pool: &Pool, comparison: &mut Comparison, random: &mut Random) {
     match random.below(100) {
-        0..=24 => list_of_edits(pool, comparison, random),
+        0..=16 => list_of_edits(pool, comparison, random),
+        17..=24 => runs(pool, comparison, random),
         25..=44 => damaged(pool, comparison, 1, random),
         45..=54 => damaged(pool, comparison, 2, random),
         55..=62 => flipped(pool, comparison, random),
@@ -135,8 +136,53 @@ fn edits(parts: &Parts, comparison: &mut Comparison, lent: &mut Lent, random: &m
     }
 }
 
-/// An edit, mostly one that is taken; otherwise with numbers just too large, far too large, or right only in their low bits.
-fn random_edit(parts: &Parts, length: usize, random: &mut Random) -> Call {
+/// A list of edits through the runner, often a second one on what the first left; seldom with rows that break a rule.
+fn runs(pool: &Pool, comparison: &mut Comparison, random: &mut Random) {
+    let parts = pool.accepted(random);
+    let mut lent = lend(&parts, parts.write(), random);
+    if random.one_in(8) {
+        spoil_rows(&parts, &mut lent, random);
+    }
+    for _ in 0..1 + random.below(2) {
+        ask(&parts, &mut lent, random);
+        comparison.call(Call::Run, &mut lent);
+    }
+}
+
+/// The numbers of some edits and slices for their answers, which hold anything; mostly all six have one entry for each edit.
+fn ask(parts: &Parts, lent: &mut Lent, random: &mut Random) {
+    let most = match random.below(20) {
+        _ if lent.table.len() > 5_000 => 3,
+        0 => 60,
+        _ => 8,
+    };
+    let length = lent.first.len();
+    let edits: Vec<[u64; 3]> = (0..random.below(most + 1))
+        .map(|_| edit_numbers(parts, length, random))
+        .collect();
+    let kind = |at: usize| edits.iter().map(|edit| edit[at] as usize).collect();
+    [lent.rows, lent.places, lent.digits] = [kind(0), kind(1), kind(2)];
+    let mut any = || edits.iter().map(|_| random.next() as usize).collect();
+    [lent.whose, lent.numbers, lent.values] = [any(), any(), any()];
+    let slices = [
+        &mut lent.rows,
+        &mut lent.places,
+        &mut lent.digits,
+        &mut lent.whose,
+        &mut lent.numbers,
+        &mut lent.values,
+    ];
+    for slice in slices {
+        match random.below(30) {
+            0 => slice.truncate(random.below(slice.len() + 1)),
+            1..=3 => slice.extend((0..3).map(|_| random.next() as usize)),
+            _ => (),
+        }
+    }
+}
+
+/// The numbers of an edit, mostly of one that is taken; otherwise just too large, far too large, or right only in their low bits.
+fn edit_numbers(parts: &Parts, length: usize, random: &mut Random) -> [u64; 3] {
     let mut numbers = [0; 3];
     for (number, bound) in numbers.iter_mut().zip([2, length, parts.alphabet.len()]) {
         let good = random.below(bound.max(1)) as u64;
@@ -150,7 +196,12 @@ fn random_edit(parts: &Parts, length: usize, random: &mut Random) -> Call {
             _ => good,
         };
     }
-    let [row, place, digit] = numbers;
+    numbers
+}
+
+/// An edit with such numbers.
+fn random_edit(parts: &Parts, length: usize, random: &mut Random) -> Call {
+    let [row, place, digit] = edit_numbers(parts, length, random);
     Call::Edit { row, place, digit }
 }
 
@@ -178,6 +229,7 @@ fn lend(parts: &Parts, table: Vec<u8>, random: &mut Random) -> Lent {
         second,
         sum: random.bytes(sum),
         answer: answer_array(random),
+        ..Lent::default()
     }
 }
 
@@ -229,7 +281,7 @@ fn damaged(pool: &Pool, comparison: &mut Comparison, times: usize, random: &mut 
 fn try_table(parts: &Parts, file: Vec<u8>, comparison: &mut Comparison, random: &mut Random) {
     let mut lent = lend(parts, file, random);
     comparison.call(Call::Check, &mut lent);
-    match random.below(5) {
+    match random.below(6) {
         0 => edits(parts, comparison, &mut lent, random),
         1 => {
             let call = random_edit(parts, lent.first.len(), random);
@@ -241,6 +293,10 @@ fn try_table(parts: &Parts, file: Vec<u8>, comparison: &mut Comparison, random: 
         3 => {
             spoil_rows(parts, &mut lent, random);
             comparison.call(Call::Add, &mut lent);
+        }
+        4 => {
+            ask(parts, &mut lent, random);
+            comparison.call(Call::Run, &mut lent);
         }
         _ => (),
     }
@@ -310,6 +366,8 @@ fn refused_pair(pool: &Pool, comparison: &mut Comparison, random: &mut Random) {
             let call = random_edit(parts, lent.first.len(), random);
             comparison.call(call, &mut lent);
         }
+        ask(parts, &mut lent, random);
+        comparison.call(Call::Run, &mut lent);
         edits(parts, comparison, &mut lent, random);
     }
 }
@@ -446,7 +504,7 @@ fn short_buffers(pool: &Pool, comparison: &mut Comparison, random: &mut Random) 
         lent.answer.truncate(random.below(8));
     }
     let out = random.pick(&[0, 1, 164, 165, 166, 186, 187, 188, 300]);
-    let call = match random.below(7) {
+    let call = match random.below(8) {
         0 => Call::Check,
         1 => Call::Add,
         2 => random_edit(&parts, lent.first.len(), random),
@@ -455,9 +513,13 @@ fn short_buffers(pool: &Pool, comparison: &mut Comparison, random: &mut Random) 
             x: (1, 2),
             y: (3, 4),
         },
-        5 => Call::Tern,
+        5 => Call::Run,
+        6 => Call::Tern,
         _ => Call::Bin,
     };
+    if call == Call::Run {
+        ask(&parts, &mut lent, random);
+    }
     if matches!(call, Call::Tern | Call::Bin) {
         lent.sum = random.bytes(out);
     }

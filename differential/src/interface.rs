@@ -16,6 +16,7 @@ pub enum Call {
     Check,
     Add,
     Edit { row: u64, place: u64, digit: u64 },
+    Run,
     Value,
     Midpoint { x: (i32, i32), y: (i32, i32) },
     Tern,
@@ -28,6 +29,7 @@ impl Call {
             Call::Check => "check",
             Call::Add => "add",
             Call::Edit { .. } => "edit",
+            Call::Run => "run",
             Call::Value => "value",
             Call::Midpoint { .. } => "midpoint",
             Call::Tern => "tern",
@@ -37,14 +39,33 @@ impl Call {
 }
 
 /// Everything lent to a call. A call uses the buffers that it has parameters for: the value call takes `first` as its row, and a
-/// carried table is written to `sum`. All are compared after every call, the ones that may only be read included.
+/// carried table is written to `sum`. The runner takes the numbers of its edits from `rows`, `places` and `digits` and tells their
+/// answers in `whose`, `numbers` and `values`. All are compared after every call, the ones that may only be read included.
 #[derive(Clone, Debug, Default, PartialEq, Eq)]
 pub struct Lent {
     pub table: Vec<u8>,
     pub first: Vec<u8>,
     pub second: Vec<u8>,
     pub sum: Vec<u8>,
+    pub rows: Vec<usize>,
+    pub places: Vec<usize>,
+    pub digits: Vec<usize>,
+    pub whose: Vec<usize>,
+    pub numbers: Vec<usize>,
+    pub values: Vec<usize>,
     pub answer: Vec<i64>,
+}
+
+impl Lent {
+    /// The numbers of the edits that are listed whole and have room for their answers.
+    pub fn asked(&self) -> Vec<(u64, u64, u64)> {
+        let told = self.whose.iter().zip(&self.numbers).zip(&self.values);
+        let listed = self.rows.iter().zip(&self.places).zip(&self.digits);
+        listed
+            .zip(told)
+            .map(|(((row, place), digit), _)| (*row as u64, *place as u64, *digit as u64))
+            .collect()
+    }
 }
 
 /// An implementation of the C interface.

@@ -31,11 +31,15 @@ fn write_carried(table: &[u8], out: &mut [u8]) -> u64 {
 
 /// The reference's answer, its facts in document 01's order.
 fn answer(call: &Call, lent: &mut Lent) -> Answer<Vec<i64>> {
+    let asked = lent.asked();
     let Lent {
         table,
         first,
         second,
         sum,
+        whose,
+        numbers,
+        values,
         ..
     } = lent;
     match *call {
@@ -49,6 +53,15 @@ fn answer(call: &Call, lent: &mut Lent) -> Answer<Vec<i64>> {
             let edited = reference::edit(table, first, second, sum, row, place, digit);
             facts(edited, |changed| vec![changed as i64])
         }
+        Call::Run => facts(
+            reference::run(table, first, second, sum, &asked),
+            |answers| {
+                for (k, answer) in answers.iter().enumerate() {
+                    [whose[k], numbers[k], values[k]] = told(answer);
+                }
+                vec![answers.len() as i64]
+            },
+        ),
         Call::Value => facts(reference::value(table, first), |element| {
             vec![element.a, element.b]
         }),
@@ -67,6 +80,27 @@ fn facts<F>(answer: Answer<F>, words: impl FnOnce(F) -> Vec<i64>) -> Answer<Vec<
     }
 }
 
+/// An edit's answer in three numbers.
+fn told(answer: &Answer<usize>) -> [usize; 3] {
+    match answer {
+        Answer::Facts(changed) => [0, 0, *changed],
+        Answer::Fault(fault) => [
+            group_number(fault.group) as usize,
+            fault.number.into(),
+            fault.place,
+        ],
+    }
+}
+
+/// Whose fault it is, as a number.
+fn group_number(group: Group) -> i64 {
+    match group {
+        Group::Author => 1,
+        Group::Rows => 2,
+        Group::Editor => 3,
+    }
+}
+
 /// Word 0 says facts or whose fault; the words that a call has nothing for keep their contents.
 fn store(answer: Answer<Vec<i64>>, words: &mut [i64]) -> u64 {
     match answer {
@@ -76,11 +110,7 @@ fn store(answer: Answer<Vec<i64>>, words: &mut [i64]) -> u64 {
             FACTS
         }
         Answer::Fault(fault) => {
-            words[0] = match fault.group {
-                Group::Author => 1,
-                Group::Rows => 2,
-                Group::Editor => 3,
-            };
+            words[0] = group_number(fault.group);
             words[1] = fault.number.into();
             words[2] = fault.place as i64;
             FAULT

@@ -18,7 +18,7 @@ pub struct Comparison<'a> {
     subject: &'a dyn Calls,
     pub counts: BTreeMap<(&'static str, Outcome), u64>,
     pub differences: Vec<String>,
-    /// The row lengths of additions and edits.
+    /// The row lengths of additions, edits and runs.
     lengths: BTreeMap<usize, u64>,
     /// Leaves and depth of the largest codes that the check accepted.
     largest: (i64, i64),
@@ -62,7 +62,7 @@ impl<'a> Comparison<'a> {
     fn count(&mut self, call: &Call, outcome: Outcome, lent: &Lent) {
         *self.counts.entry((call.name(), outcome)).or_default() += 1;
         match call {
-            Call::Add | Call::Edit { .. } => {
+            Call::Add | Call::Edit { .. } | Call::Run => {
                 *self.lengths.entry(lent.first.len()).or_default() += 1
             }
             Call::Check if outcome == Outcome::Facts => {
@@ -80,7 +80,9 @@ impl<'a> Comparison<'a> {
 
     /// The counts, one line for each call, and then those of each refusal number over all calls.
     pub fn print(&self) {
-        for name in ["check", "add", "edit", "value", "midpoint", "tern", "bin"] {
+        for name in [
+            "check", "add", "edit", "run", "value", "midpoint", "tern", "bin",
+        ] {
             let of_call = self.counts.iter().filter(|((call, _), _)| *call == name);
             let parts: Vec<String> = of_call
                 .map(|((_, outcome), count)| counted(*outcome, *count))
@@ -149,6 +151,12 @@ fn report(call: &Call, before: &Lent, expected: (u64, &Lent), got: (u64, &Lent))
                 "  {name} byte {place}: expected {right}, got {wrong}"
             ));
         }
+    }
+    if *call == Call::Run {
+        lines.push(format!("  edits {:?}", before.asked()));
+        let answers = |lent: &Lent| [&lent.whose, &lent.numbers, &lent.values].map(Vec::clone);
+        lines.push(format!("  answers expected {:?}", answers(expected.1)));
+        lines.push(format!("  answers got      {:?}", answers(got.1)));
     }
     lines.join("\n")
 }

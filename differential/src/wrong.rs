@@ -36,6 +36,14 @@ pub enum Mistake {
     EditOnePlace,
     /// The edit says 27 for any place of the sum, also below p and above p + h.
     EditJudgesAll,
+    /// The runner adds and edits without the check.
+    RunSkipsCheck,
+    /// The runner stops at the first edit that is refused.
+    RunStops,
+    /// The runner tells a fault's place as its number and its number as its place.
+    RunTellsPlaceFirst,
+    /// The runner says as many edits as row numbers are listed.
+    RunCountsRows,
     /// The value lets −2,147,483,648 pass at the last digit.
     LimitLoose,
     /// The midpoint is rounded toward zero.
@@ -74,6 +82,10 @@ pub fn mistakes() -> Vec<Mistake> {
         SecondRowFirst,
         EditOnePlace,
         EditJudgesAll,
+        RunSkipsCheck,
+        RunStops,
+        RunTellsPlaceFirst,
+        RunCountsRows,
         LimitLoose,
         MidpointTruncated,
         AnswerOverrun,
@@ -107,6 +119,7 @@ impl Calls for Wrong {
         match (call, returned) {
             (Call::Add, FACTS) => self.spoil_add(lent),
             (Call::Edit { .. }, FACTS) => self.spoil_edit(call, &before, lent),
+            (Call::Run, FACTS) => self.spoil_run(&before, lent),
             (_, FAULT) => self.spoil_fault(call, &before, lent),
             _ => (),
         }
@@ -171,6 +184,28 @@ impl Wrong {
         self.edited.set(true);
     }
 
+    fn spoil_run(&self, before: &Lent, lent: &mut Lent) {
+        let ran = lent.answer[1] as usize;
+        match self.mistake {
+            Mistake::RunStops => {
+                if let Some(first) = (0..ran).find(|k| lent.whose[*k] != 0) {
+                    let mut fewer = before.clone();
+                    fewer.rows.truncate(first + 1);
+                    Model.call(&Call::Run, &mut fewer);
+                    fewer.rows.clone_from(&lent.rows);
+                    *lent = fewer;
+                }
+            }
+            Mistake::RunTellsPlaceFirst => {
+                for k in (0..ran).filter(|k| lent.whose[*k] != 0) {
+                    std::mem::swap(&mut lent.numbers[k], &mut lent.values[k]);
+                }
+            }
+            Mistake::RunCountsRows => lent.answer[1] = lent.rows.len() as i64,
+            _ => (),
+        }
+    }
+
     /// Where both rows offend, the second is told of.
     fn spoil_rows(&self, call: &Call, before: &Lent, lent: &mut Lent) {
         let mut swapped = before.clone();
@@ -206,7 +241,12 @@ impl Wrong {
             (Mistake::PlaceOff(wanted), _) if number == wanted => lent.answer[2] += 1,
             (Mistake::NumberOff(wanted), _) if number == wanted => lent.answer[1] += 1,
             (Mistake::CheckSkipsPairs, Call::Check) if number == 14 => lent.answer[0] = 0,
-            (Mistake::SecondRowFirst, Call::Add | Call::Edit { .. }) if number == 21 => {
+            (Mistake::RunSkipsCheck, Call::Run) if number == 14 => {
+                Model.call(&Call::Add, lent);
+            }
+            (Mistake::SecondRowFirst, Call::Add | Call::Edit { .. } | Call::Run)
+                if number == 21 =>
+            {
                 self.spoil_rows(call, before, lent);
             }
             (Mistake::LimitLoose, Call::Value) if number == 28 => self.spoil_value(lent),

@@ -82,6 +82,44 @@ pub fn edit(
     taken.into()
 }
 
+/// An edit in a list: row number, place and new digit.
+pub type Asked = (u64, u64, u64);
+
+/// A list of edits: the check, then the addition, then each edit, with an answer for each. Where the check or the addition refuses,
+/// nothing is written. After a taken edit the whole sum row is computed anew, and the count is of all its bytes that changed.
+pub fn run(
+    file: &[u8],
+    first: &mut [u8],
+    second: &mut [u8],
+    sum: &mut [u8],
+    edits: &[Asked],
+) -> Answer<Vec<Answer<usize>>> {
+    if let Answer::Fault(fault) = check(file) {
+        return Answer::Fault(fault);
+    }
+    if let Answer::Fault(fault) = add(file, first, second, sum) {
+        return Answer::Fault(fault);
+    }
+    let answers = edits.iter().map(|&(row, place, digit)| {
+        let mut take = || {
+            let table = table::read(file)?;
+            editor(row <= 1, 24)?;
+            editor(place < first.len() as u64, 25)?;
+            editor(digit < table.alphabet.len() as u64, 26)?;
+            match row {
+                0 => first[place as usize] = digit as u8,
+                _ => second[place as usize] = digit as u8,
+            }
+            let digits = sum_row(&table, first, second, 0..first.len() + table.depth)?;
+            let changed = sum.iter().zip(&digits).filter(|(x, y)| x != y).count();
+            sum[..digits.len()].copy_from_slice(&digits);
+            Ok(changed)
+        };
+        take().into()
+    });
+    Answer::Facts(answers.collect())
+}
+
 /// The value of a row, from the top place down (Horner), refused with 28 as soon as a part leaves ±2,147,483,647.
 pub fn value(file: &[u8], row: &[u8]) -> Answer<Element> {
     let evaluate = || {

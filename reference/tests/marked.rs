@@ -1,6 +1,6 @@
 //! The marked exercises M7 to M12 and the limits that the paper names beside them.
 
-use reference::{add, bin, check, edit, tern, Answer, Fault, Group, TableFacts};
+use reference::{add, bin, check, edit, run, tern, Answer, Fault, Group, TableFacts};
 
 /// Alphabet indexes of digits given as values.
 fn row(alphabet: &[i8], digits: &[i8]) -> Vec<u8> {
@@ -42,6 +42,28 @@ fn edit_of_the_marked_table() {
     assert_eq!(answer, Answer::Facts(2));
     assert_eq!(first, row(&TERN_DIGITS, &[-2, 2]));
     assert_eq!(sum, row(&TERN_DIGITS, &[-1, 1, 1]));
+}
+
+#[test]
+fn list_of_the_marked_table() {
+    let mut first = row(&TERN_DIGITS, &[2, 2]);
+    let mut second = row(&TERN_DIGITS, &[1, 2]);
+    let mut sum = vec![99; 4];
+    let edits = [(2, 0, 0), (0, 0, 4), (1, 5, 1)];
+    let answer = run(&tern(), &mut first, &mut second, &mut sum, &edits);
+    let refused = |number| {
+        Answer::Fault(Fault {
+            group: Group::Editor,
+            number,
+            place: 0,
+        })
+    };
+    let answers = vec![refused(24), Answer::Facts(2), refused(25)];
+    assert_eq!(answer, Answer::Facts(answers));
+    assert_eq!(first, row(&TERN_DIGITS, &[-2, 2]));
+    assert_eq!(second, row(&TERN_DIGITS, &[1, 2]));
+    assert_eq!(sum[..3], row(&TERN_DIGITS, &[-1, 1, 1]));
+    assert_eq!(sum[3], 99);
 }
 
 #[test]

@@ -8,6 +8,11 @@ use lib.ListN.{length}
 use Rattle.lists.specs.Overwrite.{overwrite}
 use Rattle.faults.specs.declared.Fault.{Fault}
 use Rattle.faults.specs.Outcome.{Outcome, facts, refusedBy}
+use Rattle.row_rules.specs.declared.Change.{Change}
+use Rattle.edit_rules.specs.Edit.{State}
+use Rattle.runner_rules.specs.Told.{groupsOf, numbersOf, valuesOf}
+use Rattle.runner_rules.specs.Run.{runAll}
+use Rattle.runner_rules.specs.Follows.{toldIn}
 use Rattle.adder_c.specs.Answer.{outcomeWords, outcomeStatus, ifRoom, returned, answered}
 use Rattle.answer_words.specs.Fault.{faultWords}
 
@@ -33,6 +38,22 @@ module _ {F : Type 0} (words : F → List ℤ) (o : Outcome F) (answer : List �
   unfolding outcomeStatus outcomeWords
   with-fault fault r last h e z l =
       rw e (z ∙ some-room 8 (length answer) 1 2 h, l ∙ some-room 8 (length answer) (overwrite answer 0 (faultWords fault)) answer h)
+
+-- a run's buffers and its three slices of answers: where the answer array is short, and where they are as the run leaves them
+module _ (room : ℕ) (file : List ℕ) (s : State) (es : List Change) (whose numbers values : List ℕ) where
+  abbrev RunLeft : State → List ℕ → List ℕ → List ℕ → Type 0
+  RunLeft now w n v =
+      (now ≡ ifRoom 8 room (runAll file s es .buffers) s)
+      × ((w ≡ ifRoom 8 room (toldIn file s es groupsOf whose) whose)
+      × (n ≡ ifRoom 8 room (toldIn file s es numbersOf numbers) numbers)
+      × (v ≡ ifRoom 8 room (toldIn file s es valuesOf values) values))
+
+  pub not-run : room < 8 → RunLeft s whose numbers values
+  not-run h = (no-room 8 room _ s h, (no-room 8 room _ whose h, no-room 8 room _ numbers h, no-room 8 room _ values h))
+
+  pub as-run : (now : State) (w n v : List ℕ) → 8 ≤ room → now ≡ runAll file s es .buffers → w ≡ toldIn file s es groupsOf whose → n ≡ toldIn file s es numbersOf numbers → v ≡ toldIn file s es valuesOf values → RunLeft now w n v
+  as-run now w n v h a b c d =
+      (a ∙ some-room 8 room _ s h, (b ∙ some-room 8 room _ whose h, c ∙ some-room 8 room _ numbers h, d ∙ some-room 8 room _ values h))
 
 -- a carried table: where the buffer is short, and where it is written
 module _ (wanted : ℕ) (out file : List ℕ) where

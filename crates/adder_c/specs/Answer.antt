@@ -10,6 +10,7 @@ use Rattle.faults.specs.Outcome.{Outcome, facts, refused, whose}
 use Rattle.table_rules.specs.declared.Facts.{Facts}
 use Rattle.adder_rules.specs.declared.AddedFacts.{AddedFacts}
 use Rattle.edit_rules.specs.declared.EditedFacts.{EditedFacts}
+use Rattle.runner_rules.specs.declared.RanFacts.{RanFacts}
 use Rattle.answer_words.specs.Word.{wordOf}
 use Rattle.answer_words.specs.Fault.{refusalWords}
 
@@ -46,6 +47,10 @@ addWords f = wordOf (f .places) ∷ []
 -- the fact of the edit: the count of sum bytes that differ from before
 abbrev pub editWords : EditedFacts → List ℤ
 editWords f = wordOf (f .count) ∷ []
+
+-- the fact of the runner: the number of edits that were called
+abbrev pub runWords : RanFacts → List ℤ
+runWords f = wordOf (f .edits) ∷ []
 
 -- an element: its parts
 abbrev pub elementWords : List ℤ → List ℤ

@@ -19,6 +19,8 @@ use midpoint::Element;
 use table::Checked;
 use valued::Valued;
 
+mod run;
+
 #[no_mangle]
 pub extern "C" fn yoyomyrtle_check(file: &[u8], answer: &mut [i64]) -> u64
     ensures { λ r. ⌜ (r ≡ returned (checkOutcome (now (file .entry))) (now (answer .entry))) × (now (answer .exit) ≡ answered checkWords (checkOutcome (now (file .entry))) (now (answer .entry))) ⌝ }

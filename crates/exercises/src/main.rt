@@ -4,6 +4,7 @@ mod additions;
 mod changes;
 mod elements;
 mod lines;
+mod lists;
 mod output;
 mod tables;
 mod values;
@@ -34,6 +35,7 @@ fn edited_rows() {
     changes::bin_list();
     changes::longest_rows();
     changes::longer_rows();
+    lists::runs();
 }
 
 fn elements_of_rows() {

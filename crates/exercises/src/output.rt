@@ -21,7 +21,7 @@ fn written(out: &[u8], end: usize) {
 }
 
 // A word and a number.
-fn item(name: &[u8], n: usize) {
+pub fn item(name: &[u8], n: usize) {
     word(name);
     let mut out = [0u8; 20];
     let end = text::put_decimal(&mut out, 0, n);
@@ -45,7 +45,7 @@ pub fn buffer(bytes: &[u8])
 }
 
 // A space and a fault.
-fn refused(fault: Fault) {
+pub fn refused(fault: Fault) {
     let mut out = [b' '; 65];
     let end = text::put_fault(&mut out, 1, fault);
     written(&out, end);

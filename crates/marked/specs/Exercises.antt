@@ -16,6 +16,10 @@ use Rattle.row_rules.specs.declared.Change.{Change}
 use Rattle.edit_rules.specs.declared.EditedFacts.{EditedFacts}
 use Rattle.edit_rules.specs.Edit.{State, state}
 use Rattle.edit_rules.specs.Run.{run}
+use Rattle.runner_rules.specs.declared.RanFacts.{RanFacts}
+use Rattle.runner_rules.specs.Told.{groupsOf, numbersOf, valuesOf}
+use Rattle.runner_rules.specs.Run.{askedEdits, runOutcome, runAll}
+use Rattle.runner_rules.specs.Follows.{toldIn}
 use Rattle.carried.specs.Tables.{ternInputs, ternLeaves, ternFile, binFile, sections, fileOf}
 
 pub data Exercise : Type 0 where
@@ -29,6 +33,9 @@ pub data Exercise : Type 0 where
   adds : List ℕ → List ℕ → List ℕ → List ℕ → Exercise
   -- a table file, two rows and the sum buffer, and edits after the addition: the buffers after the list, and the answers
   runs : List ℕ → List ℕ → List ℕ → List ℕ → List Change → Exercise
+  -- a table file, the buffers, the row numbers, places and digits of edits, and three slices for the answers: the runner's outcome, the
+  -- buffers and the slices after it
+  lists : List ℕ → State → List ℕ → List ℕ → List ℕ → List ℕ → List ℕ → List ℕ → Exercise
 
 pub data Answer : Type 0 where
   element : List ℤ → Answer
@@ -36,6 +43,7 @@ pub data Answer : Type 0 where
   outcome : Outcome Facts → Answer
   summed : Outcome AddedFacts → List ℕ → Answer
   ran : State → List (Outcome EditedFacts) → Answer
+  listed : Outcome RanFacts → State → List ℕ → List ℕ → List ℕ → Answer
 
 -- by the definitions that the contracts cite
 unfoldable pub answer : Exercise → Answer
@@ -45,6 +53,9 @@ answer (checks file) = outcome (checkOutcome file)
 answer (adds file first second sum) = summed (addOutcome file first second (length sum)) (addSum file first second sum)
 answer (runs file first second sum edits) =
     ran (run file (state first second sum) edits .buffers) (run file (state first second sum) edits .answers)
+answer (lists file s rows places digits whose numbers values) =
+    let es = askedEdits rows places digits whose numbers values in
+    listed (runOutcome file s (length es)) (runAll file s es .buffers) (toldIn file s es groupsOf whose) (toldIn file s es numbersOf numbers) (toldIn file s es valuesOf values)
 
 pub record Case : Type 0 where
   pub exercise : Exercise
@@ -72,6 +83,11 @@ table =
     ∷ record { exercise = adds ternFile (2 ∷ 2 ∷ []) (1 ∷ 2 ∷ []) (9 ∷ 9 ∷ 9 ∷ 9 ∷ []); expected = summed (facts (record { places = 3 })) (0 ∷ 2 ∷ 1 ∷ 9 ∷ []) }
     -- M8: −2 has index 4, −1 has index 3
     ∷ record { exercise = runs ternFile (2 ∷ 2 ∷ []) (1 ∷ 2 ∷ []) (9 ∷ 9 ∷ 9 ∷ 9 ∷ []) (record { row = 0; place = 0; digit = 4 } ∷ []); expected = ran (state (4 ∷ 2 ∷ []) (1 ∷ 2 ∷ []) (3 ∷ 1 ∷ 1 ∷ 9 ∷ [])) (facts (record { count = 2 }) ∷ []) }
+    -- M7 and M8 by the runner, between an edit with row number 2 and one at place 5: three are asked for, a fourth has no digit
+    ∷ record {
+      exercise = lists ternFile (state (2 ∷ 2 ∷ []) (1 ∷ 2 ∷ []) (9 ∷ 9 ∷ 9 ∷ 9 ∷ [])) (2 ∷ 0 ∷ 1 ∷ 0 ∷ []) (0 ∷ 0 ∷ 5 ∷ 1 ∷ []) (0 ∷ 4 ∷ 1 ∷ []) (7 ∷ 7 ∷ 7 ∷ 7 ∷ []) (7 ∷ 7 ∷ 7 ∷ 7 ∷ []) (7 ∷ 7 ∷ 7 ∷ 7 ∷ []);
+      expected = listed (facts (record { edits = 3 })) (state (4 ∷ 2 ∷ []) (1 ∷ 2 ∷ []) (3 ∷ 1 ∷ 1 ∷ 9 ∷ [])) (3 ∷ 0 ∷ 3 ∷ 7 ∷ []) (24 ∷ 0 ∷ 25 ∷ 7 ∷ []) (0 ∷ 2 ∷ 0 ∷ 7 ∷ []);
+    }
     ∷ record { exercise = adds binFile (1 ∷ 1 ∷ []) (1 ∷ 0 ∷ []) (9 ∷ 9 ∷ 9 ∷ 9 ∷ 9 ∷ []); expected = summed (facts (record { places = 4 })) (0 ∷ 0 ∷ 1 ∷ 0 ∷ 9 ∷ []) }
     ∷ record { exercise = adds binFile (0 ∷ 1 ∷ []) (0 ∷ 0 ∷ []) (9 ∷ 9 ∷ 9 ∷ 9 ∷ 9 ∷ []); expected = summed (facts (record { places = 4 })) (0 ∷ 1 ∷ 0 ∷ 0 ∷ 9 ∷ []) }
     ∷ record { exercise = adds ternFile [] [] (9 ∷ 9 ∷ []); expected = summed (facts (record { places = 1 })) (0 ∷ 9 ∷ []) }

@@ -1,3 +1,5 @@
 pub mod Steps
 pub mod Outcome
-pub mod Room
+pub mod Asked
+pub mod Tells
+pub mod Follows

@@ -4,6 +4,7 @@ use mathlib.Core.List.{List, []}
 use Prim.Native.Nat.{ℕ}
 use lib.ListN.{length}
 use Rattle.faults.specs.Outcome.{Group, Outcome, facts, refused}
+use Rattle.faults.proofs.Exit.{exit-lent, exit-written}
 use Rattle.row_rules.specs.declared.Change.{Change}
 use Rattle.table_rules.specs.declared.Facts.{Facts}
 use Rattle.table_rules.specs.Check.{checkOutcome}
@@ -12,7 +13,7 @@ use Rattle.adder_rules.specs.Add.{addOutcome, addSum}
 use Rattle.edit_rules.specs.Edit.{State, state}
 use Rattle.edit_rules.specs.Run.{editAll, editAnswers, run}
 use Rattle.runner_rules.specs.declared.RanFacts.{RanFacts}
-use Rattle.runner_rules.specs.Run.{after, runOutcome, ranBy, runAll}
+use Rattle.runner_rules.specs.Run.{after, runOutcome, runAll}
 use Rattle.runner_rules.specs.List.{editList}
 
 module _ (file : List ℕ) (s : State) (m : ℕ) where
@@ -42,12 +43,12 @@ module _ (file : List ℕ) (s : State) (m : ℕ) where
 -- what a run leaves, by its outcome
 module _ (file : List ℕ) (s : State) (es : List Change) where
   pub nothing-ran : (g : Group) (n p : ℕ) → refused g n p ≡ runOutcome file s (length es) → record { buffers = s; answers = [] } ≡ runAll file s es
-  unfolding ranBy runAll
-  nothing-ran g n p is = ap (λ (o : Outcome RanFacts). ranBy o s (run file s es)) is
+  unfolding runAll
+  nothing-ran g n p is = exit-lent (runOutcome file s (length es)) g n p (record { buffers = s; answers = [] }) (run file s es) is
 
   pub all-ran : (f : RanFacts) → facts f ≡ runOutcome file s (length es) → run file s es ≡ runAll file s es
-  unfolding ranBy runAll
-  all-ran f is = ap (λ (o : Outcome RanFacts). ranBy o s (run file s es)) is
+  unfolding runAll
+  all-ran f is = exit-written (runOutcome file s (length es)) f (record { buffers = s; answers = [] }) (run file s es) is
 
 -- where both pass: the edits, called on the sum as the addition left it
 module _ (file : List ℕ) (s : State) (rows places digits : List ℕ) (m called : ℕ) (counted : called ≡ m) (sum : List ℕ) (summed : sum ≡ addSum file (s .first) (s .second) (s .sum)) where

@@ -1,3 +1,4 @@
 pub mod Told
 pub mod List
 pub mod Run
+pub mod Follows

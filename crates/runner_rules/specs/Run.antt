@@ -1,9 +1,10 @@
--- The check, the addition and a list of edits (document 01, "Digit edit": a list "starts from an addition that wasn't refused") as a
+-- Pinned by run-follows and asked-at, asked-count (proofs/Follows.antt, proofs/Asked.antt): a reader may skip this file. The check, the
+-- addition and a list of edits (document 01, "Digit edit": a list "starts from an addition that wasn't refused") as a
 -- function of the table file, the buffers and the numbers that list the edits.
 use mathlib.Core.List.{List, []}
 use Prim.Native.Nat.{ℕ, min}
 use lib.ListN.{length}
-use Rattle.faults.specs.Outcome.{Outcome, facts, refused}
+use Rattle.faults.specs.Outcome.{Outcome, facts, refused, atExit}
 use Rattle.row_rules.specs.declared.Change.{Change}
 use Rattle.table_rules.specs.Check.{checkOutcome}
 use Rattle.adder_rules.specs.Add.{addOutcome}
@@ -30,9 +31,5 @@ unfoldable pub runOutcome : List ℕ → State → ℕ → Outcome RanFacts
 runOutcome file s m = after (checkOutcome file) (after (addOutcome file (s .first) (s .second) (length (s .sum))) (facts (record { edits = m })))
 
 -- where the list doesn't start, nothing is written and nothing answered
-unfoldable pub ranBy : Outcome RanFacts → State → Ran → Ran
-ranBy (facts f) s ran = ran
-ranBy (refused whose number place) s ran = record { buffers = s; answers = [] }
-
 unfoldable pub runAll : List ℕ → State → List Change → Ran
-runAll file s es = ranBy (runOutcome file s (length es)) s (run file s es)
+runAll file s es = atExit (runOutcome file s (length es)) (record { buffers = s; answers = [] }) (run file s es)

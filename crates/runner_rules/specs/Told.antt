@@ -1,16 +1,10 @@
--- The answer of an edit in three numbers ("Who sends a fault" of document 01): "whose it is: author, rows or editor, with number and
+-- Pinned by tells and told-apart (proofs/Tells.antt): a reader may skip this file. The answer of an edit in three numbers ("Who sends a fault" of document 01): "whose it is: author, rows or editor, with number and
 -- place", or its count.
 use mathlib.Core.List.{List, map}
 use Prim.Native.Nat.{ℕ}
-use Rattle.faults.specs.Outcome.{Group, Outcome, facts, refused, author, rows, editor}
+use Rattle.faults.specs.Outcome.{groupNumber, Outcome, facts, refused}
 use Rattle.edit_rules.specs.declared.EditedFacts.{EditedFacts}
 use Rattle.runner_rules.specs.declared.Told.{Told}
-
--- 0 is left for facts
-abbrev pub groupNumber : Group → ℕ
-groupNumber author = 1
-groupNumber rows = 2
-groupNumber editor = 3
 
 abbrev pub toldOf : Outcome EditedFacts → Told
 toldOf (facts f) = record { whose = 0; number = 0; value = f .count }

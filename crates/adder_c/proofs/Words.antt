@@ -1,0 +1,62 @@
+-- The numbers that the papers bound are far below 2^63, so that each is its own word.
+use mathlib.Core.Path.{_≡_, refl, ap}
+use mathlib.Core.Bool.{Bool, true, false}
+use mathlib.Core.List.{List, [], _∷_}
+use Prim.Native.Nat.{ℕ, zero, suc, _^_, _<_, _≤_}
+use native.Mathlib.Omega.{arith}
+use lib.IntN.{pos}
+use Rattle.lists.proofs.Cons.{cons≡}
+use Rattle.faults.specs.Outcome.{Group, groupNumber, facts, author}
+use Rattle.calls.proofs.Answers.{unless-given}
+use Rattle.answer_words.specs.Fault.{refusalWords}
+use Rattle.answer_words.proofs.Bits.{word-small}
+use Rattle.reader_rules.specs.Check.{tableCheck}
+use Rattle.reader_rules.proofs.Ready.{ready-passed}
+use Rattle.row_rules.specs.declared.Change.{Change}
+use Rattle.table_rules.specs.declared.Facts.{Facts}
+use Rattle.table_rules.specs.Check.{checkFacts, checkOutcome}
+use Rattle.table_rules.proofs.Demand.{demand-1}
+use Rattle.adder_rules.specs.declared.AddedFacts.{AddedFacts}
+use Rattle.adder_rules.specs.Add.{addOutcome}
+use Rattle.adder_rules.proofs.Demand.{demand-1 as add-demand-1}
+use Rattle.adder_rules.proofs.Summed.{passed}
+use Rattle.edit_rules.specs.declared.EditedFacts.{EditedFacts}
+use Rattle.edit_rules.specs.Count.{tally, failing}
+use Rattle.edit_rules.specs.Edit.{State, reach, count, editOutcome}
+use Rattle.edit_rules.proofs.Demand.{demand-1 as edit-demand-1}
+use Rattle.adder_c.specs.Answer.{checkWords, addWords, editWords}
+
+-- a fault's number and place
+pub fault-words : (g : Group) (n p : ℕ) → n < 2 ^ 63 → p < 2 ^ 63 → refusalWords g n p ≡ pos (groupNumber g) ∷ pos n ∷ pos p ∷ []
+fault-words g n p h l = cons≡ refl (cons≡ (word-small n h) (cons≡ (word-small p l) refl))
+
+-- h, leaf count and alphabet size of an accepted table
+pub check-words : (file : List ℕ) (f : Facts) → checkOutcome file ≡ facts f → checkWords f ≡ pos (f .depth) ∷ pos (f .leaves) ∷ pos (f .digits) ∷ []
+unfolding checkOutcome checkFacts
+check-words file f is =
+    let r = ready-passed file (unless-given author (tableCheck file) _ f is .0) in
+    rw (demand-1 file .only-facts f is) (cons≡ (word-small _ (omega (arith, r .depth-high))) (cons≡ (word-small _ (omega (arith, r .leaf-lies .counts, r .leaf-count .1))) (cons≡ (word-small _ (omega (arith, r .alphabet-lies .counts, r .alphabet-count .1))) refl)))
+
+-- n + h of an addition that isn't refused
+pub add-words : (file first second : List ℕ) (room : ℕ) (f : AddedFacts) → addOutcome file first second room ≡ facts f → addWords f ≡ pos (f .places) ∷ []
+add-words file first second room f is =
+    let ok = passed file first second room f is in
+    cons≡ (word-small _ (omega (arith, ap (λ (a : AddedFacts). a .places) (add-demand-1 file first second room .only-facts f is), ok .fit .short, ready-passed file (ok .table) .depth-high))) refl
+
+-- the count of an edit that is taken
+tally-most : (b : Bool) (n : ℕ) → tally b n ≤ suc n
+unfolding tally
+tally-most true n = omega arith
+tally-most false n = omega arith
+
+most-fail : (test : ℕ → Bool) (i n : ℕ) → failing test i n ≤ n
+unfolding failing
+most-fail test i zero = omega arith
+most-fail test i (suc n) = omega (arith, tally-most (test i) (failing test (suc i) n), most-fail test (suc i) n)
+
+pub edit-words : (file : List ℕ) (e : Change) (s : State) (f : EditedFacts) → editOutcome file e s ≡ facts f → editWords f ≡ pos (f .count) ∷ []
+unfolding editOutcome count
+edit-words file e s f is =
+    let r = ready-passed file (unless-given author (tableCheck file) _ f is .0) in
+    let most : count file e s ≤ reach file = most-fail _ (e .place) (reach file) in
+    cons≡ (word-small _ (omega (arith, ap (λ (a : EditedFacts). a .count) (edit-demand-1 file e s .only-facts f is), r .depth-high))) refl
