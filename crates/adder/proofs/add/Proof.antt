@@ -11,10 +11,12 @@ use Rattle.faults.specs.declared.Refusal.{Refusal}
 use Rattle.row_rules.proofs.Fit.{rows-fit}
 use Rattle.row_rules.specs.Check.{rowCheck}
 use Rattle.reader_rules.proofs.Answer.{read-facts}
+use Rattle.reader_rules.specs.declared.Table.{Table}
 use Rattle.reader_rules.specs.Table.{tableFacts}
 use Rattle.reader_rules.specs.Check.{readAs, tableCheck}
 use Rattle.adder_rules.specs.Sum.{digitCount}
 use Rattle.adder_rules.proofs.Sum.{table-refused, rows-refused, rows-passed, sum-lent, sum-by}
+use Rattle.adder_rules.proofs.Table.{digits-told}
 use borrow.Author.Needs.{needs}
 use Rattle.adder.proofs.add.Statement.{statement}
 use Rattle.adder.proofs.add.Tie as tie
@@ -27,7 +29,8 @@ checked : (c : tie.After-row-check) → c .row-check .result ≡ rowCheck (c .be
 checked c =
     let a = c .before .before .before .before .before .before .before .before .before .before .args in
     let t = known (c .before .before .before) .1 in
-    c .row-check .ensures ∙ (λ i. rowCheck (a .first .now) (a .second .now) (length (a .sum .now)) (t i .alphabet .count) (t i .depth))
+    let digits = ap (λ (facts : Table). facts .alphabet .count) t ∙ digits-told (a .table .now) in
+    c .row-check .ensures ∙ (λ i. rowCheck (a .first .now) (a .second .now) (length (a .sum .now)) (digits i) (t i .depth))
 
 nothing : (c : tie.Else1) → rowCheck (c .before .before .before .before .before .before .before .before .before .before .before .before .args .first .now) (c .before .before .before .before .before .before .before .before .before .before .before .before .args .second .now) (length (c .before .before .before .before .before .before .before .before .before .before .before .before .args .sum .now)) (digitCount (c .before .before .before .before .before .before .before .before .before .before .before .before .args .table .now)) (tableFacts (c .before .before .before .before .before .before .before .before .before .before .before .before .args .table .now) .depth) .number ≡ 0
 nothing c = ap (λ (r : Refusal). r .number) (sym (checked (c .before .before))) ∙ c .if1 .left

@@ -8,11 +8,13 @@ use Rattle.row_rules.specs.declared.Change.{Change}
 use Rattle.row_rules.specs.Check.{rowCheck, editCheck}
 use Rattle.row_rules.specs.Fit.{EditFits}
 use Rattle.row_rules.proofs.Fit.{rows-fit, edit-fits}
+use Rattle.reader_rules.specs.declared.Table.{Table}
 use Rattle.reader_rules.specs.Table.{tableFacts}
 use Rattle.reader_rules.specs.Check.{readAs, tableCheck}
 use Rattle.reader_rules.proofs.Answer.{read-facts}
 use Rattle.reader_rules.proofs.Ready.{ready-passed}
 use Rattle.adder_rules.specs.Sum.{digitCount}
+use Rattle.adder_rules.proofs.Table.{digits-told}
 use Rattle.edit_rules.specs.Edit.{State, state}
 use Rattle.edit_rules.proofs.Stages.{rowsFound, askedFound, table-refused, rows-refused, edit-refused, edit-passed, state-lent, state-by}
 use borrow.Author.Needs.{needs}
@@ -42,7 +44,8 @@ checked : (c : tie.After-row-check) → c .row-check .result ≡ rowsFound (c .b
 checked c =
     let a = c .before .before .before .before .before .before .before .before .before .before .before .before .args in
     let t = known (c .before .before .before .before .before) .1 in
-    c .row-check .ensures ∙ (λ i. rowCheck (a .first .now) (a .second .now) (length (a .sum .now)) (t i .alphabet .count) (t i .depth))
+    let digits = ap (λ (facts : Table). facts .alphabet .count) t ∙ digits-told (a .table .now) in
+    c .row-check .ensures ∙ (λ i. rowCheck (a .first .now) (a .second .now) (length (a .sum .now)) (digits i) (t i .depth))
 
 fitting : (c : tie.Else1) → rowsFound (c .before .before .before .before .before .before .before .before .before .before .before .before .before .before .args .table .now) (edited (c .before .before .before .before .before .before .before .before .before .before .before .before .before .before)) (lent (c .before .before .before .before .before .before .before .before .before .before .before .before .before .before)) .number ≡ 0
 fitting c = ap (λ (r : Refusal). r .number) (sym (checked (c .before .before))) ∙ c .if1 .left
@@ -51,7 +54,8 @@ asked : (c : tie.After-edit-check) → c .edit-check .result ≡ askedFound (c .
 asked c =
     let a = c .before .before .before .before .before .before .before .before .before .before .before .before .before .before .before .args in
     let t = known (c .before .before .before .before .before .before .before .before) .1 in
-    c .edit-check .ensures ∙ (λ i. editCheck (a .row) (a .place) (a .digit) (length (a .first .now)) (t i .alphabet .count))
+    let digits = ap (λ (facts : Table). facts .alphabet .count) t ∙ digits-told (a .table .now) in
+    c .edit-check .ensures ∙ (λ i. editCheck (a .row) (a .place) (a .digit) (length (a .first .now)) (digits i))
 
 taken : (c : tie.Else2) → askedFound (c .before .before .before .before .before .before .before .before .before .before .before .before .before .before .before .before .before .args .table .now) (edited (c .before .before .before .before .before .before .before .before .before .before .before .before .before .before .before .before .before)) (lent (c .before .before .before .before .before .before .before .before .before .before .before .before .before .before .before .before .before)) .number ≡ 0
 taken c = ap (λ (r : Refusal). r .number) (sym (asked (c .before .before))) ∙ c .if2 .left
