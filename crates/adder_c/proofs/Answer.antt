@@ -9,7 +9,7 @@ use Rattle.lists.specs.Overwrite.{overwrite}
 use Rattle.faults.specs.declared.Fault.{Fault}
 use Rattle.faults.specs.Outcome.{Outcome, facts, refusedBy}
 use Rattle.row_rules.specs.declared.Change.{Change}
-use Rattle.edit_rules.specs.Edit.{State}
+use Rattle.edit_rules.specs.State.{State}
 use Rattle.runner_rules.specs.Told.{groupsOf, numbersOf, valuesOf}
 use Rattle.runner_rules.specs.Run.{runAll}
 use Rattle.runner_rules.specs.Follows.{toldIn}

@@ -22,7 +22,8 @@ use Rattle.adder_rules.proofs.Demand.{demand-1 as add-demand-1}
 use Rattle.adder_rules.proofs.Summed.{passed}
 use Rattle.edit_rules.specs.declared.EditedFacts.{EditedFacts}
 use Rattle.edit_rules.specs.Count.{tally, failing}
-use Rattle.edit_rules.specs.Edit.{State, reach, count, editOutcome}
+use Rattle.edit_rules.specs.Edit.{count, editOutcome}
+use Rattle.edit_rules.specs.State.{State, reach}
 use Rattle.edit_rules.proofs.Demand.{demand-1 as edit-demand-1}
 use Rattle.adder_c.specs.Answer.{checkWords, addWords, editWords}
 

@@ -9,15 +9,16 @@ ghost use Rattle.faults.specs.Outcome.{facts};
 ghost use Rattle.midpoint.specs.Midpoint.{midpointOf};
 ghost use Rattle.table_rules.specs.Check.{checkOutcome};
 ghost use Rattle.adder_rules.specs.Add.{addOutcome, addSum};
-ghost use Rattle.edit_rules.specs.Edit.{state, editOutcome, editState};
-ghost use Rattle.valued_rules.specs.Value.{valueOutcome};
+ghost use Rattle.edit_rules.specs.Edit.{editOutcome, editState};
+ghost use Rattle.edit_rules.specs.State.{state};
+ghost use Rattle.value_call_rules.specs.Value.{valueOutcome};
 ghost use Rattle.carried.specs.Tables.{ternFile, binFile};
 ghost use Rattle.adder_c.specs.Answer.{ifRoom, returned, answered, checkWords, addWords, editWords, elementWords};
 use adder::Added;
-use edits::Edited;
 use midpoint::Element;
+use row_edit::Edited;
 use table::Checked;
-use valued::Valued;
+use value_call::Valued;
 
 mod run;
 
@@ -88,7 +89,7 @@ pub extern "C" fn yoyomyrtle_edit(
     if answer.len() < 8 {
         return 2;
     }
-    let outcome = editor::edit(
+    let outcome = edit_call::edit(
         table,
         first,
         second,
@@ -113,7 +114,7 @@ pub extern "C" fn yoyomyrtle_value(table: &[u8], row: &[u8], answer: &mut [i64])
     if answer.len() < 8 {
         return 2;
     }
-    let outcome = valued::value(table, row);
+    let outcome = value_call::value(table, row);
     match outcome {
         Valued::Value(x) => answer_words::put_element(answer, x),
         Valued::Refused(fault) => answer_words::refuse(answer, fault),

@@ -1,7 +1,7 @@
 // The runner for C and Rust.
 ghost use mathlib.Core.Path.{_≡_};
 ghost use lib.ListN.{length};
-ghost use Rattle.edit_rules.specs.Edit.{state};
+ghost use Rattle.edit_rules.specs.State.{state};
 ghost use Rattle.runner_rules.specs.Told.{groupsOf, numbersOf, valuesOf};
 ghost use Rattle.runner_rules.specs.Run.{askedEdits, runOutcome, runAll};
 ghost use Rattle.runner_rules.specs.Follows.{toldIn};

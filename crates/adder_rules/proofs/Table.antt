@@ -3,7 +3,7 @@ use mathlib.Core.Path.{_≡_, refl, ap, subst, sym, _∙_}
 use mathlib.Core.List.{List}
 use Prim.Native.Nat.{ℕ, _<_, _≤_, _^_}
 use lib.IntN.{ℤ}
-use Rattle.ring.specs.Matrix.{RowsWithin}
+use Rattle.ring.specs.Tests.{RowsWithin}
 use Rattle.layout_rules.specs.Directory.{directoryCheck}
 use Rattle.digit_rules.specs.Record.{elementCount}
 use Rattle.digit_rules.specs.Base.{baseMatrix}

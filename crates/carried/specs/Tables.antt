@@ -1,4 +1,5 @@
--- TERN and BIN as files, from document 01's words ("Table file", "Carried tables"). Their elements are whole numbers: the second
+-- Pinned by listed (proofs/Listed.antt; Contents.antt has what it says): a reader may skip this file. TERN and BIN as files, from
+-- document 01's words ("Table file", "Carried tables"). Their elements are whole numbers: the second
 -- part is zero.
 use mathlib.Core.Bool.{Bool, true, false, cond, _||_}
 use mathlib.Core.List.{List, [], _∷_, _++_, map}

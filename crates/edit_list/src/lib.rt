@@ -3,13 +3,13 @@ ghost use mathlib.Core.Path.{_≡_};
 ghost use Prim.Native.Nat.{_≤_};
 ghost use lib.ListN.{length};
 ghost use Rattle.lists.specs.Overwrite.{overwrite};
-ghost use Rattle.edit_rules.specs.Edit.{state};
+ghost use Rattle.edit_rules.specs.State.{state};
 ghost use Rattle.edit_rules.specs.Run.{editAll, editAnswers};
-ghost use Rattle.edits.specs.Answer.{outcomeOf as editedAs};
+ghost use Rattle.row_edit.specs.Answer.{outcomeOf as editedAs};
 ghost use Rattle.runner_rules.specs.Told.{toldOf, groupsOf, numbersOf, valuesOf};
 ghost use Rattle.runner_rules.specs.List.{editList};
-use edits::Edited;
 use faults::Fault;
+use row_edit::Edited;
 use runner_rules::Told;
 
 fn told_of(answer: Edited) -> Told
@@ -63,7 +63,7 @@ pub fn edit_each(
         let row = rows[i];
         let place = places[i];
         let digit = digits[i];
-        let answer = told_of(editor::edit(table, first, second, sum, row, place, digit));
+        let answer = told_of(edit_call::edit(table, first, second, sum, row, place, digit));
         whose[i] = answer.whose;
         numbers[i] = answer.number;
         values[i] = answer.value;

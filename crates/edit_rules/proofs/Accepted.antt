@@ -25,7 +25,9 @@ use Rattle.table_rules.specs.Check.{checkFacts, checkOutcome}
 use Rattle.table_rules.proofs.Demand.{demand-2}
 use Rattle.adder_rules.specs.Sum.{digitCount, placeCount}
 use Rattle.adder_rules.proofs.Accepted.{row-inputs, accepted-passes}
-use Rattle.edit_rules.specs.Edit.{State, newInputs, editOutcome}
+use Rattle.edit_rules.specs.Edit.{editOutcome}
+use Rattle.edit_rules.specs.State.{newInputs}
+use Rattle.edit_rules.specs.State.{State}
 use Rattle.edit_rules.specs.Broken.{editStages}
 use Rattle.edit_rules.specs.Follows.{Follows}
 use Rattle.edit_rules.proofs.Renewed.{new-fit}

@@ -13,7 +13,9 @@ use Rattle.row_rules.proofs.Broken.{rows-decided, edit-decided}
 use Rattle.adder_rules.specs.Sum.{digitCount}
 use Rattle.adder_rules.proofs.Demand.{digits-decided}
 use Rattle.edit_rules.specs.declared.EditedFacts.{EditedFacts}
-use Rattle.edit_rules.specs.Edit.{State, reach, newInputs, count, renewOutcome, editOutcome, editState}
+use Rattle.edit_rules.specs.Edit.{count, renewOutcome, editOutcome, editState}
+use Rattle.edit_rules.specs.State.{newInputs}
+use Rattle.edit_rules.specs.State.{State, reach}
 use Rattle.edit_rules.specs.Broken.{editStages}
 use Rattle.edit_rules.proofs.Stages.{state-lent}
 

@@ -18,7 +18,8 @@ use Rattle.faults.specs.Outcome.{Outcome, facts}
 use Rattle.faults.proofs.Exit.{exit-written}
 use Rattle.digit_rules.specs.Record.{recordAt, elementCount}
 use Rattle.digit_rules.specs.Digits.{sumIndex}
-use Rattle.numeration.specs.Changes.{Changes, Local, digitRow, renewed, storeTaken, storeAll}
+use Rattle.numeration.specs.Changes.{Changes, storeTaken, storeAll}
+use Rattle.numeration.specs.Renewal.{Local, digitRow, renewed}
 use Rattle.numeration.proofs.Changes.{stored-taken, stored-other, renewed-right, valid-storeTaken, valid-storeAll}
 use Rattle.reader_rules.specs.Table.{alphabetPart, inputPart, tableFacts}
 use Rattle.reader_rules.specs.Table.{valueOf}
@@ -39,7 +40,8 @@ use Rattle.adder_rules.proofs.Rows.{same-index}
 use Rattle.adder_rules.proofs.Summed.{sum-row-long, passed, summed}
 use Rattle.adder_rules.proofs.Accepted.{row-inputs, accepted-passes, accepted-adds}
 use Rattle.edit_rules.specs.declared.EditedFacts.{EditedFacts}
-use Rattle.edit_rules.specs.Edit.{State, state, newSum, editOutcome, editState}
+use Rattle.edit_rules.specs.Edit.{newSum, editOutcome, editState}
+use Rattle.edit_rules.specs.State.{State, state}
 use Rattle.edit_rules.specs.Run.{editAll, editAnswers, added, run}
 use Rattle.edit_rules.specs.Follows.{rowEdits, Follows, Step, ListFollows}
 use Rattle.edit_rules.proofs.Step.{taken-state, lent-state, step}

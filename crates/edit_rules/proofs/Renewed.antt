@@ -33,7 +33,9 @@ use Rattle.adder_rules.proofs.Rows.{part-inputs, part-same}
 use Rattle.adder_rules.proofs.Part.{check-refused, check-kept, part-found, part-room}
 use Rattle.edit_rules.specs.declared.EditedFacts.{EditedFacts}
 use Rattle.edit_rules.specs.Count.{differing}
-use Rattle.edit_rules.specs.Edit.{State, reach, newInputs, newSum, written, count, renewOutcome, renewState}
+use Rattle.edit_rules.specs.Edit.{newSum, written, count, renewOutcome, renewState}
+use Rattle.edit_rules.specs.State.{newInputs}
+use Rattle.edit_rules.specs.State.{State, reach}
 use Rattle.edit_rules.proofs.Count.{failing-ext}
 
 -- the digits at a count of places

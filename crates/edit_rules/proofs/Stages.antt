@@ -15,7 +15,8 @@ use Rattle.row_rules.specs.declared.Change.{Change}
 use Rattle.row_rules.specs.Check.{rowCheck, editCheck}
 use Rattle.adder_rules.specs.Sum.{digitCount}
 use Rattle.edit_rules.specs.declared.EditedFacts.{EditedFacts}
-use Rattle.edit_rules.specs.Edit.{State, written, renewOutcome, renewState, editOutcome, editState}
+use Rattle.edit_rules.specs.Edit.{written, renewOutcome, renewState, editOutcome, editState}
+use Rattle.edit_rules.specs.State.{State}
 
 module _ (file : List ℕ) (e : Change) (s : State) where
   -- 20 to 23 and 24 to 26, as the edit runs them

@@ -10,7 +10,8 @@ use Rattle.row_rules.specs.declared.Change.{Change}
 use Rattle.row_rules.specs.Broken.{rowRules, editRules}
 use Rattle.adder_rules.specs.Sum.{digitCount}
 use Rattle.adder_rules.specs.Broken.{outputRules}
-use Rattle.edit_rules.specs.Edit.{State, newInputs, reach}
+use Rattle.edit_rules.specs.State.{newInputs}
+use Rattle.edit_rules.specs.State.{State, reach}
 
 -- 1 to 13, 20 to 23, 24 to 26, and "in the edit over p to p + h": 27
 abbrev pub editStages : List ℕ → Change → State → List Stage

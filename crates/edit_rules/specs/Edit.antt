@@ -1,6 +1,7 @@
--- The digit edit (document 01) as a function of the table file, the edit and the three buffers.
+-- Pinned by demand-1, refused-lent and step (proofs/Demand.antt, proofs/Step.antt): a reader may skip this file. The digit edit
+-- (document 01) as a function of the table file, the edit and the three buffers.
 use mathlib.Core.List.{List}
-use Prim.Native.Nat.{ℕ, _+_}
+use Prim.Native.Nat.{ℕ}
 use lib.ListN.{length}
 use Rattle.lists.specs.Overwrite.{overwrite}
 use Rattle.faults.specs.Outcome.{Outcome, facts, author, rows, editor, atExit}
@@ -10,33 +11,17 @@ use Rattle.reader_rules.specs.Check.{tableCheck}
 use Rattle.row_rules.specs.declared.Change.{Change}
 use Rattle.row_rules.specs.Changed.{changed}
 use Rattle.row_rules.specs.Check.{rowCheck, editCheck}
-use Rattle.adder_rules.specs.Sum.{inputRow, digitCount}
+use Rattle.adder_rules.specs.Sum.{digitCount}
 use Rattle.adder_rules.specs.Add.{rowPart, outputCheck}
 use Rattle.edit_rules.specs.declared.EditedFacts.{EditedFacts}
+use Rattle.edit_rules.specs.State.{State, state, reach, newInputs}
 use Rattle.edit_rules.specs.Count.{differing}
-
--- "both rows, the sum": the buffers that an edit is given and may write
-pub record State : Type 0 where
-  pub first : List ℕ
-  pub second : List ℕ
-  pub sum : List ℕ
-
-abbrev pub state : List ℕ → List ℕ → List ℕ → State
-state first second sum = record { first = first; second = second; sum = sum }
-
--- how many places there are from p to p + h
-abbrev pub reach : List ℕ → ℕ
-reach file = tableFacts file .depth + 1
 
 -- an edit is a row number, a place p and a new alphabet index
 module _ (file : List ℕ) (e : Change) (s : State) where
-  -- the input digits of "the new rows"
-  abbrev pub newInputs : List ℕ
-  newInputs = inputRow file (changed e 0 (s .first)) (changed e 1 (s .second))
-
   -- "The digit is stored and sum places p to p + h become those of a whole addition of the new rows"
   unfoldable pub newSum : List ℕ
-  newSum = overwrite (s .sum) (e .place) (rowPart file newInputs (e .place) (reach file))
+  newSum = overwrite (s .sum) (e .place) (rowPart file (newInputs file e s) (e .place) (reach file))
 
   abbrev pub written : State
   written = state (changed e 0 (s .first)) (changed e 1 (s .second)) newSum
@@ -47,7 +32,7 @@ module _ (file : List ℕ) (e : Change) (s : State) where
 
   -- 27 over p to p + h, then the count
   unfoldable pub renewOutcome : Outcome EditedFacts
-  renewOutcome = unless author (outputCheck file newInputs (e .place) (reach file)) (facts (record { count = count }))
+  renewOutcome = unless author (outputCheck file (newInputs file e s) (e .place) (reach file)) (facts (record { count = count }))
 
   unfoldable pub renewState : State
   renewState = atExit renewOutcome s written

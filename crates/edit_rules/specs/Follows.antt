@@ -21,7 +21,7 @@ use Rattle.adder_rules.specs.Sum.{inputRow, digitCount, placeCount, rowDigit, r
 use Rattle.adder_rules.specs.Add.{addOutcome, addSum}
 use Rattle.edit_rules.specs.declared.EditedFacts.{EditedFacts}
 use Rattle.edit_rules.specs.Count.{differing}
-use Rattle.edit_rules.specs.Edit.{State}
+use Rattle.edit_rules.specs.State.{State}
 use Rattle.edit_rules.specs.Run.{run}
 
 -- two rows of n digits, their sum digits by index, and edits of them. Taken are "exactly those with row number 0 or 1, p below n and an

@@ -1,4 +1,5 @@
 pub mod Count
+pub mod State
 pub mod Edit
 pub mod Broken
 pub mod Run

@@ -5,7 +5,8 @@ use Rattle.faults.specs.Outcome.{Outcome}
 use Rattle.row_rules.specs.declared.Change.{Change}
 use Rattle.adder_rules.specs.Add.{addSum}
 use Rattle.edit_rules.specs.declared.EditedFacts.{EditedFacts}
-use Rattle.edit_rules.specs.Edit.{State, state, editOutcome, editState}
+use Rattle.edit_rules.specs.Edit.{editOutcome, editState}
+use Rattle.edit_rules.specs.State.{State, state}
 
 module _ (file : List ℕ) where
   -- the buffers after a list of edits, and the answers, one for each

@@ -7,7 +7,8 @@ use lib.IntN.{ℤ, natAbs, _+ℤ_, _*ℤ_}
 use lib.ListN.{length, getD}
 use Rattle.integers.proofs.Machine.{_⊕_, _⊗_, plain-bound}
 use Rattle.ring.specs.Element.{Within}
-use Rattle.ring.specs.Matrix.{times, matrixOf, RowsWithin}
+use Rattle.ring.specs.Matrix.{times, matrixOf}
+use Rattle.ring.specs.Tests.{RowsWithin}
 use Rattle.ring.specs.Tests.{BaseLimits}
 use Rattle.ring.proofs.Parts.{within-two, s-term, t-term, u-term, v-term}
 use Rattle.ring.proofs.Base.{rows-of-two}

@@ -48,7 +48,7 @@ fn changed(
     requires { ⌜ (length (now first) ≤ 260) × (length (now second) ≤ 260) × (length (now sum) ≤ 260) ⌝ }
 {
     output::word(label);
-    output::edited(editor::edit(table, first, second, sum, edit[0], edit[1], edit[2]));
+    output::edited(edit_call::edit(table, first, second, sum, edit[0], edit[1], edit[2]));
     output::buffer(first);
     output::buffer(second);
     output::buffer(sum);

@@ -2,12 +2,12 @@
 ghost use Prim.Native.Nat.{_≤_};
 ghost use lib.ListN.{length};
 use adder::Added;
-use edits::Edited;
 use faults::Fault;
 use midpoint::Element;
+use row_edit::Edited;
 use table::Checked;
 use table_rules::Facts;
-use valued::Valued;
+use value_call::Valued;
 
 pub fn word(bytes: &[u8]) {
     io::write_all(libc::STDOUT_FILENO, bytes);

@@ -3,11 +3,11 @@ ghost use Prim.Native.Nat.{_≤_};
 use crate::output;
 
 fn by_tern(label: &[u8], row: &[u8]) {
-    output::valued(label, valued::value(&carried::tern(), row));
+    output::valued(label, value_call::value(&carried::tern(), row));
 }
 
 fn by_bin(label: &[u8], row: &[u8]) {
-    output::valued(label, valued::value(&carried::bin(), row));
+    output::valued(label, value_call::value(&carried::bin(), row));
 }
 
 // M7's rows and their sum, M8's changed row and sum.
@@ -47,7 +47,7 @@ pub fn of_tern_rows() {
 // The table's fault comes first.
 pub fn of_no_table() {
     let row = [5u8; 257];
-    output::valued(b"none 257", valued::value(b"", &row));
+    output::valued(b"none 257", value_call::value(b"", &row));
 }
 
 // BIN: a row of one digit, 31 times.

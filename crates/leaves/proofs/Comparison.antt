@@ -11,7 +11,8 @@ use lib.Dec.{eqb, ltb}
 use borrow.Author.Tests.{lt-ltb, le-ltb, eqb-true}
 use Rattle.lists.specs.Scan.{firstFailing}
 use Rattle.lists.proofs.Scan.{scan-passed}
-use Rattle.numeration.specs.Code.{lower, Lower, precedes, Begins}
+use Rattle.numeration.specs.Code.{Lower, Begins}
+use Rattle.numeration.specs.Prefix.{lower, precedes}
 use Rattle.numeration.proofs.Agreement.{lower-sound, lower-complete}
 use Rattle.radix.specs.Number.{number, aligned, Digits}
 use Rattle.radix.proofs.Order.{aligned-eight, unit-some, aligned-lower, lower-aligned}

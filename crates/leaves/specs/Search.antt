@@ -2,7 +2,8 @@
 use mathlib.Core.Bool.{Bool, true, false}
 use mathlib.Core.List.{List}
 use Prim.Native.Nat.{ℕ, _+_, _<_, _≤_, min}
-use Rattle.numeration.specs.Code.{Code, lower, Begins}
+use Rattle.numeration.specs.Code.{Code, Begins}
+use Rattle.numeration.specs.Prefix.{lower}
 use Rattle.leaf_rules.specs.Window.{digits, Sorted}
 
 module _ {A : Type 0} (c : Code A) where

@@ -8,6 +8,7 @@ ghost use lib.Dec.{eqb};
 ghost use Rattle.lists.specs.Scan.{firstFailing};
 ghost use Rattle.ring.specs.Element.{Within};
 ghost use Rattle.numeration.specs.Code as code;
+ghost use Rattle.numeration.specs.Prefix as prefixes;
 ghost use Rattle.leaf_rules.specs.Leaf.{leafCount, wordStart, wordLength, codeOf, wordGiven, weightGiven};
 ghost use Rattle.leaf_rules.specs.Window as windows;
 ghost use Rattle.leaves.specs.Search as searches;
@@ -118,7 +119,7 @@ fn first_difference(bytes: &[u8], a: usize, other: &[u8], b: usize, n: usize) ->
 // Of n places, at the first where the bytes from a on differ from the other bytes from b on, the other byte is the higher.
 pub fn lower(bytes: &[u8], a: usize, other: &[u8], b: usize, n: usize) -> bool
     requires { ⌜ (a < 65536) × (b < 65536) × (n < 65536) ⌝ }
-    ensures { λ r. ⌜ r ≡ code.lower (λ i. getD (now (bytes .entry)) (a + i) 0) (λ i. getD (now (other .entry)) (b + i) 0) n ⌝ }
+    ensures { λ r. ⌜ r ≡ prefixes.lower (λ i. getD (now (bytes .entry)) (a + i) 0) (λ i. getD (now (other .entry)) (b + i) 0) n ⌝ }
 {
     let i = first_difference(bytes, a, other, b, n);
     if n <= i {

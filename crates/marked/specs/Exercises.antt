@@ -1,4 +1,5 @@
--- Document 01's "Marked table of exercises": a single table, and what it says.
+-- Examples, all computed; no promise rests on them, so a reader may skip this file. Document 01's "Marked table of exercises": a single
+-- table, and what it says.
 use mathlib.Core.Path.{_≡_}
 use mathlib.Core.Bool.{Bool, true, false}
 use mathlib.Core.List.{List, [], _∷_}
@@ -14,7 +15,7 @@ use Rattle.adder_rules.specs.declared.AddedFacts.{AddedFacts}
 use Rattle.adder_rules.specs.Add.{addOutcome, addSum}
 use Rattle.row_rules.specs.declared.Change.{Change}
 use Rattle.edit_rules.specs.declared.EditedFacts.{EditedFacts}
-use Rattle.edit_rules.specs.Edit.{State, state}
+use Rattle.edit_rules.specs.State.{State, state}
 use Rattle.edit_rules.specs.Run.{run}
 use Rattle.runner_rules.specs.declared.RanFacts.{RanFacts}
 use Rattle.runner_rules.specs.Told.{groupsOf, numbersOf, valuesOf}

@@ -17,7 +17,8 @@ use Rattle.lists.proofs.Test.{both}
 use Rattle.numeration.specs.Group.{Operations}
 use Rattle.numeration.specs.Code.{Code, Inputs}
 use Rattle.numeration.specs.Pairs.{RowsConvert}
-use Rattle.numeration.specs.Changes.{rowChanges, InputRow, Changes, Local, digitRow, renewable, renewed, change, changeAll, storeTaken, storeAll, SumFollows}
+use Rattle.numeration.specs.Changes.{Changes, storeTaken, storeAll}
+use Rattle.numeration.specs.Renewal.{rowChanges, InputRow, Local, digitRow, renewable, renewed, change, changeAll, SumFollows}
 use Rattle.numeration.proofs.Windows.{convert-set}
 
 -- a span's list f, in which the n places from p on are g's, is g's list where the two agree elsewhere

@@ -6,9 +6,12 @@ use native.Mathlib.Omega.{arith}
 use lib.ListN.{length, getD, List·getD-eq-default}
 use Rattle.lists.specs.Span.{span}
 use Rattle.lists.proofs.Span.{map-span, span-getD}
-use Rattle.numeration.specs.Group.{Operations, AdditiveGroup}
-use Rattle.numeration.specs.Code.{Code, PrefixCode, leafOf, depth}
-use Rattle.numeration.specs.Conversion.{window, weightInto, weightAt, convert, convertRow, InGroup}
+use Rattle.numeration.specs.Group.{Operations}
+use Rattle.numeration.specs.Laws.{AdditiveGroup}
+use Rattle.numeration.specs.Code.{Code, leafOf, depth}
+use Rattle.numeration.specs.Prefix.{PrefixCode}
+use Rattle.numeration.specs.Conversion.{window, weightInto, weightAt, convert, convertRow}
+use Rattle.numeration.specs.Laws.{InGroup}
 use Rattle.numeration.specs.Value.{value, topDown}
 use Rattle.numeration.proofs.Leaves.{size-depth}
 use Rattle.numeration.proofs.Windows.{window-by-place, weightInto-leaf}

@@ -9,14 +9,19 @@ use lib.IntN.{ℤ}
 use Rattle.ring.specs.Element.{product}
 use Rattle.ring.specs.Matrix.{matrixOf}
 use Rattle.ring.proofs.Matrix.{length-matrix, matrix-product}
-use Rattle.numeration.specs.Group.{Operations, AdditiveGroup}
+use Rattle.numeration.specs.Group.{Operations}
+use Rattle.numeration.specs.Laws.{AdditiveGroup}
 use Rattle.numeration.specs.Elements.{elements, HasParts}
 use Rattle.numeration.proofs.Elements.{elements-group}
-use Rattle.numeration.specs.Code.{Code, Below, Begins, leafOf, depth, OrderedCode, PrefixCode}
-use Rattle.numeration.specs.Conversion.{weightInto, weightAt, convert, convertRow, InGroup}
-use Rattle.numeration.specs.Pairs.{Fits, pairDigit, pairString, Holds, PairsConvert, RowsConvert}
+use Rattle.numeration.specs.Code.{Code, Begins, leafOf, depth}
+use Rattle.numeration.specs.Prefix.{Below, OrderedCode, PrefixCode}
+use Rattle.numeration.specs.Conversion.{weightInto, weightAt, convert, convertRow}
+use Rattle.numeration.specs.Laws.{InGroup}
+use Rattle.numeration.specs.Pairs.{Fits, pairDigit, PairsConvert, RowsConvert}
+use Rattle.numeration.specs.PairTests.{pairString, Holds}
 use Rattle.numeration.specs.Value.{Elements, value, topDown}
-use Rattle.numeration.specs.Changes.{Changes, Local, rowChanges, InputRow, SumFollows}
+use Rattle.numeration.specs.Changes.{Changes}
+use Rattle.numeration.specs.Renewal.{Local, rowChanges, InputRow, SumFollows}
 use Rattle.numeration.proofs.Leaves.{prefix-code, leafOf-begins, leafOf-unique}
 use Rattle.numeration.proofs.Windows.{convert-ext, convert-set}
 use Rattle.numeration.proofs.Ends.{weight-below, weight-above, convert-above, convert-value}

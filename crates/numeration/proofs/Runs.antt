@@ -8,8 +8,10 @@ use native.Mathlib.Decide.{decLt}
 use native.Mathlib.Nat.{le-antisymm}
 use borrow.Author.Tests.{lt-ltb, le-ltb}
 use Rattle.numeration.specs.Group.{Operations}
-use Rattle.numeration.specs.Code.{Code, Begins, Precedes, PrefixCode, Below}
-use Rattle.numeration.specs.Pairs.{tail, fits, Fits, pairPasses}
+use Rattle.numeration.specs.Code.{Code, Begins, Precedes}
+use Rattle.numeration.specs.Prefix.{PrefixCode, Below}
+use Rattle.numeration.specs.Pairs.{tail, Fits}
+use Rattle.numeration.specs.PairTests.{fits, pairPasses}
 use Rattle.numeration.specs.Runs.{tailThenZeros, lowestFit}
 use Rattle.numeration.proofs.Agreement.{agree-sound}
 use Rattle.numeration.proofs.Leaves.{leafOf-begins, precedes-all}

@@ -8,7 +8,8 @@ use native.Mathlib.Nat.{add-zero, zero-add, add-suc, suc-add}
 use lib.ListN.{List·getD-eq-default}
 use Rattle.lists.specs.Span.{span}
 use Rattle.lists.proofs.Span.{length-span, getD-span}
-use Rattle.numeration.specs.Group.{Operations, AdditiveGroup}
+use Rattle.numeration.specs.Group.{Operations}
+use Rattle.numeration.specs.Laws.{AdditiveGroup}
 use Rattle.numeration.specs.Conversion.{outDigit}
 use Rattle.numeration.specs.Value.{Elements, power, valueFrom, value, topDown}
 

@@ -1,5 +1,4 @@
 -- Conversion of a row of input digits: windows, weights and the digits that come out.
-use mathlib.Core.Path.{_≡_}
 use mathlib.Core.List.{List}
 use Prim.Native.Nat.{ℕ, zero, suc, _+_}
 use lib.ListN.{length, getD}
@@ -34,10 +33,3 @@ module _ {A : Type 0} (o : Operations A) (input : ℕ → A) (c : Code A) where
   -- the digits z(j) for j from 0 to n + h − 1
   unfoldable pub convertRow : List ℕ → List A
   convertRow row = span (convert row) 0 (length row + depth c)
-
--- input digits and weights are elements; input index 0 and leaf 0's weight are zero
-pub record InGroup {A : Type 0} (o : Operations A) (Element : A → Type 0) (input : ℕ → A) (c : Code A) : Type 0 where
-  pub element-input : (i : ℕ) → Element (input i)
-  pub element-weight : (k : ℕ) → Element (c .weight k)
-  pub input-zero : input 0 ≡ o .none
-  pub weight-zero : c .weight 0 ≡ o .none

@@ -1,8 +1,12 @@
 pub mod Group
 pub mod Code
+pub mod Prefix
 pub mod Conversion
+pub mod Laws
 pub mod Pairs
+pub mod PairTests
 pub mod Runs
 pub mod Value
 pub mod Changes
+pub mod Renewal
 pub mod Elements

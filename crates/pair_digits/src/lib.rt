@@ -2,7 +2,7 @@
 ghost use mathlib.Core.Path.{_≡_};
 ghost use lib.ListN.{getD};
 ghost use Rattle.ring.specs.Element.{plus, Within};
-ghost use Rattle.ring.specs.Matrix.{RowsWithin};
+ghost use Rattle.ring.specs.Tests.{RowsWithin};
 ghost use Rattle.digit_rules.specs.Record.{elementCount};
 ghost use Rattle.leaf_rules.specs.Leaf.{wordGiven, weightGiven};
 ghost use mathlib.Core.Bool.{true};

@@ -12,7 +12,8 @@ use Rattle.ring.specs.Element.{plus}
 use Rattle.layout_rules.specs.Section.{degree}
 use Rattle.digit_rules.specs.Record.{recordAt}
 use Rattle.numeration.specs.Elements.{elements}
-use Rattle.numeration.specs.Pairs.{fits, Fits, pairPasses}
+use Rattle.numeration.specs.Pairs.{Fits}
+use Rattle.numeration.specs.PairTests.{fits, pairPasses}
 use Rattle.numeration.proofs.Agreement.{agree-sound, agree-complete}
 use Rattle.numeration.proofs.Runs.{unfit-passes}
 use Rattle.leaf_rules.specs.Leaf.{leafCount, codeOf}

@@ -10,7 +10,7 @@ use Rattle.digit_rules.specs.Record.{recordAt}
 use Rattle.layout_rules.specs.Section.{degree}
 use Rattle.numeration.specs.Code.{Precedes}
 use Rattle.numeration.specs.Elements.{elements}
-use Rattle.numeration.specs.Pairs.{pairPasses}
+use Rattle.numeration.specs.PairTests.{pairPasses}
 use Rattle.leaf_rules.specs.Leaf.{leafCount, wordLength, wordEnd, codeOf}
 use Rattle.table_rules.specs.Pairs.{inAlphabet}
 use Rattle.weight_sets.specs.Bits.{Has}

@@ -7,7 +7,7 @@ use native.Mathlib.Omega.{arith}
 use Rattle.lists.proofs.Scan.{every-complete}
 use Rattle.faults.specs.Check.{none}
 use Rattle.digit_rules.specs.Base.{baseMatrix}
-use Rattle.numeration.specs.Pairs.{upperPasses}
+use Rattle.numeration.specs.PairTests.{upperPasses}
 use Rattle.leaf_rules.specs.Leaf.{leafCount}
 use Rattle.table_rules.specs.Pairs.{pairCheck}
 use Rattle.table_rules.proofs.Bad.{UppersPass, pair-none, pairs-kept}

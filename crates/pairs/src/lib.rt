@@ -1,13 +1,13 @@
 // Rule 14: the fitting pairs of leaves.
 ghost use mathlib.Core.Path.{_≡_};
 ghost use lib.ListN.{length, getD};
-ghost use Rattle.ring.specs.Matrix.{RowsWithin};
+ghost use Rattle.ring.specs.Tests.{RowsWithin};
 ghost use Rattle.layout_rules.specs.Section.{degree};
 ghost use Rattle.digit_rules.specs.Digits.{BasePart};
 ghost use Rattle.digit_rules.specs.Record.{recordAt, elementCount};
 ghost use Rattle.numeration.specs.Code.{agree};
 ghost use Rattle.numeration.specs.Elements.{elements};
-ghost use Rattle.numeration.specs.Pairs.{pairPasses};
+ghost use Rattle.numeration.specs.PairTests.{pairPasses};
 ghost use Rattle.leaf_rules.specs.Leaf.{leafCount, codeOf};
 ghost use Rattle.prefix_rules.specs.Check.{leafCheck};
 ghost use mathlib.Core.Bool.{true};

@@ -7,7 +7,7 @@ ghost use Rattle.lists.specs.Span.{span};
 ghost use Rattle.lists.specs.Scan.{firstFailing};
 ghost use Rattle.lists.specs.Overwrite.{overwrite};
 ghost use Rattle.ring.specs.Element.{Within};
-ghost use Rattle.ring.specs.Matrix.{RowsWithin};
+ghost use Rattle.ring.specs.Tests.{RowsWithin};
 ghost use Rattle.layout_rules.specs.Section.{degree};
 ghost use Rattle.digit_rules.specs.Record.{recordAt, elementCount};
 ghost use Rattle.numeration.specs.Code.{Inputs, Begins};
@@ -264,7 +264,7 @@ fn out_index(
     requires { ⌜ RowsWithin (2 ^ 24) base × (input < elementCount (now inputs)) × Within 32768 below × Within 32768 own × (elementCount (now alphabet) ≤ 256) × Firsts (now alphabet) (now slots) ⌝ }
     ensures { λ r. ⌜ (r ≡ alphabetIndex (now (alphabet .entry)) (outDigit (elements degree base) (recordAt (now (inputs .entry)) input) below own)) × Firsts (now (alphabet .entry)) (now (slots .exit)) ⌝ }
 {
-    let digit = conversion::out_digit(base, digits::record_at(inputs, input), below, own);
+    let digit = converted_digit::out_digit(base, digits::record_at(inputs, input), below, own);
     index_of(alphabet, digit, slots)
 }
 

@@ -4,7 +4,8 @@ use Prim.Native.Nat.{ℕ, zero, suc, _+_, _-_, _*_, _^_, _<_, _≤_}
 use native.Mathlib.Decide.{decLt}
 use native.Mathlib.Omega.{arith}
 use native.Mathlib.Nat.{one-le-pow, zero-mul}
-use Rattle.numeration.specs.Code.{Code, Below, Precedes, HasLeaf}
+use Rattle.numeration.specs.Code.{Code, Precedes, HasLeaf}
+use Rattle.numeration.specs.Prefix.{Below}
 use Rattle.radix.specs.Number.{number, aligned}
 use Rattle.radix.proofs.Order.{number-lt, number-zero, aligned-high, aligned-lower, lower-aligned, number-begins}
 use Rattle.prefix_code.specs.Numbers.{sum, floorOf, stringsOf, Numbered}

@@ -19,7 +19,8 @@ use Rattle.ring.specs.Element.{zeros}
 use Rattle.ring.specs.Tests.{same}
 use Rattle.ring.proofs.Element.{same-refl, same→≡}
 use Rattle.layout_rules.specs.Section.{degree}
-use Rattle.numeration.specs.Code.{Code, Below, Inputs, Precedes, HasLeaf}
+use Rattle.numeration.specs.Code.{Code, Inputs, Precedes, HasLeaf}
+use Rattle.numeration.specs.Prefix.{Below}
 use Rattle.numeration.proofs.Leaves.{precedes-sound, precedes-complete, getD-inputs}
 use Rattle.leaf_rules.specs.Leaf.{leafCount, wordLength, weightOf, codeOf}
 use Rattle.prefix_rules.specs.Coverage.{covered}

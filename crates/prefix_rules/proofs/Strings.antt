@@ -11,7 +11,8 @@ use lib.Dec.{eqb}
 use borrow.Author.Tests.{eqb-true, eqb-false, eq-eqb, ne-eqb}
 use Rattle.lists.proofs.Scan.{scan-passed, scan-failed}
 use Rattle.lists.proofs.Test.{clash}
-use Rattle.numeration.specs.Code.{Code, Agree, Below, Begins, Precedes, HasLeaf}
+use Rattle.numeration.specs.Code.{Code, Agree, Begins, Precedes, HasLeaf}
+use Rattle.numeration.specs.Prefix.{Below}
 use Rattle.numeration.proofs.Leaves.{precedes-all}
 use Rattle.prefix_rules.specs.Coverage.{runEnd, everyRun, covered}
 use Rattle.prefix_rules.proofs.Coverage.{run-low, run-high, covered-leaf, covered-last, covered-runs, covered-some}

@@ -9,7 +9,7 @@ use Rattle.faults.specs.Check.{judge, _then_}
 use Rattle.ring.specs.Element.{zeros}
 use Rattle.ring.specs.Tests.{same}
 use Rattle.layout_rules.specs.Section.{degree}
-use Rattle.numeration.specs.Code.{precedes}
+use Rattle.numeration.specs.Prefix.{precedes}
 use Rattle.leaf_rules.specs.Leaf.{leafCount, wordStart, wordLength, wordEnd, weightOf, codeOf}
 use Rattle.prefix_rules.specs.Coverage.{covered}
 

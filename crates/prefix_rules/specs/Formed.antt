@@ -5,7 +5,8 @@ use Prim.Native.Nat.{ℕ, suc, _+_, _<_, _≤_}
 use lib.ListN.{length, getD}
 use Rattle.ring.specs.Element.{zeros}
 use Rattle.layout_rules.specs.Section.{degree}
-use Rattle.numeration.specs.Code.{Code, Inputs, Begins, Precedes, Separate}
+use Rattle.numeration.specs.Code.{Code, Inputs, Begins, Precedes}
+use Rattle.numeration.specs.Prefix.{Separate}
 use Rattle.leaf_rules.specs.Leaf.{leafCount, wordLength, wordEnd, weightOf, codeOf}
 use Rattle.prefix_rules.specs.Broken.{WordFollows}
 

@@ -3,7 +3,7 @@ ghost use mathlib.Core.Path.{_≡_};
 ghost use Prim.Native.Nat.{_+_, _-_, _≤_, _<_};
 ghost use mathlib.Core.Bool.{true};
 ghost use lib.ListN.{length};
-ghost use Rattle.numeration.specs.Code as code;
+ghost use Rattle.numeration.specs.Prefix as prefixes;
 ghost use Rattle.leaf_rules.specs.Leaf.{leafCount, codeOf};
 ghost use Rattle.prefix_rules.specs.Coverage as coverage;
 ghost use Rattle.prefix_rules.specs.Check.{expectedWordStart, leafAllowed, placeCheck, wordIndexCheck, orderCheck, coverCheck, zeroCheck, leafCheck};
@@ -93,7 +93,7 @@ fn indexes(words: &[u8], inputs: usize) -> Refusal
 // Rule 11 at a leaf and the next one: the later word is above, and neither begins the other.
 fn precedes(leaves: &[u8], words: &[u8], leaf: usize) -> bool
     requires { ⌜ leaf + 1 < leafCount (now leaves) ⌝ }
-    ensures { λ r. ⌜ r ≡ code.precedes (codeOf (now (leaves .entry)) (now (words .entry))) leaf (leaf + 1) ⌝ }
+    ensures { λ r. ⌜ r ≡ prefixes.precedes (codeOf (now (leaves .entry)) (now (words .entry))) leaf (leaf + 1) ⌝ }
 {
     let a = leaves::word_start(leaves, leaf);
     let b = leaves::word_start(leaves, leaf + 1);

@@ -1,4 +1,5 @@
--- Document 01, "Ring and base" and "Table file": what a table file is, as plain statements.
+-- Pinned by well-formed (proofs/Formed.antt): it holds exactly where no rule of Broken.antt is broken. Document 01, "Ring and base" and
+-- "Table file": what a table file is, as plain statements.
 use mathlib.Core.Path.{_≡_}
 use mathlib.Core.List.{List}
 use Prim.Native.Nat.{ℕ, _<_, _≤_}

@@ -4,7 +4,7 @@ use mathlib.Core.List.{[], _∷_}
 use lib.IntN.{ℤ, pos, _+ℤ_, _-ℤ_, _*ℤ_, +ℤ-idr}
 use Rattle.lists.specs.Span.{span}
 use Rattle.integers.proofs.Solver.{Expression, var, num, _⊕_, _⊖_, _⊗_, solve}
-use Rattle.ring.specs.Matrix.{trace, alternating, without, determinant}
+use Rattle.ring.specs.Determinant.{trace, alternating, without, determinant}
 
 -- two rows, as the determinant goes through them
 two : Expression → Expression → Expression → Expression → Expression

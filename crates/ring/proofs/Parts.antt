@@ -14,7 +14,8 @@ use Rattle.ring.specs.Element.{part, plus, negative, minus, Within}
 use Rattle.ring.specs.Tests.{same}
 use Rattle.ring.specs.Base.{baseTrace, baseNorm}
 use Rattle.ring.specs.Tests.{BaseLimits}
-use Rattle.ring.specs.Matrix.{dot, times, RowsWithin}
+use Rattle.ring.specs.Matrix.{dot, times}
+use Rattle.ring.specs.Tests.{RowsWithin}
 
 pub within-part : (n : ℕ) (x : List ℤ) → Within n x → (k : ℕ) → natAbs (part x k) ≤ n
 unfolding Within

@@ -6,6 +6,12 @@ use lib.IntN.{ℤ, pos, negsuc, natAbs, _+ℤ_}
 use Rattle.ring.specs.Base.{baseTrace, baseNorm}
 use mathlib.Core.List.{List, [], _∷_}
 use Rattle.integers.specs.Test.{eqZ}
+use lib.ListN.{getD}
+use Rattle.ring.specs.Element.{Within}
+
+-- every entry of every row is at most n in size
+unfoldable pub RowsWithin : ℕ → List (List ℤ) → Type 0
+RowsWithin n m = (i : ℕ) → Within n (getD m i [])
 
 -- two elements have the same parts
 unfoldable pub same : List ℤ → List ℤ → Bool

@@ -5,7 +5,8 @@ ghost use Prim.Native.Nat.{_≤_, _<_, _^_};
 ghost use lib.IntN.{pos, natAbs};
 ghost use Rattle.ring.specs.Element.{plus, minus, Within};
 ghost use Rattle.ring.specs.Tests.{same};
-ghost use Rattle.ring.specs.Matrix.{dot, times, matrixOf, RowsWithin};
+ghost use Rattle.ring.specs.Matrix.{dot, times, matrixOf};
+ghost use Rattle.ring.specs.Tests.{RowsWithin};
 ghost use Rattle.ring.specs.Base.{baseTrace, baseNorm, discriminant};
 ghost use Rattle.ring.specs.Tests.{BaseLimits, expanding, perfectSquare};
 

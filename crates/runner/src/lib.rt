@@ -4,7 +4,7 @@ ghost use Prim.Native.Nat.{min};
 ghost use lib.ListN.{length};
 ghost use Rattle.lists.specs.Overwrite.{overwrite};
 ghost use Rattle.faults.specs.Outcome.{atExit};
-ghost use Rattle.edit_rules.specs.Edit.{state};
+ghost use Rattle.edit_rules.specs.State.{state};
 ghost use Rattle.adder_rules.specs.Add.{addSum};
 ghost use Rattle.runner_rules.specs.Told.{groupsOf, numbersOf, valuesOf};
 ghost use Rattle.runner_rules.specs.Run.{askedEdits, runOutcome, runAll};

@@ -19,7 +19,7 @@ use Rattle.adder_rules.specs.Sum.{placeCount}
 use Rattle.adder_rules.specs.Add.{addOutcome}
 use Rattle.adder_rules.proofs.Demand.{demand-1 as add-demand-1}
 use Rattle.edit_rules.specs.declared.EditedFacts.{EditedFacts}
-use Rattle.edit_rules.specs.Edit.{State}
+use Rattle.edit_rules.specs.State.{State}
 use Rattle.edit_rules.specs.Run.{Ran, run}
 use Rattle.edit_rules.proofs.Follows.{demand-3}
 use Rattle.runner_rules.specs.declared.RanFacts.{RanFacts}

@@ -10,7 +10,7 @@ use Rattle.table_rules.specs.declared.Facts.{Facts}
 use Rattle.table_rules.specs.Check.{checkOutcome}
 use Rattle.adder_rules.specs.declared.AddedFacts.{AddedFacts}
 use Rattle.adder_rules.specs.Add.{addOutcome, addSum}
-use Rattle.edit_rules.specs.Edit.{State, state}
+use Rattle.edit_rules.specs.State.{State, state}
 use Rattle.edit_rules.specs.Run.{editAll, editAnswers, run}
 use Rattle.runner_rules.specs.declared.RanFacts.{RanFacts}
 use Rattle.runner_rules.specs.Run.{after, runOutcome, runAll}

@@ -13,7 +13,8 @@ use Rattle.lists.proofs.Overwrite.{overwrite-none, overwrite-snoc}
 use Rattle.faults.specs.Outcome.{Outcome}
 use Rattle.row_rules.specs.declared.Change.{Change}
 use Rattle.edit_rules.specs.declared.EditedFacts.{EditedFacts}
-use Rattle.edit_rules.specs.Edit.{State, editOutcome, editState}
+use Rattle.edit_rules.specs.Edit.{editOutcome, editState}
+use Rattle.edit_rules.specs.State.{State}
 use Rattle.edit_rules.specs.Run.{editAll, editAnswers}
 use Rattle.runner_rules.specs.declared.Told.{Told}
 use Rattle.runner_rules.specs.Told.{toldOf}

@@ -11,7 +11,7 @@ use Rattle.table_rules.specs.Check.{checkFacts, checkOutcome}
 use Rattle.adder_rules.specs.Sum.{placeCount}
 use Rattle.adder_rules.specs.Add.{addOutcome}
 use Rattle.edit_rules.specs.declared.EditedFacts.{EditedFacts}
-use Rattle.edit_rules.specs.Edit.{State}
+use Rattle.edit_rules.specs.State.{State}
 use Rattle.edit_rules.specs.Run.{run}
 use Rattle.edit_rules.specs.Follows.{ListFollows}
 use Rattle.runner_rules.specs.declared.RanFacts.{RanFacts}

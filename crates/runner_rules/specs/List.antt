@@ -1,4 +1,4 @@
--- The list of edits that three slices of numbers give.
+-- Pinned by asked-at (proofs/Asked.antt): a reader may skip this file. The list of edits that three slices of numbers give.
 use mathlib.Core.List.{List}
 use Prim.Native.Nat.{ℕ}
 use lib.ListN.{getD}

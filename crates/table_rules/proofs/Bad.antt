@@ -11,7 +11,7 @@ use borrow.Author.Tests.{lt-ltb, le-ltb, eq-eqb, ne-eqb}
 use Rattle.lists.specs.Scan.{firstFailing, every}
 use Rattle.lists.proofs.Scan.{scan-all, scan-unique, scan-high, every-below, every-reached}
 use Rattle.digit_rules.specs.Record.{recordAt}
-use Rattle.numeration.specs.Pairs.{upperPasses}
+use Rattle.numeration.specs.PairTests.{upperPasses}
 use Rattle.leaf_rules.specs.Leaf.{leafCount, codeOf}
 use Rattle.faults.specs.Check.{refusal, none}
 use Rattle.faults.proofs.Check.{judge-broken, judge-kept}

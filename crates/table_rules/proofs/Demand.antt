@@ -24,7 +24,8 @@ use Rattle.digit_rules.specs.Record.{recordAt, elementCount}
 use Rattle.digit_rules.specs.Digits.{indexIn}
 use Rattle.digit_rules.specs.Broken.{Listed}
 use Rattle.digit_rules.proofs.Index.{index-is, index-first}
-use Rattle.numeration.specs.Pairs.{fits, Fits, pairDigit, pairPasses, upperPasses, PairsConvert, RowsConvert}
+use Rattle.numeration.specs.Pairs.{Fits, pairDigit, PairsConvert, RowsConvert}
+use Rattle.numeration.specs.PairTests.{fits, pairPasses, upperPasses}
 use Rattle.numeration.proofs.Agreement.{agree-sound, agree-complete}
 use Rattle.numeration.proofs.Pairs.{pairs-rows}
 use Rattle.leaf_rules.specs.Leaf.{leafCount, codeOf}

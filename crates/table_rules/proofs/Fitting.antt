@@ -20,10 +20,12 @@ use Rattle.ring.specs.Matrix.{times}
 use Rattle.ring.proofs.Element.{plus-assoc, plus-comm}
 use Rattle.layout_rules.specs.Section.{degree}
 use Rattle.digit_rules.specs.Record.{recordAt}
-use Rattle.numeration.specs.Code.{Code, agree, Inputs, PrefixCode}
+use Rattle.numeration.specs.Code.{Code, agree, Inputs}
+use Rattle.numeration.specs.Prefix.{PrefixCode}
 use Rattle.numeration.specs.Conversion.{outDigit}
 use Rattle.numeration.specs.Elements.{elements}
-use Rattle.numeration.specs.Pairs.{tail, fits, Fits, pairDigit, pairPasses}
+use Rattle.numeration.specs.Pairs.{tail, Fits, pairDigit}
+use Rattle.numeration.specs.PairTests.{fits, pairPasses}
 use Rattle.numeration.specs.Runs.{tailThenZeros, lowestFit}
 use Rattle.numeration.proofs.Agreement.{agree-sound, agree-complete}
 use Rattle.numeration.proofs.Runs.{run-first, run-below, run-on, unfit-passes, in-tail, behind-tail, string-inputs}

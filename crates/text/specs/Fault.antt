@@ -1,4 +1,4 @@
--- A fault as text: `refused GROUP N place P`, GROUP being author, rows or editor (the format of the outside vectors).
+-- For the programs' output only; a reader may skip this file. A fault as text: `refused GROUP N place P`, GROUP being author, rows or editor (the format of the outside vectors).
 use mathlib.Core.List.{List, _++_}
 use Prim.Native.Nat.{ℕ}
 use Rattle.faults.specs.declared.Fault.{Fault}

@@ -1,4 +1,4 @@
--- Hexadecimal text: "in small hexadecimal digits, and `-` where it is empty" (the format of the outside vectors).
+-- For the programs' output only; a reader may skip this file. Hexadecimal text: "in small hexadecimal digits, and `-` where it is empty" (the format of the outside vectors).
 use mathlib.Core.Bool.{true, false}
 use mathlib.Core.List.{List, [], _∷_}
 use Prim.Native.Nat.{ℕ, _+_, _-_, _*_, _/_, _%_}

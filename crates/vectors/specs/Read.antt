@@ -1,4 +1,4 @@
--- The number that was read, 0 where there is none.
+-- For helpers' contracts only: the number that was read, 0 where there is none.
 use Prim.Native.Nat.{ℕ}
 use Rattle.vectors.specs.declared.input.Read.{Read}
 use Rattle.vectors.specs.declared.input.Read.the-variants.{Got, Cut}

@@ -26,7 +26,7 @@ fn edit_line(table: &[u8], first: &mut [u8], second: &mut [u8], sum: &mut [u8]) 
     let row = input::long(&numbers, 0);
     let place = input::long(&numbers, 8);
     let digit = input::long(&numbers, 16);
-    let answer = editor::edit(table, first, second, sum, row, place, digit);
+    let answer = edit_call::edit(table, first, second, sum, row, place, digit);
     output::edited(answer, first, second, sum)
 }
 
@@ -86,7 +86,7 @@ pub fn value() -> bool {
     let Read::Got(r) = row_read else {
         return false;
     };
-    output::valued(valued::value(&table[..t], &row[..r]))
+    output::valued(value_call::value(&table[..t], &row[..r]))
 }
 
 // 5: the parts of the first element, then those of the second.

@@ -3,10 +3,10 @@ ghost use mathlib.Core.Path.{_≡_};
 ghost use Prim.Native.Nat.{_+_, _*_, _≤_};
 ghost use lib.ListN.{length};
 use adder::Added;
-use edits::Edited;
 use midpoint::Element;
+use row_edit::Edited;
 use table::Checked;
-use valued::Valued;
+use value_call::Valued;
 
 // Ends the line of a buffer at a place, and writes it.
 fn line(out: &mut [u8], end: usize) -> bool {

@@ -5,7 +5,7 @@ ghost use mathlib.Core.List.{List};
 ghost use Prim.Native.Nat.{ℕ, _+_, _-_, _<_, _≤_, _^_};
 ghost use lib.ListN.{length, getD};
 ghost use Rattle.ring.specs.Element.{Within};
-ghost use Rattle.ring.specs.Matrix.{RowsWithin};
+ghost use Rattle.ring.specs.Tests.{RowsWithin};
 ghost use Rattle.digit_rules.specs.Record.{elementCount};
 ghost use Rattle.leaf_rules.specs.Leaf.{leafCount, wordGiven, weightGiven};
 ghost use Rattle.table_rules.specs.Pairs.{upperPart};

@@ -2,8 +2,9 @@
 use Rattle.adder_c.proofs.Answer.{no-room, some-room, short, with-facts, with-fault}
 use Rattle.answer_words.proofs.Bits.{kept}
 use Rattle.adder_c.specs.Answer.{editWords}
-use Rattle.edit_rules.specs.Edit.{State, state, editOutcome, editState}
-use Rattle.edits.specs.Answer.{outcomeOf}
+use Rattle.edit_rules.specs.Edit.{editOutcome, editState}
+use Rattle.edit_rules.specs.State.{State, state}
+use Rattle.row_edit.specs.Answer.{outcomeOf}
 use Rattle.lists.specs.Overwrite.{overwrite}
 use Rattle.lists.proofs.Cons.{cons≡}
 use lib.ListN.{length}

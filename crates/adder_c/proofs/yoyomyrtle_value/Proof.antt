@@ -1,7 +1,7 @@
 -- The value's outcome in words.
 use mathlib.Core.Path.{sym, ap, _∙_}
-use Rattle.valued_rules.specs.Value.{valueOutcome}
-use Rattle.valued.specs.Answer.{valuedAs}
+use Rattle.value_call_rules.specs.Value.{valueOutcome}
+use Rattle.value_call.specs.Answer.{valuedAs}
 use Rattle.midpoint.specs.Midpoint.{parts}
 use Rattle.adder_c.specs.Answer.{elementWords}
 use Rattle.adder_c.proofs.Answer.{short, with-facts, with-fault}

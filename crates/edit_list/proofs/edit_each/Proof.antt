@@ -4,7 +4,7 @@ use mathlib.Core.Path.{_≡_, refl, ap, subst, _∙_}
 use Prim.Native.Nat.{ℕ, _-_, _≤_}
 use native.Mathlib.Omega.{arith}
 use lib.ListN.{length, length-set}
-use Rattle.edit_rules.specs.Edit.{state}
+use Rattle.edit_rules.specs.State.{state}
 use Rattle.runner_rules.proofs.Steps.{AfterEdits, after-none, after-next}
 use borrow.Author.Needs.{needs}
 use Rattle.edit_list.proofs.edit_each.Statement.{statement}

@@ -1,8 +1,8 @@
 -- Each case of an edit's answer.
 use Rattle.runner_rules.specs.Told.{toldOf}
-use Rattle.edits.specs.Answer.{outcomeOf}
-use Rattle.edits.specs.declared.Edited.the-variants.{Refused}
-use Rattle.edits.specs.declared.Edited.{Edited}
+use Rattle.row_edit.specs.Answer.{outcomeOf}
+use Rattle.row_edit.specs.declared.Edited.the-variants.{Refused}
+use Rattle.row_edit.specs.declared.Edited.{Edited}
 use Rattle.faults.specs.declared.Fault.{Fault}
 use mathlib.Core.Path.{sym, ap, _∙_}
 use borrow.Author.Needs.{needs}

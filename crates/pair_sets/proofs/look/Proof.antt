@@ -5,7 +5,7 @@ use Rattle.prefix_rules.proofs.Formed.{formed}
 use Rattle.leaf_rules.specs.Leaf.{leafCount}
 use Rattle.digit_rules.proofs.Base.{base-within}
 use Rattle.digit_rules.specs.Record.{elementCount}
-use Rattle.ring.specs.Matrix.{RowsWithin}
+use Rattle.ring.specs.Tests.{RowsWithin}
 use Rattle.lists.proofs.Test.{clash}
 use mathlib.Core.Path.{refl, sym, subst}
 use Prim.Native.Nat.{_-_, _^_}

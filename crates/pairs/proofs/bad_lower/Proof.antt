@@ -15,7 +15,7 @@ use Rattle.layout_rules.specs.Section.{degree}
 use Rattle.digit_rules.specs.Record.{recordAt, elementCount}
 use Rattle.numeration.specs.Code.{agree}
 use Rattle.numeration.specs.Elements.{elements}
-use Rattle.numeration.specs.Pairs.{fits, pairPasses}
+use Rattle.numeration.specs.PairTests.{fits, pairPasses}
 use Rattle.numeration.specs.Runs.{lowestFit}
 use Rattle.leaf_rules.specs.Leaf.{leafCount, codeOf, wordGiven, weightGiven}
 use Rattle.leaf_rules.specs.Window.{LookedUp}

@@ -6,12 +6,12 @@ use native.Mathlib.Nat.{not-suc-le-zero}
 use borrow.Author.Count.{below-more}
 use borrow.Author.Needs.{needs}
 use Rattle.lists.specs.Scan.{firstFailing}
-use Rattle.ring.specs.Matrix.{RowsWithin}
+use Rattle.ring.specs.Tests.{RowsWithin}
 use Rattle.layout_rules.specs.Section.{degree}
 use Rattle.digit_rules.specs.Record.{recordAt}
 use Rattle.digit_rules.proofs.Base.{base-within}
 use Rattle.numeration.specs.Elements.{elements}
-use Rattle.numeration.specs.Pairs.{pairPasses}
+use Rattle.numeration.specs.PairTests.{pairPasses}
 use Rattle.leaf_rules.specs.Leaf.{leafCount, codeOf}
 use Rattle.table_rules.specs.Pairs.{inAlphabet, badLower}
 use Rattle.table_rules.proofs.Bad.{UppersPass, upper-passes, pair-found, pair-none}

@@ -5,7 +5,7 @@ use Rattle.ring.specs.Element.{Within}
 use Rattle.numeration.specs.Elements.{elements}
 use Rattle.numeration.specs.Conversion.{outDigit}
 use Rattle.layout_rules.specs.Section.{degree}
-use Rattle.conversion.proofs.Size.{out-size}
+use Rattle.converted_digit.proofs.Size.{out-size}
 use borrow.Author.Needs.{needs}
 use Rattle.places.proofs.out_index.Statement.{statement}
 use Rattle.places.proofs.out_index.Tie as tie

@@ -5,7 +5,7 @@ use Rattle.runner_rules.specs.Run.{editCount, askedEdits, runOutcome}
 use Rattle.runner_rules.specs.Told.{groupsOf, numbersOf, valuesOf}
 use Rattle.runner.specs.Answer.{outcomeOf}
 use Rattle.edit_rules.specs.Run.{Ran}
-use Rattle.edit_rules.specs.Edit.{state}
+use Rattle.edit_rules.specs.State.{state}
 use Rattle.faults.proofs.Exit.{exit-lent, exit-written}
 use Rattle.faults.specs.Outcome.{whose, numberOf, placeOf}
 use Rattle.lists.proofs.Overwrite.{overwrite-none}

@@ -1,6 +1,6 @@
 -- The check's fault, or the addition's, or the number of edits.
 use Rattle.runner_rules.proofs.Outcome.{check-refused, add-refused, both-passed}
-use Rattle.edit_rules.specs.Edit.{state}
+use Rattle.edit_rules.specs.State.{state}
 use Rattle.adder_rules.proofs.Sum.{sum-lent}
 use Rattle.faults.specs.Outcome.{atExit}
 use Rattle.faults.specs.Outcome.{whose, numberOf, placeOf}

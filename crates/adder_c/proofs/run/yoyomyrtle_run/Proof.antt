@@ -7,7 +7,7 @@ use Rattle.lists.specs.Overwrite.{overwrite}
 use Rattle.row_rules.specs.declared.Change.{Change}
 use Rattle.runner.specs.Answer.{outcomeOf}
 use Rattle.runner_rules.specs.Run.{askedEdits, runOutcome}
-use Rattle.edit_rules.specs.Edit.{State, state}
+use Rattle.edit_rules.specs.State.{State, state}
 use Rattle.adder_c.specs.Answer.{runWords}
 use Rattle.answer_words.proofs.Bits.{kept}
 use Rattle.adder_c.proofs.Answer.{short, with-facts, with-fault, not-run, as-run}

@@ -1,9 +1,0 @@
--- The answer of the edit ("Who sends a fault" of document 01): "of the edit, its count".
-use Rattle.faults.specs.Outcome.{Outcome, facts, refusedBy}
-use Rattle.edit_rules.specs.declared.EditedFacts.{EditedFacts}
-use Rattle.edits.specs.declared.Edited.{Edited}
-use Rattle.edits.specs.declared.Edited.the-variants.{Count, Refused}
-
-abbrev pub outcomeOf : Edited → Outcome EditedFacts
-outcomeOf (Count f) = facts f
-outcomeOf (Refused fault) = refusedBy fault

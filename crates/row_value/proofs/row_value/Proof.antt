@@ -1,0 +1,87 @@
+-- Before each place the total is within the limit, and the row leads on from it where it leads from zero.
+use Rattle.row_value_rules.proofs.Total.{turn, stop, end, zeros-passed}
+use Rattle.row_value_rules.proofs.Limit.{limited-within}
+use Rattle.row_value_rules.specs.Total.{totalLimit, placeDigit, nextTotal, worthFrom, worthOf}
+use Rattle.ring.specs.Element.{Within, plus}
+use Rattle.ring.proofs.Parts.{within-two}
+use Rattle.ring.proofs.Element.{within-le}
+use Rattle.faults.specs.Outcome.{facts}
+use borrow.Author.Needs.{needs}
+use borrow.Author.Tests.{not-true, not-false}
+use lib.ListN.{length}
+use lib.IntN.{pos}
+use lib.Dec.{lit≤}
+use native.Mathlib.Omega.{arith}
+use Prim.Native.Nat.{_≤_, _-_, _^_, zero-le}
+use mathlib.Core.Path.{_≡_, sym, ap, ap₂, _∙_}
+use Rattle.row_value.proofs.row_value.Statement.{statement}
+use Rattle.row_value.proofs.row_value.Tie as tie
+
+abbrev Inv-loop : tie.InvT-loop
+Inv-loop base alphabet row total₀ left₀ total left = (left ≤ length row) × Within totalLimit total × (worthFrom base (placeDigit alphabet row) left total ≡ worthOf base alphabet row)
+
+abbrev μ-loop : tie.MeasureT-loop
+μ-loop base alphabet row total₀ left₀ total left = left
+
+-- what was computed at a place
+next-is : (c : tie.After-sum Inv-loop μ-loop) → c .sum .result ≡ nextTotal (c .before .before .before .before .before .before .before .before .args .base) (c .before .before .before .before .loop .total) (placeDigit (c .before .before .before .before .before .before .before .before .args .alphabet .now) (c .before .before .before .before .before .before .before .before .args .row .now) (c .before .before .before .before .loop .left - 1))
+next-is c = c .sum .ensures ∙ ap₂ plus (c .before .before .times-base .ensures .0) (c .before .digit-at .ensures .0)
+
+counted-places-requires : tie.Need-counted-places-requires Inv-loop μ-loop
+counted-places-requires c κs = tt
+
+loop-holds : tie.Need-loop-holds Inv-loop μ-loop
+unfolding worthOf
+loop-holds c =
+    (c .counted-places .ensures .0, within-two totalLimit (pos 0) (pos 0) zero-le zero-le, zeros-passed (c .before .before .before .args .base) (placeDigit (c .before .before .before .args .alphabet .now) (c .before .before .before .args .row .now)) (search needs) (c .counted-places .result) (length (c .before .before .before .args .row .now)) (c .counted-places .ensures .0) (c .counted-places .ensures .1))
+
+sub-place : tie.Need-sub-place Inv-loop μ-loop
+sub-place c = omega arith
+
+times-base-requires : tie.Need-times-base-requires Inv-loop μ-loop
+times-base-requires c κs = (c .before .before .before .before .before .pre .0, within-le totalLimit (2 ^ 32) _ (lit≤ tt) (c .before .loop .inv .1))
+
+digit-at-requires : tie.Need-digit-at-requires Inv-loop μ-loop
+digit-at-requires c κs = (omega arith, c .before .before .before .before .before .before .pre .1)
+
+sum-requires : tie.Need-sum-requires Inv-loop μ-loop
+sum-requires c κs = (within-le (2 ^ 57) (2 ^ 61) _ (lit≤ tt) (c .before .times-base .ensures .1), within-le 32768 (2 ^ 61) _ (lit≤ tt) (c .digit-at .ensures .1))
+
+is-limited-requires : tie.Need-is-limited-requires Inv-loop μ-loop
+is-limited-requires c κs = tt
+
+returns : tie.Need-returns Inv-loop μ-loop
+returns c = stop _ _ _ (c .before .before .before .before .before .before .loop .total) _ (c .before .before .before .before .before .loop-test .taken) (next-is (c .before .before)) (sym (c .before .is-limited .ensures) ∙ not-true _ (c .if1 .taken)) ∙ c .before .before .before .before .before .before .loop .inv .2
+
+loop-less : tie.Need-loop-less Inv-loop μ-loop
+loop-less c = omega arith
+
+loop-again : tie.Need-loop-again Inv-loop μ-loop
+loop-again c =
+    let within = sym (c .before .is-limited .ensures) ∙ not-false _ (c .if1 .left) in
+    (omega arith, limited-within _ within, turn _ _ _ (c .before .before .before .before .before .before .loop .total) _ (c .before .before .before .before .before .loop-test .taken) (next-is (c .before .before)) within ∙ c .before .before .before .before .before .before .loop .inv .2)
+
+shown-requires : tie.Need-shown-requires Inv-loop μ-loop
+shown-requires c κs = c .before .loop .inv .1
+
+returns-2 : tie.Need-returns-2 Inv-loop μ-loop
+returns-2 c = ap facts (c .shown .ensures) ∙ end _ _ _ _ (c .before .loop-test .left) ∙ c .before .before .loop .inv .2
+
+pub row-value-spec : {M : Type 1} → statement M
+row-value-spec =
+    tie.close
+    (tie.spec
+    Inv-loop
+    μ-loop
+    counted-places-requires
+    loop-holds
+    sub-place
+    times-base-requires
+    digit-at-requires
+    sum-requires
+    is-limited-requires
+    returns
+    loop-less
+    loop-again
+    shown-requires
+    returns-2)

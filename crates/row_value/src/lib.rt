@@ -1,0 +1,89 @@
+// The value of a row of digits, with rule 28 of document 01.
+ghost use mathlib.Core.Path.{_≡_};
+ghost use Prim.Native.Nat.{ℕ, _^_, _≤_, _<_};
+ghost use lib.ListN.{length};
+ghost use lib.IntN.{natAbs};
+ghost use lib.Dec.{leb};
+ghost use Rattle.ring.specs.Element.{zeros, Within};
+ghost use Rattle.ring.specs.Tests.{RowsWithin};
+ghost use Rattle.layout_rules.specs.Section.{degree};
+ghost use Rattle.midpoint.specs.Midpoint.{parts};
+ghost use Rattle.row_rules.specs.Fit.{Indexes};
+ghost use Rattle.digit_rules.specs.Record.{elementCount};
+ghost use Rattle.row_value_rules.specs.Total.{totalLimit, limited, placeDigit, worthOf};
+ghost use Rattle.row_value.specs.Answer.{outcomeOf};
+use midpoint::Element;
+
+// The value, or the place of the digit with which a part passed its limit.
+pub enum Worth {
+    Whole(Element),
+    Over(usize),
+}
+
+// Whether a number is within ±2,147,483,647.
+fn inside(z: i64) -> bool
+    ensures { λ r. ⌜ r ≡ leb (natAbs z) totalLimit ⌝ }
+{
+    if z < -2147483647 {
+        return false;
+    }
+    z <= 2147483647
+}
+
+fn is_limited(x: [i64; 2]) -> bool
+    ensures { λ r. ⌜ r ≡ limited x ⌝ }
+{
+    inside(x[0]) && inside(x[1])
+}
+
+// The digit at a place of a row.
+fn digit_at(alphabet: &[u8], row: &[u8], place: usize) -> [i64; 2]
+    requires { ⌜ (place < length (now row)) × Indexes (elementCount (now alphabet)) (now row) ⌝ }
+    ensures { λ r. ⌜ (r ≡ placeDigit (now (alphabet .entry)) (now (row .entry)) place) × Within 32768 r ⌝ }
+{
+    digits::record_at(alphabet, row[place] as usize)
+}
+
+// An element as callers see it.
+fn shown(x: [i64; 2]) -> Element
+    requires { ⌜ Within totalLimit x ⌝ }
+    ensures { λ r. ⌜ parts r ≡ x ⌝ }
+{
+    Element {
+        a: x[0] as i32,
+        b: x[1] as i32,
+    }
+}
+
+// The count of places without the zeros at the top, where index 0 is the digit zero.
+fn counted_places(alphabet: &[u8], row: &[u8]) -> usize
+    ensures { λ r. ⌜ (r ≤ length (now (row .entry))) × ((k : ℕ) → r ≤ k → k < length (now (row .entry)) → placeDigit (now (alphabet .entry)) (now (row .entry)) k ≡ zeros degree) ⌝ }
+{
+    if layout::record_count(alphabet, 1) == 0 {
+        return row.len();
+    }
+    if !ring::equal(digits::record_at(alphabet, 0), [0, 0]) {
+        return row.len();
+    }
+    octets::significant(row)
+}
+
+// The value of a row, from the top place down: base times total plus digit.
+pub fn row_value(base: [[i64; 2]; 2], alphabet: &[u8], row: &[u8]) -> Worth
+    requires { ⌜ RowsWithin (2 ^ 24) base × Indexes (elementCount (now alphabet)) (now row) ⌝ }
+    ensures { λ r. ⌜ outcomeOf r ≡ worthOf base (now (alphabet .entry)) (now (row .entry)) ⌝ }
+{
+    let mut total: [i64; 2] = [0, 0];
+    let mut left = counted_places(alphabet, row);
+    while 0 < left {
+        let place = left - 1;
+        let product = ring::times_base(base, total);
+        let next = ring::sum(product, digit_at(alphabet, row, place));
+        if !is_limited(next) {
+            return Worth::Over(place);
+        }
+        total = next;
+        left = place;
+    }
+    Worth::Whole(shown(total))
+}
