@@ -70,7 +70,7 @@ fn add_rows(table: &[u8], first: &[u8], second: &[u8], places: usize, sum: &mut 
             place: found,
         });
     }
-    text::put(sum, 0, &digits[..places]);
+    octets::put(sum, 0, &digits[..places]);
     Added::Sum(AddedFacts { places })
 }
 

@@ -141,7 +141,7 @@ pub extern "C" fn yoyomyrtle_tern(out: &mut [u8]) -> u64
     if out.len() < 165 {
         return 2;
     }
-    text::put(out, 0, &carried::tern());
+    octets::put(out, 0, &carried::tern());
     0
 }
 
@@ -153,6 +153,6 @@ pub extern "C" fn yoyomyrtle_bin(out: &mut [u8]) -> u64
     if out.len() < 187 {
         return 2;
     }
-    text::put(out, 0, &carried::bin());
+    octets::put(out, 0, &carried::bin());
     0
 }

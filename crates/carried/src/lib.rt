@@ -372,9 +372,9 @@ fn put_parts(out: &mut [u8], head: &[u8], leaves: &[u8], words: &[u8])
     requires { ⌜ length (now head) + length (now leaves) + length (now words) ≤ length (now out) ⌝ }
     ensures { λ r. ⌜ now (out .exit) ≡ overwrite (now (out .entry)) 0 ((now (head .entry) ++ now (leaves .entry)) ++ now (words .entry)) ⌝ }
 {
-    let second = text::put(out, 0, head);
-    let third = text::put(out, second, leaves);
-    text::put(out, third, words);
+    let second = octets::put(out, 0, head);
+    let third = octets::put(out, second, leaves);
+    octets::put(out, third, words);
 }
 
 pub fn tern() -> [u8; 165]

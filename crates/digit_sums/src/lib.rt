@@ -20,12 +20,6 @@ const MOST: usize = 136;
 // The slots that they are looked up by.
 const SLOTS: usize = 256;
 
-fn wide(x: u8) -> usize
-    ensures { λ r. ⌜ r ≡ x ⌝ }
-{
-    x as usize
-}
-
 // Makes each input digit the first of its slot, with a link to the one that was.
 fn link(inputs: &[u8], heads: &mut [u8; SLOTS], links: &mut [u8; MOST])
     requires { ⌜ elementCount (now inputs) ≤ 136 ⌝ }
@@ -46,7 +40,7 @@ fn follow(inputs: &[u8], links: &[u8; MOST], first: u8, x: [i64; 2]) -> usize
     ensures { λ r. ⌜ r ≡ followed (now (inputs .entry)) (now (links .entry)) x 136 first ⌝ }
 {
     let count = layout::record_count(inputs, INPUTS);
-    let mut at = wide(first);
+    let mut at = octets::wide(first);
     let mut left = MOST;
     while left > 0 {
         if at >= count {
@@ -55,7 +49,7 @@ fn follow(inputs: &[u8], links: &[u8; MOST], first: u8, x: [i64; 2]) -> usize
         if ring::equal(digits::record_at(inputs, at), x) {
             return at;
         }
-        at = wide(links[at]);
+        at = octets::wide(links[at]);
         left -= 1;
     }
     count

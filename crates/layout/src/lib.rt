@@ -18,18 +18,12 @@ const LEAF: usize = 4 + ELEMENT;
 // The bytes of a record of each section. The base section is two elements.
 const RECORDS: [usize; 5] = [ELEMENT, ELEMENT, ELEMENT, LEAF, 1];
 
-fn wide(x: u8) -> usize
-    ensures { λ r. ⌜ (r ≡ x) × (r < 256) ⌝ }
-{
-    x as usize
-}
-
 // The unsigned 16-bit number at a place.
 pub fn unsigned(bytes: &[u8], at: usize) -> usize
     requires { ⌜ at + 1 < length (now bytes) ⌝ }
     ensures { λ r. ⌜ (r ≡ unsignedAt (now (bytes .entry)) at) × (r < 65536) ⌝ }
 {
-    wide(bytes[at]) + 256 * wide(bytes[at + 1])
+    octets::wide(bytes[at]) + 256 * octets::wide(bytes[at + 1])
 }
 
 // The signed 16-bit number at a place.

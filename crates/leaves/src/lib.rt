@@ -40,25 +40,6 @@ pub fn word_length(leaves: &[u8], leaf: usize) -> usize
     layout::unsigned(leaves, leaf * LEAF + 2)
 }
 
-pub fn wide(x: u8) -> usize
-    ensures { λ r. ⌜ r ≡ x ⌝ }
-{
-    x as usize
-}
-
-// The byte at a place, 0 past the end.
-pub fn byte_at(bytes: &[u8], at: usize) -> u8
-    ensures { λ r. ⌜ r ≡ getD (now (bytes .entry)) at 0 ⌝ }
-{
-    if at < bytes.len() { bytes[at] } else { 0 }
-}
-
-pub fn least(a: usize, b: usize) -> usize
-    ensures { λ r. ⌜ r ≡ min a b ⌝ }
-{
-    if a < b { a } else { b }
-}
-
 // A leaf's word as that part of section 4: an empty one where there is no such leaf or its record points outside.
 pub fn word<'a>(leaves: &[u8], words: &'a [u8], leaf: usize) -> &'a [u8]
     ensures { λ r. ⌜ now r ≡ wordGiven (now (leaves .entry)) (now (words .entry)) leaf ⌝ }
@@ -108,7 +89,7 @@ fn first_difference(bytes: &[u8], a: usize, other: &[u8], b: usize, n: usize) ->
 {
     let mut i = 0;
     while i < n {
-        if byte_at(bytes, a + i) != byte_at(other, b + i) {
+        if octets::byte_at(bytes, a + i) != octets::byte_at(other, b + i) {
             return i;
         }
         i += 1;
@@ -125,7 +106,7 @@ pub fn lower(bytes: &[u8], a: usize, other: &[u8], b: usize, n: usize) -> bool
     if n <= i {
         return false;
     }
-    byte_at(bytes, a + i) < byte_at(other, b + i)
+    octets::byte_at(bytes, a + i) < octets::byte_at(other, b + i)
 }
 
 // Whether a word of one to eight digits lies inside section 4, so that it can be read as a number.
@@ -152,7 +133,7 @@ fn above(leaves: &[u8], words: &[u8], window: &[u8; 8], leaf: usize) -> bool
     if is_inside(words, start, length) {
         return word_numbers::eight(window, 0) < word_numbers::word_number(words, start, length);
     }
-    lower(window, 0, words, start, least(length, LONGEST))
+    lower(window, 0, words, start, octets::least(length, LONGEST))
 }
 
 // Where the search goes on: in the lower half, or in the upper one. One number is chosen, without a jump that could be guessed wrong.

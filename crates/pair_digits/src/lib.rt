@@ -26,17 +26,11 @@ pub fn upper_part(
     requires { ⌜ RowsWithin (2 ^ 24) base × (getD (wordGiven (now leaves) (now words) upper) 0 0 < elementCount (now inputs)) ⌝ }
     ensures { λ r. ⌜ (r ≡ upperPart base (now (inputs .entry)) (now (leaves .entry)) (now (words .entry)) upper) × Within (2 ^ 57 + 32768) r ⌝ }
 {
-    let first = leaves::byte_at(leaves::word(leaves, words, upper), 0) as usize;
+    let first = octets::byte_at(leaves::word(leaves, words, upper), 0) as usize;
     ring::difference(
         digits::record_at(inputs, first),
         ring::times_base(base, leaves::weight(leaves, upper)),
     )
-}
-
-pub fn wide(x: u8) -> usize
-    ensures { λ r. ⌜ r ≡ x ⌝ }
-{
-    x as usize
 }
 
 // Puts the number of each alphabet digit into its slot; whether each has a slot of its own.
@@ -65,7 +59,7 @@ fn in_slots(alphabet: &[u8], slots: &[u8; SLOTS], x: [i64; 2]) -> bool
     ensures { λ r. ⌜ r ≡ inAlphabet (now (alphabet .entry)) x ⌝ }
 {
     let slot = slots::slot_of(x);
-    let digit = wide(slots[slot]);
+    let digit = octets::wide(slots[slot]);
     if digit < layout::record_count(alphabet, 1) {
         return ring::equal(digits::record_at(alphabet, digit), x);
     }

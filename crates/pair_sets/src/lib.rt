@@ -106,7 +106,7 @@ fn one_by_one(keys: &[u64], numbers: &[u8], count: usize, run: Run, last: u64) -
         if last < keys[leaf] {
             return Run { set, end: leaf };
         }
-        set = set | weight_sets::single(weight_sets::wide(numbers[leaf]));
+        set = set | weight_sets::single(octets::wide(numbers[leaf]));
         leaf += 1;
     }
     Run { set, end: leaf }
@@ -168,7 +168,7 @@ fn all_in(
     let mut upper = 0;
     while upper < leaf_count {
         let run = fitting(leaves, keys, numbers, sets, all, upper, guess);
-        let number = weight_sets::wide(numbers[upper]);
+        let number = octets::wide(numbers[upper]);
         let known = weight_sets::judged(
             base,
             alphabet,

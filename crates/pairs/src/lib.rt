@@ -35,14 +35,14 @@ fn tail_window(upper: &[u8]) -> [u8; 8]
     ensures { λ r. ⌜ r ≡ span (λ i. getD (now (upper .entry)) i 0) 1 8 ⌝ }
 {
     [
-        leaves::byte_at(upper, 1),
-        leaves::byte_at(upper, 2),
-        leaves::byte_at(upper, 3),
-        leaves::byte_at(upper, 4),
-        leaves::byte_at(upper, 5),
-        leaves::byte_at(upper, 6),
-        leaves::byte_at(upper, 7),
-        leaves::byte_at(upper, 8),
+        octets::byte_at(upper, 1),
+        octets::byte_at(upper, 2),
+        octets::byte_at(upper, 3),
+        octets::byte_at(upper, 4),
+        octets::byte_at(upper, 5),
+        octets::byte_at(upper, 6),
+        octets::byte_at(upper, 7),
+        octets::byte_at(upper, 8),
     ]
 }
 

@@ -84,7 +84,7 @@ fn digit_below(row: &[u8], place: usize, k: usize) -> u8
     if place <= k {
         return 0;
     }
-    leaves::byte_at(row, place - k - 1)
+    octets::byte_at(row, place - k - 1)
 }
 
 // The eight input indexes below a place, read downward.
@@ -127,13 +127,13 @@ fn begins_below(
     ensures { λ r. ⌜ (r ≡ true → Begins (codeOf (now (leaves .entry)) (now (words .entry))) leaf (window (now (row .entry)) place)) ⌝ }
 {
     let start = leaves::word_start(leaves, leaf);
-    if leaves::byte_at(words, start) != first {
+    if octets::byte_at(words, start) != first {
         return false;
     }
     let n = leaves::word_length(leaves, leaf);
     let mut k = 1;
     while k < n {
-        if leaves::byte_at(words, start + k) != digit_below(row, place, k) {
+        if octets::byte_at(words, start + k) != digit_below(row, place, k) {
             return false;
         }
         k += 1;
@@ -198,7 +198,7 @@ fn weight_tried(
     ensures { λ r. ⌜ (r ≡ weightInto (codeOf (now (leaves .entry)) (now (words .entry))) (now (row .entry)) place) × Within 32768 r ⌝ }
 {
     let slot = window_slot(row, place, first, single);
-    let digit = leaves::wide(first);
+    let digit = octets::wide(first);
     let leaf = leaf_below(
         leaves,
         words,
@@ -238,7 +238,7 @@ fn index_of(alphabet: &[u8], x: [i64; 2], slots: &mut [u8; DIGITS]) -> usize
 {
     let size = layout::record_count(alphabet, 1);
     let slot = slots::slot_of(x);
-    let last = leaves::wide(slots[slot]);
+    let last = octets::wide(slots[slot]);
     if last < size {
         if ring::equal(digits::record_at(alphabet, last), x) {
             return last;
@@ -305,7 +305,7 @@ pub fn convert(
     let mut below = weight_into(leaves, words, row, from);
     let mut k = 0;
     while k < count {
-        let first = leaves::byte_at(row, from + k);
+        let first = octets::byte_at(row, from + k);
         let own = weight_tried(
             leaves,
             words,

@@ -77,7 +77,7 @@ fn well_coded(leaves: &[u8], words: &[u8], inputs: usize) -> bool
     if 8191 < leaves::leaf_count(leaves) {
         return false;
     }
-    if inputs <= leaves::wide(octets::highest(words)) {
+    if inputs <= octets::wide(octets::highest(words)) {
         return false;
     }
     numbered(leaves, words, inputs as u64)

@@ -76,7 +76,7 @@ fn indexes(words: &[u8], inputs: usize) -> Refusal
 {
     let mut i = 0;
     while i < words.len() {
-        if inputs <= leaves::wide(words[i]) {
+        if inputs <= octets::wide(words[i]) {
             return Refusal {
                 number: 10,
                 place: i,
@@ -97,7 +97,7 @@ fn precedes(leaves: &[u8], words: &[u8], leaf: usize) -> bool
 {
     let a = leaves::word_start(leaves, leaf);
     let b = leaves::word_start(leaves, leaf + 1);
-    let n = leaves::least(
+    let n = octets::least(
         leaves::word_length(leaves, leaf),
         leaves::word_length(leaves, leaf + 1),
     );
@@ -139,7 +139,7 @@ fn run_end(
 {
     let mut leaf = low;
     while leaf < high {
-        if leaves::wide(leaves::byte_at(words, leaves::word_start(leaves, leaf) + place)) != digit {
+        if octets::wide(octets::byte_at(words, leaves::word_start(leaves, leaf) + place)) != digit {
             return leaf;
         }
         leaf += 1;

@@ -66,7 +66,7 @@ fn accepted_line(f: Facts, out: &mut [u8]) -> usize
     let leaves = text::put_item(out, 0, b"accepted depth ", f.depth);
     let digits = text::put_item(out, leaves, b" leaves ", f.leaves);
     let end = text::put_item(out, digits, b" digits ", f.digits);
-    text::put(out, end, b"\n")
+    octets::put(out, end, b"\n")
 }
 
 fn refused_line(number: usize, place: usize, out: &mut [u8]) -> usize
@@ -77,7 +77,7 @@ fn refused_line(number: usize, place: usize, out: &mut [u8]) -> usize
 {
     let at = text::put_item(out, 0, b"refused ", number);
     let end = text::put_item(out, at, b" place ", place);
-    text::put(out, end, b"\n")
+    octets::put(out, end, b"\n")
 }
 
 // Writes the program's line; the count of its bytes. A buffer under 128 bytes is left as it is, and the count is 0.

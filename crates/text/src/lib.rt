@@ -10,19 +10,6 @@ ghost use Rattle.text.specs.Hex.{hexByte, hexDigits, hex};
 ghost use Rattle.text.specs.Fault.{placeWord, faultText};
 use faults::Fault;
 
-// Writes bytes from a place on; the next place.
-pub fn put(out: &mut [u8], at: usize, bytes: &[u8]) -> usize
-    requires { ⌜ at + length (now bytes) ≤ length (now out) ⌝ }
-    ensures { λ r. ⌜ (r ≡ at + length (now (bytes .entry))) × (now (out .exit) ≡ overwrite (now (out .entry)) at (now (bytes .entry))) ⌝ }
-{
-    let mut i = 0;
-    while i < bytes.len() {
-        out[at + i] = bytes[i];
-        i += 1;
-    }
-    at + i
-}
-
 // Writes a number in decimal from a place on; the next place.
 pub fn put_decimal(out: &mut [u8], at: usize, n: usize) -> usize
     requires { ⌜ at + length (decimal n) ≤ length (now out) ⌝ }
@@ -42,7 +29,7 @@ pub fn put_item(out: &mut [u8], at: usize, word: &[u8], n: usize) -> usize
     requires { ⌜ at + length (now word ++ decimal n) ≤ length (now out) ⌝ }
     ensures { λ r. ⌜ (r ≡ at + length (now (word .entry) ++ decimal n)) × (now (out .exit) ≡ overwrite (now (out .entry)) at (now (word .entry) ++ decimal n)) ⌝ }
 {
-    let number = put(out, at, word);
+    let number = octets::put(out, at, word);
     put_decimal(out, number, n)
 }
 
@@ -101,7 +88,7 @@ pub fn put_hex(out: &mut [u8], at: usize, bytes: &[u8]) -> usize
     ensures { λ r. ⌜ (r ≡ at + length (hex (now (bytes .entry)))) × (now (out .exit) ≡ overwrite (now (out .entry)) at (hex (now (bytes .entry)))) ⌝ }
 {
     if bytes.len() == 0 {
-        return put(out, at, b"-");
+        return octets::put(out, at, b"-");
     }
     put_hex_digits(out, at, bytes)
 }

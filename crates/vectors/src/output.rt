@@ -22,7 +22,7 @@ pub fn table_bytes(file: &[u8]) -> bool
     requires { ⌜ length (now file) ≤ 200 ⌝ }
 {
     let mut out = [0u8; 512];
-    let bytes = text::put(&mut out, 0, b"table ");
+    let bytes = octets::put(&mut out, 0, b"table ");
     let end = text::put_hex(&mut out, bytes, file);
     line(&mut out, end)
 }
@@ -124,7 +124,7 @@ pub fn parts(word: &[u8], x: Element) -> bool
     requires { ⌜ length (now word) ≤ 20 ⌝ }
 {
     let mut out = [0u8; 128];
-    let first = text::put(&mut out, 0, word);
+    let first = octets::put(&mut out, 0, word);
     let space = text::put_signed(&mut out, first, x.a);
     out[space] = b' ';
     let end = text::put_signed(&mut out, space + 1, x.b);

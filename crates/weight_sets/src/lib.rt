@@ -21,12 +21,6 @@ const SLOTS: usize = 256;
 
 const EMPTY: u8 = 255;
 
-pub fn wide(x: u8) -> usize
-    ensures { λ r. ⌜ (r ≡ x) × (r < 256) ⌝ }
-{
-    x as usize
-}
-
 // The number of a leaf's weight, of the count that are known: the one in the weight's slot, the next one where the slot is empty, or
 // too high a one where the slot has another weight.
 fn number_in(leaves: &[u8], first: &[usize], count: usize, leaf: usize, number: usize) -> usize
@@ -57,7 +51,7 @@ pub fn number_weights(leaves: &[u8], numbers: &mut [u8], first: &mut [usize]) ->
     let mut leaf = 0;
     while leaf < leaf_count {
         let slot = slots::slot_of(leaves::weight(leaves, leaf));
-        let number = number_in(leaves, first, count, leaf, wide(slots[slot]));
+        let number = number_in(leaves, first, count, leaf, octets::wide(slots[slot]));
         if WEIGHTS <= number {
             return WEIGHTS + 1;
         }
@@ -87,7 +81,7 @@ fn singles(numbers: &[u8], count: usize, sets: &mut [u64])
 {
     let mut leaf = 0;
     while leaf < count {
-        sets[leaf] = single(wide(numbers[leaf]));
+        sets[leaf] = single(octets::wide(numbers[leaf]));
         leaf += 1;
     }
 }
@@ -181,7 +175,7 @@ pub fn judged(
     requires { ⌜ RowsWithin (2 ^ 24) base × Slotted (now alphabet) (now slots) × (getD (wordGiven (now leaves) (now words) upper) 0 0 < elementCount (now inputs)) × (number < 64) × (count ≤ 64) × (count ≤ length (now first)) × (weightGiven (now leaves) (getD (now first) number 0) ≡ weightGiven (now leaves) upper) × Judged base (now alphabet) (now inputs) (now leaves) (now first) (now made) (now good) ⌝ }
     ensures { λ r. ⌜ Good (now (alphabet .entry)) (now (leaves .entry)) (now (first .entry)) (upperPart base (now (inputs .entry)) (now (leaves .entry)) (now (words .entry)) upper) r × Judged base (now (alphabet .entry)) (now (inputs .entry)) (now (leaves .entry)) (now (first .entry)) (now (made .exit)) (now (good .exit)) ⌝ }
 {
-    let digit = wide(leaves::byte_at(leaves::word(leaves, words, upper), 0)) + 1;
+    let digit = octets::wide(octets::byte_at(leaves::word(leaves, words, upper), 0)) + 1;
     if made[number] == digit {
         return good[number];
     }

@@ -21,7 +21,7 @@ wide-requires : tie.Need-wide-requires Inv-loop μ-loop
 wide-requires c κs = search needs
 
 loop-holds : tie.Need-loop-holds Inv-loop μ-loop
-loop-holds c = (omega arith, ap (followed _ _ _ 136) (c .wide .ensures))
+loop-holds c = (omega arith, ap (followed _ _ _ 136) (c .wide .ensures .0))
 
 returns : tie.Need-returns Inv-loop μ-loop
 returns c = c .before .before .before .before .record-count .ensures ∙ sym (follow-out _ _ _ _ _ (omega (arith, c .before .before .before .before .record-count .ensures))) ∙ c .before .before .loop .inv .1
@@ -48,7 +48,7 @@ loop-less : tie.Need-loop-less Inv-loop μ-loop
 loop-less c = omega arith
 
 loop-again : tie.Need-loop-again Inv-loop μ-loop
-loop-again c = (omega arith, ap (followed _ _ _ _) (c .wide2 .ensures) ∙ sym (follow-on _ (now (c .before .before .before .before .before .before .before .before .before .before .before .args .links)) _ _ _ _ (c .before .before .before .before .before .before .loop-test .taken) (omega (arith, c .before .before .before .before .before .before .before .before .before .record-count .ensures)) (c .before .before .before .before .record-at .ensures .0) (sym (c .before .before .before .equal .ensures) ∙ c .before .before .if2 .left)) ∙ c .before .before .before .before .before .before .before .loop .inv .1)
+loop-again c = (omega arith, ap (followed _ _ _ _) (c .wide2 .ensures .0) ∙ sym (follow-on _ (now (c .before .before .before .before .before .before .before .before .before .before .before .args .links)) _ _ _ _ (c .before .before .before .before .before .before .loop-test .taken) (omega (arith, c .before .before .before .before .before .before .before .before .before .record-count .ensures)) (c .before .before .before .before .record-at .ensures .0) (sym (c .before .before .before .equal .ensures) ∙ c .before .before .if2 .left)) ∙ c .before .before .before .before .before .before .before .loop .inv .1)
 
 returns-3 : tie.Need-returns-3 Inv-loop μ-loop
 returns-3 c = c .before .before .before .record-count .ensures ∙ sym (follow-end _ _ _ _ _ (c .loop-test .left)) ∙ c .before .loop .inv .1

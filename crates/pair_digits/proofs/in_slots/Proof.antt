@@ -29,12 +29,12 @@ equal-requires c κs = search needs
 
 returns : tie.Need-returns
 returns c =
-    let at = c .before .before .before .before .wide .ensures ∙ ap (λ (i : ℕ). getD (now (c .before .before .before .before .before .before .before .before .args .slots)) i 0) (c .before .before .before .before .before .before .slot-of .ensures .0) in
+    let at = c .before .before .before .before .wide .ensures .0 ∙ ap (λ (i : ℕ). getD (now (c .before .before .before .before .before .before .before .before .args .slots)) i 0) (c .before .before .before .before .before .before .slot-of .ensures .0) in
     c .equal .ensures ∙ ap (λ y. same y (c .before .before .before .before .before .before .before .before .args .x)) (c .before .record-at .ensures .0) ∙ slot-some (c .before .before .before .before .before .before .before .before .args .alphabet .now) (now (c .before .before .before .before .before .before .before .before .args .slots)) (c .before .before .before .before .before .before .before .before .pre .1) (c .before .before .before .before .before .before .before .before .args .x) (c .before .before .before .before .wide .result) at (omega (arith, c .before .before .before .record-count .ensures, c .before .before .if1 .taken))
 
 returns-2 : tie.Need-returns-2
 returns-2 c =
-    let at = c .before .before .wide .ensures ∙ ap (λ (i : ℕ). getD (now (c .before .before .before .before .before .before .args .slots)) i 0) (c .before .before .before .before .slot-of .ensures .0) in
+    let at = c .before .before .wide .ensures .0 ∙ ap (λ (i : ℕ). getD (now (c .before .before .before .before .before .before .args .slots)) i 0) (c .before .before .before .before .slot-of .ensures .0) in
     slot-none (c .before .before .before .before .before .before .args .alphabet .now) (now (c .before .before .before .before .before .before .args .slots)) (c .before .before .before .before .before .before .pre .1) (c .before .before .before .before .before .before .args .x) (c .before .before .wide .result) at (omega (arith, c .before .record-count .ensures, c .if1 .left))
 
 pub in-slots-spec : {M : Type 1} → statement M

@@ -30,7 +30,7 @@ equal-requires c κs = search needs
 
 returns : tie.Need-returns
 returns c =
-    (c .before .before .before .before .wide .ensures ∙ first-hit (c .before .before .before .before .before .before .before .before .before .args .alphabet .now) (c .before .before .before .before .before .before .before .before .before .args .x) (c .before .before .before .before .before .before .before .before .before .args .slots .now) (c .before .before .before .before .before .before .before .before .before .pre .2) (c .before .before .before .before .before .before .slot-of .result) (omega (arith, c .before .before .before .before .wide .ensures, c .before .before .before .if1 .taken, c .before .before .before .before .before .before .before .record-count .ensures)) (ap (recordAt (c .before .before .before .before .before .before .before .before .before .args .alphabet .now)) (sym (c .before .before .before .before .wide .ensures)) ∙ sym (c .before .before .record-at .ensures .0) ∙ same→≡ _ _ (sym (c .before .equal .ensures) ∙ c .if2 .taken)), c .before .before .before .before .before .before .before .before .before .pre .2)
+    (c .before .before .before .before .wide .ensures .0 ∙ first-hit (c .before .before .before .before .before .before .before .before .before .args .alphabet .now) (c .before .before .before .before .before .before .before .before .before .args .x) (c .before .before .before .before .before .before .before .before .before .args .slots .now) (c .before .before .before .before .before .before .before .before .before .pre .2) (c .before .before .before .before .before .before .slot-of .result) (omega (arith, c .before .before .before .before .wide .ensures .0, c .before .before .before .if1 .taken, c .before .before .before .before .before .before .before .record-count .ensures)) (ap (recordAt (c .before .before .before .before .before .before .before .before .before .args .alphabet .now)) (sym (c .before .before .before .before .wide .ensures .0)) ∙ sym (c .before .before .record-at .ensures .0) ∙ same→≡ _ _ (sym (c .before .equal .ensures) ∙ c .if2 .taken)), c .before .before .before .before .before .before .before .before .before .pre .2)
 
 find-requires : tie.Need-find-requires
 find-requires c κs = search needs
