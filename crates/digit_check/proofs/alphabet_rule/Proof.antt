@@ -1,3 +1,4 @@
+-- A scan over the records names the first that isn't allowed.
 use mathlib.Core.Path.{_≡_, sym, ap, _∙_}
 use Prim.Native.Nat.{_≤_, _-_}
 use native.Mathlib.Nat.{sub-zero}

@@ -1,3 +1,4 @@
+-- s, t, u and v as they stand in the section; the square is judged first, then the base.
 use mathlib.Core.Path.{_≡_}
 use mathlib.Core.List.{List}
 use Prim.Native.Nat.{ℕ}

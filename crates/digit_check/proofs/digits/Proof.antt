@@ -1,3 +1,4 @@
+-- Three rules in turn: the first that finds something is the answer.
 use borrow.Author.Needs.{needs}
 use Rattle.faults.proofs.Check.{found-first, found-next}
 use Rattle.digit_rules.specs.Digits.{digitCheck}

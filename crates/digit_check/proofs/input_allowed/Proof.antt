@@ -1,3 +1,4 @@
+-- Both tests, the second only where the first is passed.
 use mathlib.Core.Path.{sym, ap, _∙_}
 use borrow.Author.Needs.{needs}
 use Rattle.digit_rules.specs.Digits.{isSum, inputAllowed}

@@ -1,3 +1,4 @@
+-- The quick look says that nothing is broken; else a scan over the records, then the sums.
 use Rattle.digit_rules.proofs.Allowed.{Passed, input-broken, input-on, only-missing, inputs-kept}
 use borrow.Author.Needs.{needs}
 use borrow.Author.Tests.{not-true, not-false}

@@ -1,3 +1,4 @@
+-- A scan over the alphabet digits: x is a sum where one of them leaves another.
 use mathlib.Core.Bool.{not}
 use mathlib.Core.Path.{_≡_, sym, ap, _∙_}
 use Prim.Native.Nat.{_^_, _≤_, _-_}

@@ -1,3 +1,4 @@
+-- A scan over the digits up to i: those that are left give the answer of all of them.
 use mathlib.Core.Path.{_≡_, sym, _∙_}
 use Prim.Native.Nat.{_+_, _≤_, _-_}
 use native.Mathlib.Omega.{arith}

@@ -1,3 +1,4 @@
+-- The four numbers as they stand in the section give the matrix of degree two.
 use mathlib.Core.Path.{sym, _∙_}
 use borrow.Author.Needs.{needs}
 use Rattle.lists.specs.Span.{span}

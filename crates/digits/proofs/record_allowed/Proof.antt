@@ -1,3 +1,4 @@
+-- Record 0 is compared with zero, any other is looked for before itself.
 use borrow.Author.Needs.{needs}
 use Rattle.digit_rules.proofs.Allowed.{allowed-first, allowed-later}
 use Rattle.digits.proofs.record_allowed.Statement.{statement}

@@ -1,3 +1,4 @@
+-- The sum of the two elements, looked for among all input digits.
 use mathlib.Core.Path.{_∙_}
 use Prim.Native.Nat.{_^_}
 use native.Mathlib.Omega.{arith}

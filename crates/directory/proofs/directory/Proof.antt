@@ -1,3 +1,4 @@
+-- The size, then the first pair that isn't allowed.
 use Rattle.layout_rules.proofs.Pair.{too-short, too-long, pair-broken, pairs-kept}
 use borrow.Author.Needs.{needs}
 use Rattle.directory.proofs.directory.Statement.{statement}

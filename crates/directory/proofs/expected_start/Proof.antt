@@ -1,3 +1,4 @@
+-- 20 for the first section, the end of the one before for any other.
 use Rattle.layout_rules.proofs.Pair.{expected-next}
 use Rattle.layout_rules.specs.Directory.{expectedStart}
 use mathlib.Core.Path.{sym, _∙_}

@@ -1,3 +1,4 @@
+-- A scan: the pairs that are left give the answer of all five.
 use native.Mathlib.Omega.{arith}
 use Rattle.layout_rules.specs.Directory.{pairAllowed}
 use Rattle.lists.proofs.Scan.{scan-on, scan-here, scan-out}

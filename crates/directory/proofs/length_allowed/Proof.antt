@@ -1,3 +1,4 @@
+-- Whole records, not too few, not too many, in this order.
 use Rattle.layout_rules.proofs.Length.{sized, length-uneven, length-low, length-high}
 use native.Mathlib.Omega.{arith}
 use Rattle.directory.proofs.length_allowed.Statement.{statement}

@@ -1,3 +1,4 @@
+-- A scan over the five lengths names the first that isn't allowed.
 use native.Mathlib.Omega.{arith}
 use Rattle.layout_rules.specs.Length.{sectionAllowed, lengthCheck}
 use Rattle.faults.proofs.Check.{judge-here, judge-out}

@@ -1,3 +1,4 @@
+-- Where it starts, whether it ends in the file, and whether the last one ends it.
 use Rattle.layout_rules.proofs.Pair.{pair-elsewhere, pair-past, pair-inner, pair-last}
 use borrow.Author.Needs.{needs}
 use Rattle.directory.proofs.pair_allowed.Statement.{statement}

@@ -1,3 +1,4 @@
+-- The length divided by the size that the section has.
 use Rattle.layout_rules.proofs.Length.{sized}
 use native.Mathlib.Omega.{arith}
 use borrow.Author.Needs.{needs}

@@ -1,3 +1,4 @@
+-- Five numbers, each as the directory has it.
 use Rattle.lists.specs.Span.{span}
 use borrow.Author.Needs.{needs}
 use Rattle.layout.proofs.section_lengths.Statement.{statement}

@@ -1,3 +1,4 @@
+-- The same 16 bits read as a signed number.
 use Rattle.layout_rules.proofs.Number.{read-fits, read}
 use borrow.Author.Needs.{needs}
 use Rattle.layout.proofs.signed.Statement.{statement}

@@ -1,3 +1,4 @@
+-- Two bytes, each below 256.
 use native.Mathlib.Omega.{arith}
 use Rattle.layout_rules.specs.Number.{unsignedAt}
 use borrow.Author.Needs.{needs}

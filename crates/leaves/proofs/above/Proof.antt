@@ -1,3 +1,4 @@
+-- A word that lies in section 4 is compared with the window as a number, any other byte by byte; both say the same of the code.
 use Rattle.leaves.proofs.Comparison.{window-read, numbers-read}
 use native.Mathlib.Omega.{arith}
 use Prim.Native.Nat.{min}

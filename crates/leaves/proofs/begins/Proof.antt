@@ -1,3 +1,4 @@
+-- A word begins the window where no place of it differs.
 use borrow.Author.Tests.{leb-true}
 use Rattle.leaves.proofs.Comparison.{begins-read}
 use borrow.Author.Needs.{needs}

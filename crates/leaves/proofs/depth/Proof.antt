@@ -1,3 +1,4 @@
+-- After some leaves the longest is the largest of their lengths.
 use mathlib.Core.Logic.{⊎-elim}
 use mathlib.Core.Path.{_≡_, refl}
 use Prim.Native.Nat.{_≤_, _-_}

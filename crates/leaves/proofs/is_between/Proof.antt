@@ -1,3 +1,4 @@
+-- The words at both ends of the part say whether the leaf must be in it.
 use Rattle.leaves.proofs.Search.{between-tried}
 use Rattle.leaf_rules.specs.Leaf.{codeOf}
 use Rattle.lists.proofs.Test.{clash}

@@ -1,3 +1,4 @@
+-- Each test that is passed is one of the three facts.
 use borrow.Author.Tests.{leb-true}
 use native.Mathlib.Omega.{arith}
 use Rattle.lists.proofs.Test.{clash}

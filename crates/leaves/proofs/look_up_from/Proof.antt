@@ -1,3 +1,4 @@
+-- A guessed leaf that begins the window is the one; else the search says it.
 use Rattle.leaves.proofs.Search.{begins-looked-up}
 use Rattle.leaf_rules.specs.Leaf.{codeOf}
 use native.Mathlib.Omega.{arith}

@@ -1,3 +1,4 @@
+-- The part is searched where it must have the leaf, else all leaves are.
 use Rattle.leaves.specs.Search.{Between}
 use Rattle.leaf_rules.specs.Leaf.{codeOf}
 use native.Mathlib.Omega.{arith}

@@ -1,3 +1,4 @@
+-- At the first difference the bytes decide; where there is none the answer is no.
 use native.Mathlib.Omega.{arith}
 use borrow.Author.Needs.{needs}
 use Rattle.leaves.proofs.Comparison.{lower-differs, lower-same}

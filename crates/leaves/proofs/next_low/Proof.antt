@@ -1,3 +1,4 @@
+-- The comparison chooses one of the two numbers of the definition.
 use Rattle.leaves.proofs.Search.{next-lower, next-upper}
 use Rattle.leaf_rules.specs.Leaf.{codeOf}
 use mathlib.Core.Path.{sym, _∙_}

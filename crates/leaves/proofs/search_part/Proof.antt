@@ -1,3 +1,4 @@
+-- The leaf stays between the two ends; where they are one apart it is the lower one.
 use Rattle.leaves.proofs.Search.{between-next, between-one}
 use Rattle.leaves.specs.Search.{Between}
 use Rattle.leaf_rules.specs.Leaf.{codeOf}

@@ -1,3 +1,4 @@
+-- Section 3 read where there is such a leaf, zero elsewhere.
 use mathlib.Core.Path.{_∙_}
 use native.Mathlib.Omega.{arith}
 use borrow.Author.Needs.{needs}

@@ -1,3 +1,4 @@
+-- The part of section 4 by its bounds as read; nothing where there is no such leaf or it points outside.
 use native.Mathlib.Omega.{arith}
 use borrow.Author.Needs.{needs}
 use Rattle.leaf_rules.proofs.Leaf.{word-missing, word-outside, word-read}

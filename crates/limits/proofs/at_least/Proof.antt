@@ -1,3 +1,4 @@
+-- The bits of both are in it.
 use lib.Bits.{or-add-and, and-le-l, and-le-r}
 use native.Mathlib.Omega.{arith}
 use Rattle.limits.proofs.at_least.Statement.{statement}

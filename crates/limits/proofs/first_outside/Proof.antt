@@ -1,3 +1,4 @@
+-- A scan: what is left of the numbers gives the answer of all of them.
 use mathlib.Core.Path.{_≡_, sym, _∙_}
 use native.Mathlib.Nat.{sub-zero}
 use Rattle.layout_rules.proofs.Limit.{number-inside, number-outside, number-within}

@@ -1,3 +1,4 @@
+-- Four sections in turn: the checks that are left give the answer of all of them.
 use Rattle.layout_rules.proofs.Limit.{handed-on}
 use Rattle.layout_rules.proofs.Laid.{laid}
 use Rattle.layout_rules.specs.Limit.{limitCheckOf, limitCheck}

@@ -1,3 +1,4 @@
+-- The quick look says that no number is outside; else the first that is.
 use denote.Ref.{now}
 use lib.ListN.{length}
 use mathlib.Core.Path.{refl}

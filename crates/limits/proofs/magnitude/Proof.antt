@@ -1,3 +1,4 @@
+-- Below and from 32,768 on the size is that of the signed number.
 use Rattle.layout_rules.proofs.Number.{size-low, size-high}
 use Rattle.layout_rules.specs.Number.{toSigned}
 use lib.IntN.{natAbs}

@@ -1,3 +1,4 @@
+-- What is collected so far is at least each raised number passed, so below 65,536 all of them are.
 use native.Mathlib.Nat.{div-le-self}
 use mathlib.Core.Path.{refl}
 use Rattle.layout_rules.proofs.Limit.{record-ends, AllowedBefore, allowed-next, allowed-all}

@@ -1,3 +1,4 @@
+-- Record and part of the m-th number, by division.
 use Rattle.layout_rules.specs.Limit.{numberPlace}
 use native.Mathlib.Omega.{arith}
 use mathlib.Core.Path.{refl}

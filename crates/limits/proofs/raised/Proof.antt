@@ -1,3 +1,4 @@
+-- The remainder is at most twice the limit exactly where the signed number is within it.
 use native.Mathlib.Omega.{arith}
 use Rattle.layout_rules.specs.Number.{unsignedAt}
 use Rattle.layout_rules.proofs.Limit.{raised-within}

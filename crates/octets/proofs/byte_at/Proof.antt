@@ -1,3 +1,4 @@
+-- Inside the bytes it is read, outside the default stands.
 use mathlib.Core.Path.{sym}
 use lib.ListN.{List·getD-eq-default}
 use borrow.Author.Needs.{needs}

@@ -1,3 +1,4 @@
+-- The highest so far is at least each byte passed.
 use borrow.Author.Count.{below-more}
 use lib.ListN.{length, getD}
 use native.Mathlib.Omega.{arith}

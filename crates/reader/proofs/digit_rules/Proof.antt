@@ -1,3 +1,4 @@
+-- The stage on the parts that the sections are.
 use Rattle.reader_rules.proofs.Kept.{layout-kept}
 use Rattle.reader_rules.specs.Table.{basePart, alphabetPart, inputPart}
 use Rattle.reader_rules.specs.Check.{digitCheckOf}

@@ -1,3 +1,4 @@
+-- Three checks in turn: the first that finds something is the answer.
 use Rattle.reader_rules.proofs.Kept.{stage-nothing, directory-room}
 use Rattle.reader_rules.specs.Check.{layoutCheck}
 use Rattle.layout_rules.specs.Limit.{limitCheck}

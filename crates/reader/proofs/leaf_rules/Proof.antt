@@ -1,3 +1,4 @@
+-- The stage on the parts that the sections are, with the count of input digits.
 use Rattle.layout_rules.specs.Section.{recordCount}
 use Rattle.reader_rules.proofs.Kept.{layout-kept}
 use Rattle.reader_rules.specs.Check.{leafCheckOf}

@@ -1,3 +1,4 @@
+-- Where nothing is found the facts, else the fault in the author's name.
 use Rattle.reader_rules.proofs.Kept.{stage-nothing, table-kept}
 use Rattle.reader_rules.specs.Table.{tableFacts}
 use Rattle.reader_rules.specs.Check.{layoutCheck, digitCheckOf, leafCheckOf, tableCheck, readOutcome}

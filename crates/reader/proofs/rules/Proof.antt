@@ -1,3 +1,4 @@
+-- Three stages in turn: the first that finds something is the answer.
 use Rattle.reader_rules.proofs.Kept.{stage-nothing}
 use Rattle.reader_rules.specs.Check.{layoutCheck, digitCheckOf, tableCheck}
 use Rattle.faults.proofs.Check.{found-first, found-next}

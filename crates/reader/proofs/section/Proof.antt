@@ -1,3 +1,4 @@
+-- The part between start and end, as they are read.
 use Rattle.reader_rules.proofs.Kept.{directory-room, section-room}
 use lib.ListN.{take, drop}
 use native.Mathlib.Omega.{arith}

@@ -1,3 +1,4 @@
+-- Start, end and count as they are read.
 use Rattle.reader_rules.specs.Table.{partFacts}
 use Rattle.layout_rules.specs.Section.{recordCount}
 use mathlib.Core.Path.{_≡_, ap, _∙_}

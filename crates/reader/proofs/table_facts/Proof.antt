@@ -1,3 +1,4 @@
+-- Five sections and the depth, field by field.
 use Rattle.reader_rules.specs.Table.{wordPart, tableFacts}
 use Rattle.leaf_rules.specs.Leaf.{codeOf}
 use Rattle.numeration.specs.Code.{depth}

@@ -1,3 +1,4 @@
+-- The slot's place is far inside 64 bits; below 0 the slot is 0, else the remainder.
 use Rattle.slots.proofs.Slot.{slot-below, slot-above}
 use Rattle.slots.specs.Slot.{slotPlace}
 use Rattle.ring.proofs.Parts.{entry, constant}
