@@ -1,10 +1,12 @@
--- With a table that the check accepts the edit never says 27; and what demand 3's statement says of the bytes behind the sum row.
-use mathlib.Core.Path.{_≡_}
+-- With a table that the check accepts the edit never says 27; and what demand 3's statement says of the bytes behind the sum row and of
+-- the whole list.
+use mathlib.Core.Path.{_≡_, subst}
 use mathlib.Core.List.{List}
 use mathlib.Core.Logic.{inl, inr}
 use Prim.Native.Nat.{ℕ, _<_, _≤_}
 use native.Mathlib.Omega.{arith}
 use lib.ListN.{length, drop}
+use lib.Seq.{take-all}
 use Rattle.lists.proofs.Entries.{rest-same}
 use Rattle.faults.specs.Outcome.{Group, facts, refused}
 use Rattle.faults.specs.Rule.{Rule, AllKept}
@@ -29,7 +31,8 @@ use Rattle.edit_rules.specs.Edit.{editOutcome}
 use Rattle.edit_rules.specs.State.{newInputs}
 use Rattle.edit_rules.specs.State.{State}
 use Rattle.edit_rules.specs.Broken.{editStages}
-use Rattle.edit_rules.specs.Follows.{Follows}
+use Rattle.edit_rules.specs.Run.{run}
+use Rattle.edit_rules.specs.Follows.{Follows, ListFollows}
 use Rattle.edit_rules.proofs.Renewed.{new-fit}
 use Rattle.edit_rules.proofs.Demand.{demand-1}
 
@@ -65,3 +68,7 @@ never-27 file accepted e s g p is = go (demand-1 file e s .first g 27 p (omega a
 -- the bytes behind the sum row are the buffer's own, as one part
 pub rest-kept : (file : List ℕ) (s : State) (es : List Change) (now : State) → Follows file s es now → drop (placeCount file (s .first)) (now .sum) ≡ drop (placeCount file (s .first)) (s .sum)
 rest-kept file s es now is = rest-same (now .sum) (s .sum) (placeCount file (s .first)) (is .long) (is .further)
+
+-- every prefix, the whole list among them
+pub whole-list : (file : List ℕ) (s : State) (es : List Change) → ListFollows file s es → Follows file s es (run file s es .buffers)
+whole-list file s es is = subst (λ (all : List Change). Follows file s all (run file s all .buffers)) (take-all (length es) es (omega arith)) (is .after (length es) (omega arith))
