@@ -45,7 +45,11 @@ loop-less : tie.Need-loop-less Inv-loop μ-loop
 loop-less c = omega arith
 
 loop-again : tie.Need-loop-again Inv-loop μ-loop
-loop-again c = (omega arith, omega arith, λ numbers covers. run-more numbers (c .before .before .before .before .before .args .count) (c .before .before .before .before .before .args .sets .now) (c .before .before .before .before .before .args .start) (c .before .before .before .before .loop .set) (c .before .before .before .before .loop .leaf) 8 (c .before .before .before .loop-test .taken) covers (c .before .before .before .before .loop .inv .2 numbers covers))
+loop-again c =
+    let a = c .before .before .before .before .before .args in
+    let loop = c .before .before .before .before .loop in
+    (omega arith, omega arith,
+    λ numbers covers. run-more numbers (a .count) (a .sets .now) (a .start) (loop .set) (loop .leaf) 8 (c .before .before .before .loop-test .taken) covers (loop .inv .2 numbers covers))
 
 returns-2 : tie.Need-returns-2 Inv-loop μ-loop
 returns-2 c = c .before .loop .inv

@@ -44,7 +44,14 @@ loop-less : tie.Need-loop-less Inv-loop μ-loop
 loop-less c = omega arith
 
 loop-again : tie.Need-loop-again Inv-loop μ-loop
-loop-again c = (omega arith, omega arith, λ start before. run-next (c .before .before .before .before .before .before .before .before .before .args .numbers .now) (c .before .before .before .before .before .before .before .before .before .args .count) start (c .before .before .before .before .before .before .loop .set) (c .before .before .before .before .before .before .loop .leaf) (c .single .result) (subst (λ (x : ℕ). Has x (getD (c .before .before .before .before .before .before .before .before .before .args .numbers .now) (c .before .before .before .before .before .before .loop .leaf) 0)) (sym (c .single .ensures ∙ ap (λ (n : ℕ). 2 ^ n) (c .before .wide .ensures .0))) (has-single (getD (c .before .before .before .before .before .before .before .before .before .args .numbers .now) (c .before .before .before .before .before .before .loop .leaf) 0))) (c .before .before .before .before .before .before .loop .inv .2 start before))
+loop-again c =
+    let a = c .before .before .before .before .before .before .before .before .before .args in
+    let numbers = a .numbers .now in
+    let loop = c .before .before .before .before .before .before .loop in
+    (omega arith, omega arith,
+    λ start before. run-next numbers (a .count) start (loop .set) (loop .leaf) (c .single .result)
+    (subst (λ (x : ℕ). Has x (getD numbers (loop .leaf) 0)) (sym (c .single .ensures ∙ ap (λ (n : ℕ). 2 ^ n) (c .before .wide .ensures .0))) (has-single (getD numbers (loop .leaf) 0)))
+    (loop .inv .2 start before))
 
 returns-2 : tie.Need-returns-2 Inv-loop μ-loop
 returns-2 c = (c .before .loop .inv .0, c .before .loop .inv .1, λ h. absurd (omega arith), c .before .loop .inv .2)
