@@ -31,7 +31,9 @@ pub fn wide(x: u8) -> usize
 // too high a one where the slot has another weight.
 fn number_in(leaves: &[u8], first: &[usize], count: usize, leaf: usize, number: usize) -> usize
     requires { ⌜ (count ≤ 64) × (count ≤ length (now first)) ⌝ }
-    ensures { λ r. ⌜ ((r < 64 → r ≤ count) × (r < count → weightGiven (now (leaves .entry)) (getD (now (first .entry)) r 0) ≡ weightGiven (now (leaves .entry)) leaf)) ⌝ }
+    ensures within { λ r. ⌜ (r < 64 → r ≤ count) ⌝ }
+    ensures same { λ r. ⌜ (r < count
+        → weightGiven (now (leaves .entry)) (getD (now (first .entry)) r 0) ≡ weightGiven (now (leaves .entry)) leaf) ⌝ }
 {
     if count <= number {
         return count;
@@ -178,8 +180,14 @@ pub fn judged(
     made: &mut [usize; WEIGHTS],
     good: &mut [u64; WEIGHTS],
 ) -> u64
-    requires { ⌜ RowsWithin (2 ^ 24) base × Slotted (now alphabet) (now slots) × (getD (wordGiven (now leaves) (now words) upper) 0 0 < elementCount (now inputs)) × (number < 64) × (count ≤ 64) × (count ≤ length (now first)) × (weightGiven (now leaves) (getD (now first) number 0) ≡ weightGiven (now leaves) upper) × Judged base (now alphabet) (now inputs) (now leaves) (now first) (now made) (now good) ⌝ }
-    ensures { λ r. ⌜ Good (now (alphabet .entry)) (now (leaves .entry)) (now (first .entry)) (upperPart base (now (inputs .entry)) (now (leaves .entry)) (now (words .entry)) upper) r × Judged base (now (alphabet .entry)) (now (inputs .entry)) (now (leaves .entry)) (now (first .entry)) (now (made .exit)) (now (good .exit)) ⌝ }
+    requires { ⌜ RowsWithin (2 ^ 24) base × Slotted (now alphabet) (now slots)
+        × (getD (wordGiven (now leaves) (now words) upper) 0 0 < elementCount (now inputs)) × (number < 64) × (count ≤ 64)
+        × (count ≤ length (now first)) × (weightGiven (now leaves) (getD (now first) number 0) ≡ weightGiven (now leaves) upper)
+        × Judged base (now alphabet) (now inputs) (now leaves) (now first) (now made) (now good) ⌝ }
+    ensures good { λ r. ⌜ Good (now (alphabet .entry)) (now (leaves .entry)) (now (first .entry))
+        (upperPart base (now (inputs .entry)) (now (leaves .entry)) (now (words .entry)) upper) r ⌝ }
+    ensures kept { λ r. ⌜ Judged base (now (alphabet .entry)) (now (inputs .entry)) (now (leaves .entry)) (now (first .entry))
+        (now (made .exit)) (now (good .exit)) ⌝ }
 {
     let digit = wide(leaves::byte_at(leaves::word(leaves, words, upper), 0)) + 1;
     if made[number] == digit {

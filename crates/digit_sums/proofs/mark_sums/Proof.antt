@@ -43,7 +43,14 @@ loop-less : tie.Need-loop-less Inv-loop μ-loop
 loop-less c = omega arith
 
 loop-again : tie.Need-loop-again Inv-loop μ-loop
-loop-again c = (omega arith, sym (scan-on _ _ _ (c .before .before .loop-test .taken) (found-listed _ _ _ (located-finds _ _ _) _ _ _ (c .before .locate .ensures) (omega (arith, c .before .before .before .before .record-count .ensures)))) ∙ c .before .before .before .loop .inv .1, one-marked _ _ _ _ _ _ (c .before .before .before .loop .inv .2) (c .before .before .before .before .before .before .before .pre .0) (omega arith) (c .before .locate .ensures))
+loop-again c =
+    let pre = c .before .before .before .before .before .before .before .pre in
+    let record-count = c .before .before .before .before .record-count in
+    let loop = c .before .before .before .loop in (
+      omega arith,
+      sym (scan-on _ _ _ (c .before .before .loop-test .taken) (found-listed _ _ _ (located-finds _ _ _) _ _ _ (c .before .locate .ensures) (omega (arith, record-count .ensures)))) ∙ loop .inv .1,
+      one-marked _ _ _ _ _ _ (loop .inv .2) (pre .0) (omega arith) (c .before .locate .ensures),
+    )
 
 returns-2 : tie.Need-returns-2 Inv-loop μ-loop
 unfolding sumsListed

@@ -9,13 +9,14 @@ use Rattle.pair_sets.proofs.by_eights.Statement.{statement}
 use Rattle.pair_sets.proofs.by_eights.Tie as tie
 
 abbrev Inv-loop : tie.InvT-loop
-Inv-loop keys sets count start last set₀ leaf₀ set leaf = (start ≤ leaf) × (leaf ≤ count) × ((numbers : List ℕ) → Covers numbers sets count 8 → InRun numbers start set leaf)
+Inv-loop keys sets count start last set₀ leaf₀ set leaf =
+    ((start ≤ leaf) × (leaf ≤ count)) × ((numbers : List ℕ) → Covers numbers sets count 8 → InRun numbers start set leaf)
 
 abbrev μ-loop : tie.MeasureT-loop
 μ-loop keys sets count start last set₀ leaf₀ set leaf = count - leaf
 
 loop-holds : tie.Need-loop-holds Inv-loop μ-loop
-loop-holds c = (omega arith, omega arith, λ numbers covers k low high. absurd (omega arith))
+loop-holds c = ((omega arith, omega arith), λ numbers covers k low high. absurd (omega arith))
 
 add-loop : tie.Need-add-loop Inv-loop μ-loop
 add-loop c = omega arith
@@ -47,9 +48,10 @@ loop-less c = omega arith
 loop-again : tie.Need-loop-again Inv-loop μ-loop
 loop-again c =
     let a = c .before .before .before .before .before .args in
-    let loop = c .before .before .before .before .loop in
-    (omega arith, omega arith,
-    λ numbers covers. run-more numbers (a .count) (a .sets .now) (a .start) (loop .set) (loop .leaf) 8 (c .before .before .before .loop-test .taken) covers (loop .inv .2 numbers covers))
+    let loop = c .before .before .before .before .loop in (
+      (omega arith, omega arith),
+      λ numbers covers. run-more numbers (a .count) (a .sets .now) (a .start) (loop .set) (loop .leaf) 8 (c .before .before .before .loop-test .taken) covers (loop .inv .1 numbers covers),
+    )
 
 returns-2 : tie.Need-returns-2 Inv-loop μ-loop
 returns-2 c = c .before .loop .inv

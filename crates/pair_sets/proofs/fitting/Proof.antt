@@ -37,7 +37,7 @@ one-by-one-requires : tie.Need-one-by-one-requires
 one-by-one-requires c κs =
     let pre = c .before .before .before .before .before .before .before .before .before .before .before .pre in
     let leaf-count = c .before .before .before .before .before .before .leaf-count in
-    (omega (arith, leaf-count .ensures), omega (arith, leaf-count .ensures), c .by-eights .ensures .1, λ k h. pre .7 k (omega (arith, leaf-count .ensures)))
+    (omega (arith, leaf-count .ensures), omega (arith, leaf-count .ensures), c .by-eights .ensures .0 .1, λ k h. pre .7 k (omega (arith, leaf-count .ensures)))
 
 returns-2 : tie.Need-returns-2
 returns-2 c =
@@ -49,12 +49,13 @@ returns-2 c =
     let leaf-count = c .before .before .before .before .before .before .before .leaf-count in
     let word-length = c .before .before .before .before .before .before .word-length in
     let behind = c .before .before .before .behind in
-    let start-of = c .before .before .start-of in
-    (omega (arith, c .one-by-one .ensures .1, leaf-count .ensures),
-    λ words ready keyed. run-has (a .leaves .now) words ready upper (pre .3) keys numbers keyed ((getD keys upper 0 * 2 ^ 8) % 2 ^ 64) (behind .result) (start-of .result) (c .one-by-one .result .set)
-    (c .one-by-one .result .end) refl (behind .ensures ∙ ap (λ (n : ℕ). 256 ^ (8 - pred n)) (word-length .ensures .0))
-    (λ h. let e = start-of .ensures .1 h in (omega (arith, e .0, leaf-count .ensures), e .1)) (λ h. c .one-by-one .ensures .2 (omega (arith, leaf-count .ensures)))
-    (c .one-by-one .ensures .3 (start-of .result) (c .before .by-eights .ensures .2 numbers (subst (λ (n : ℕ). Covers numbers (a .sets .now) n 8) (sym (leaf-count .ensures)) (pre .8)))))
+    let start-of = c .before .before .start-of in (
+      omega (arith, c .one-by-one .ensures .0 .1, leaf-count .ensures),
+      λ words ready keyed. run-has (a .leaves .now) words ready upper (pre .3) keys numbers keyed ((getD keys upper 0 * 2 ^ 8) % 2 ^ 64) (behind .result) (start-of .result) (c .one-by-one .result .set)
+          (c .one-by-one .result .end) refl (behind .ensures ∙ ap (λ (n : ℕ). 256 ^ (8 - pred n)) (word-length .ensures .0))
+          (λ h. let e = start-of .ensures .1 h in (omega (arith, e .0, leaf-count .ensures), e .1)) (λ h. c .one-by-one .ensures .0 .2 (omega (arith, leaf-count .ensures)))
+          (c .one-by-one .ensures .1 (start-of .result) (c .before .by-eights .ensures .1 numbers (subst (λ (n : ℕ). Covers numbers (a .sets .now) n 8) (sym (leaf-count .ensures)) (pre .8)))),
+    )
 
 pub fitting-spec : {M : Type 1} → statement M
 fitting-spec =

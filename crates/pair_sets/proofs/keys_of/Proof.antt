@@ -32,10 +32,11 @@ word-number-requires : tie.Need-word-number-requires Inv-loop μ-loop
 word-number-requires c κs =
     let pre = c .before .before .before .before .before .before .before .before .pre in
     let leaf-count = c .before .before .before .before .leaf-count in
-    let loop = c .before .before .before .loop in
-    (omega (arith, c .word-length .ensures .0, pre .1 .some (loop .leaf) (omega (arith, leaf-count .ensures))),
-    omega (arith, c .word-length .ensures .0, pre .1 .short (loop .leaf) (omega (arith, leaf-count .ensures))),
-    omega (arith, c .word-length .ensures .0, c .before .word-start .ensures .0, pre .1 .inside (loop .leaf) (omega (arith, leaf-count .ensures))))
+    let loop = c .before .before .before .loop in (
+      omega (arith, c .word-length .ensures .0, pre .1 .some (loop .leaf) (omega (arith, leaf-count .ensures))),
+      omega (arith, c .word-length .ensures .0, pre .1 .short (loop .leaf) (omega (arith, leaf-count .ensures))),
+      omega (arith, c .word-length .ensures .0, c .before .word-start .ensures .0, pre .1 .inside (loop .leaf) (omega (arith, leaf-count .ensures))),
+    )
 
 mul-keys : tie.Need-mul-keys Inv-loop μ-loop
 mul-keys c = omega arith
@@ -54,10 +55,11 @@ loop-again c =
     let a = c .before .before .before .before .before .before .before .before .before .args in
     let words = a .words .now in
     let leaf-count = c .before .before .before .before .before .leaf-count in
-    let loop = c .before .before .before .before .loop in
-    (length-set (loop .keys) _ _ ∙ loop .inv .0,
-    entry-next (λ k x. x ≡ wordNumber (a .leaves .now) words k) (loop .keys) (loop .leaf) (c .word-number .result) (omega (arith, leaf-count .ensures, loop .inv .0)) (loop .inv .1)
-    (c .word-number .ensures ∙ (λ i. aligned 256 (λ j. getD words (c .before .before .word-start .ensures .0 i + j) 0) (c .before .word-length .ensures .0 i))))
+    let loop = c .before .before .before .before .loop in (
+      length-set (loop .keys) _ _ ∙ loop .inv .0,
+      entry-next (λ k x. x ≡ wordNumber (a .leaves .now) words k) (loop .keys) (loop .leaf) (c .word-number .result) (omega (arith, leaf-count .ensures, loop .inv .0)) (loop .inv .1)
+          (c .word-number .ensures ∙ (λ i. aligned 256 (λ j. getD words (c .before .before .word-start .ensures .0 i + j) 0) (c .before .word-length .ensures .0 i))),
+    )
 
 same-length : tie.Need-same-length Inv-loop μ-loop
 same-length c = omega arith

@@ -46,10 +46,11 @@ eights-requires c κs =
     let pre = c .before .before .before .before .before .before .before .before .before .before .before .before .before .before .before .before .before .before .before .before .before .before .pre in
     let number-weights = c .before .before .before .before .before .before .before .before .before .before .before .number-weights in
     let numbers = c .before .before .before .before .before .before .before .before .before .before .numbers in
-    let if1 = c .before .before .before .before .before .before .before .if1 in
-    (omega (arith, c .before .leaf-count .ensures, numbers .given, pre .5),
-    omega (arith, c .before .leaf-count .ensures, pre .4),
-    λ k h. omega (arith, number-weights .ensures (omega (arith, if1 .left)) k (omega (arith, c .before .leaf-count .ensures)) .0, if1 .left))
+    let if1 = c .before .before .before .before .before .before .before .if1 in (
+      omega (arith, c .before .leaf-count .ensures, numbers .given, pre .5),
+      omega (arith, c .before .leaf-count .ensures, pre .4),
+      λ k h. omega (arith, number-weights .ensures (omega (arith, if1 .left)) k (omega (arith, c .before .leaf-count .ensures)) .0, if1 .left),
+    )
 
 base-of-requires : tie.Need-base-of-requires
 base-of-requires c κs = search needs
@@ -70,12 +71,19 @@ all-in-requires c κs =
     let leaf-count = c .before .before .before .before .before .before .before .before .before .leaf-count in
     let eights = c .before .before .before .before .before .before .before .eights in
     let sets = c .before .before .before .before .before .before .sets in
-    let base-of = c .before .before .before .before .base-of in
-    (subst (RowsWithin (2 ^ 24)) (sym (base-of .ensures)) (base-within (a .base .now) (pre .0)), pre .1, pre .2,
-    omega (arith, keys .given, pre .3), omega (arith, numbers .given, pre .5), omega (arith, sets .given, pre .4),
-    omega (arith, if1 .left), omega (arith, if1 .left, first2 .given), keys-of .ensures,
-    number-weights .ensures (omega (arith, if1 .left)),
-    λ l k h there. eights .ensures l k h (omega (arith, there, leaf-count .ensures)))
+    let base-of = c .before .before .before .before .base-of in (
+      subst (RowsWithin (2 ^ 24)) (sym (base-of .ensures)) (base-within (a .base .now) (pre .0)),
+      pre .1,
+      pre .2,
+      omega (arith, keys .given, pre .3),
+      omega (arith, numbers .given, pre .5),
+      omega (arith, sets .given, pre .4),
+      omega (arith, if1 .left),
+      omega (arith, if1 .left, first2 .given),
+      keys-of .ensures,
+      number-weights .ensures (omega (arith, if1 .left)),
+      λ l k h there. eights .ensures l k h (omega (arith, there, leaf-count .ensures)),
+    )
 
 same-length-2 : tie.Need-same-length-2
 same-length-2 c = search needs

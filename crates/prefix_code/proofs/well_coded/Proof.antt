@@ -41,8 +41,11 @@ numbered-requires c κs = (omega (arith, c .before .before .before .before .befo
 -- src/lib.rt:83:1
 returns-5 : tie.Need-returns-5
 returns-5 c =
+    let a = c .before .before .before .before .before .before .before .before .before .before .args in
+    let if1 = c .before .before .before .before .before .before .before .if1 in
+    let if2 = c .before .before .before .before .before .before .if2 in
     λ t. let n = c .numbered .ensures t in
-    code-kept (c .before .before .before .before .before .before .before .before .before .before .args .leaves .now) (c .before .before .before .before .before .before .before .before .before .before .args .words .now) (c .before .before .before .before .before .before .before .before .before .before .args .inputs) (omega (arith, c .before .before .before .before .before .before .before .if1 .left)) (omega (arith, c .before .before .before .before .before .before .if2 .left)) (n .0) (λ k h. omega (arith, c .before .before .before .highest .ensures k h, c .before .before .wide .ensures, c .before .if4 .left)) (n .1)
+    code-kept (a .leaves .now) (a .words .now) (a .inputs) (omega (arith, if1 .left)) (omega (arith, if2 .left)) (n .0) (λ k h. omega (arith, c .before .before .before .highest .ensures k h, c .before .before .wide .ensures, c .before .if4 .left)) (n .1)
 
 pub well-coded-spec : {M : Type 1} → statement M
 well-coded-spec =

@@ -30,7 +30,12 @@ lower-requires : tie.Need-lower-requires
 lower-requires c κs = search needs
 
 returns : tie.Need-returns
-returns c = c .lower .ensures ∙ words-read (c .before .before .before .before .before .before .before .before .args .leaves .now) (c .before .before .before .before .before .before .before .before .args .words .now) _ _ _ _ _ (c .before .before .before .before .before .word-start .ensures .0) (c .before .before .before .before .word-start2 .ensures .0) (c .before .least .ensures ∙ ap₂ min (c .before .before .before .word-length .ensures .0) (c .before .before .word-length2 .ensures .0))
+returns c =
+    let a = c .before .before .before .before .before .before .before .before .args in
+    let word-start = c .before .before .before .before .before .word-start in
+    let word-start2 = c .before .before .before .before .word-start2 in
+    c .lower .ensures ∙ words-read (a .leaves .now) (a .words .now) _ _ _ _ _ (word-start .ensures .0) (word-start2 .ensures .0)
+    (c .before .least .ensures ∙ ap₂ min (c .before .before .before .word-length .ensures .0) (c .before .before .word-length2 .ensures .0))
 
 pub precedes-spec : {M : Type 1} → statement M
 precedes-spec =

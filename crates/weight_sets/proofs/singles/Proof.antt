@@ -40,7 +40,14 @@ loop-less : tie.Need-loop-less Inv-loop μ-loop
 loop-less c = omega arith
 
 loop-again : tie.Need-loop-again Inv-loop μ-loop
-loop-again c = (length-set (c .before .before .before .before .loop .sets) _ _ ∙ c .before .before .before .before .loop .inv .0, entry-next (λ k x. Has x (getD (c .before .before .before .before .before .before .before .args .numbers .now) k 0)) (c .before .before .before .before .loop .sets) (c .before .before .before .before .loop .leaf) (c .single .result) (omega (arith, c .before .before .before .before .loop .inv .0)) (c .before .before .before .before .loop .inv .1) (subst (λ (x : ℕ). Has x (getD (c .before .before .before .before .before .before .before .args .numbers .now) (c .before .before .before .before .loop .leaf) 0)) (sym (c .single .ensures ∙ ap (λ (n : ℕ). 2 ^ n) (c .before .wide .ensures .0))) (has-single (getD (c .before .before .before .before .before .before .before .args .numbers .now) (c .before .before .before .before .loop .leaf) 0))))
+loop-again c =
+    let a = c .before .before .before .before .before .before .before .args in
+    let numbers = a .numbers .now in
+    let loop = c .before .before .before .before .loop in (
+      length-set (loop .sets) _ _ ∙ loop .inv .0,
+      entry-next (λ k x. Has x (getD numbers k 0)) (loop .sets) (loop .leaf) (c .single .result) (omega (arith, loop .inv .0)) (loop .inv .1)
+          (subst (λ (x : ℕ). Has x (getD numbers (loop .leaf) 0)) (sym (c .single .ensures ∙ ap (λ (n : ℕ). 2 ^ n) (c .before .wide .ensures .0))) (has-single (getD numbers (loop .leaf) 0))),
+    )
 
 same-length : tie.Need-same-length Inv-loop μ-loop
 same-length c = omega arith
