@@ -1,3 +1,4 @@
+-- What is found from here with so many links left is what is found from the first one.
 use Rattle.digit_sums.proofs.Marks.{follow-out, follow-here, follow-on, follow-end}
 use Rattle.digit_sums.specs.Marks.{followed}
 use denote.Ref.{now}

@@ -1,3 +1,4 @@
+-- All sums passed are listed, and each mark is at the index of a sum; at the end all are marked.
 use Rattle.digit_sums.proofs.Marks.{located-finds, none-marked, all-kept}
 use Rattle.digit_sums.specs.Marks.{located, Marked}
 use Rattle.digit_rules.specs.Digits.{sumsListed, allSumsListed}

@@ -1,3 +1,4 @@
+-- The sums passed are listed, and each mark is at the index of a sum.
 use Rattle.digit_sums.proofs.Marks.{located-finds, found-listed, one-marked}
 use Rattle.digit_sums.specs.Marks.{located, Marked}
 use Rattle.digit_rules.specs.Digits.{sumListed, sumsListed}

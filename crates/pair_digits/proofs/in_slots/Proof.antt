@@ -1,3 +1,4 @@
+-- Only the digit in the element's slot can be the element.
 use Rattle.pair_digits.proofs.Slots.{slot-none, slot-some}
 use Rattle.ring.specs.Tests.{same}
 use lib.ListN.{getD}

@@ -1,3 +1,4 @@
+-- The digits passed have slots of their own.
 use Rattle.pair_digits.proofs.Slots.{slot-next}
 use Rattle.slots.specs.Slot.{slotOf}
 use Rattle.pair_digits.specs.Slots.{SlottedBefore}

@@ -1,3 +1,4 @@
+-- All upper leaves passed so far pass: the weights of all that fit one are among those that give digits with it.
 use Rattle.leaf_rules.specs.Leaf.{weightGiven}
 use borrow.Author.Tests.{not-false}
 use Rattle.digit_rules.specs.Record.{elementCount}

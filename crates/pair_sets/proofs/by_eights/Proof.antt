@@ -1,3 +1,4 @@
+-- The set has the weights of all leaves from the start up to this one, since each eight joined to it has its own.
 use Rattle.pair_sets.proofs.Runs.{run-more}
 use Prim.Native.Nat.{ℕ, _-_, _≤_}
 use native.Mathlib.Omega.{arith}

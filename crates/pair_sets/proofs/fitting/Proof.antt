@@ -1,3 +1,4 @@
+-- A run that starts early enough and ends late enough has all leaves that fit, and its set their weights.
 use Rattle.pair_sets.proofs.Keys.{run-has}
 use Rattle.weight_sets.specs.Weights.{Covers}
 use mathlib.Core.Path.{refl, sym, ap, subst, _∙_}

@@ -1,3 +1,4 @@
+-- The leaves passed have their words' numbers.
 use Rattle.radix.specs.Number.{aligned}
 use Rattle.pair_sets.specs.Runs.{wordNumber}
 use Rattle.weight_sets.proofs.Weights.{entry-next}

@@ -1,3 +1,4 @@
+-- The weights are numbered, the words are numbers and the eights cover their leaves, which is what the look at all pairs asks for.
 use Rattle.pair_sets.specs.Runs.{AllPass}
 use Rattle.pair_sets.proofs.Keys.{ready-words}
 use Rattle.pair_sets.specs.Runs.{AllPass}

@@ -1,3 +1,4 @@
+-- The set has the weights of all leaves from the start up to this one, and the run ends at the first word above the last one.
 use Rattle.weight_sets.proofs.Bits.{has-single}
 use Rattle.pair_sets.proofs.Runs.{run-next}
 use mathlib.Core.Path.{sym, ap, subst, _∙_}

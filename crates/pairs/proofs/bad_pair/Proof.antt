@@ -25,12 +25,13 @@ abbrev μ-loop : tie.MeasureT-loop
 μ-loop base alphabet inputs leaves words matrix slots known count guess₀ upper₀ guess upper = count - upper
 
 -- the lowest lower leaf of the upper one, by the base's matrix
-lower-is : (c : tie.After-bad-lower Inv-loop μ-loop) → c .bad-lower .result .bad ≡ badLower (c .before .before .before .before .before .before .before .before .before .before .before .before .before .args .base .now) (c .before .before .before .before .before .before .before .before .before .before .before .before .before .args .alphabet .now) (c .before .before .before .before .before .before .before .before .before .before .before .before .before .args .inputs .now) (c .before .before .before .before .before .before .before .before .before .before .before .before .before .args .leaves .now) (c .before .before .before .before .before .before .before .before .before .before .before .before .before .args .words .now) (c .before .before .before .loop .upper)
+lower-is : (c : tie.After-bad-lower Inv-loop μ-loop) →
+    (let a = c .before .before .before .before .before .before .before .before .before .before .before .before .before .args in
+    c .bad-lower .result .bad ≡ badLower (a .base .now) (a .alphabet .now) (a .inputs .now) (a .leaves .now) (a .words .now) (c .before .before .before .loop .upper))
 unfolding badLower
 lower-is c =
-    let before = c .before .before .before .before .before .before .before .before .before .before .before .before .before in
+    let s = c .before .before .before .before .before .before .before .before .before .before .before .before .before in
     let base-of = c .before .before .before .before .before .before .before .base-of in
-    let s = before in
     c .bad-lower .ensures ∙ ap (λ b. firstFailing (pairPasses (elements degree b) (recordAt (s .args .inputs .now)) (codeOf (s .args .leaves .now) (s .args .words .now)) (inAlphabet (s .args .alphabet .now)) (c .before .before .before .loop .upper)) 0 (leafCount (s .args .leaves .now))) (base-of .ensures)
 
 base-of-requires : tie.Need-base-of-requires Inv-loop μ-loop
@@ -56,10 +57,9 @@ bad-lower-requires c κs =
 
 returns : tie.Need-returns Inv-loop μ-loop
 returns c =
-    let a′ = c .before .before .before .before .before .before .before .before .before .before .before .before .before .before .args in
+    let a = c .before .before .before .before .before .before .before .before .before .before .before .before .before .before .args in
     let leaf-count = c .before .before .before .before .before .leaf-count in
     let loop = c .before .before .before .before .loop in
-    let a = a′ in
     pair-found (a .base .now) (a .alphabet .now) (a .inputs .now) (a .leaves .now) (a .words .now) (loop .upper) (c .before .bad-lower .result .bad) (omega (arith, leaf-count .ensures, c .before .before .before .loop-test .taken)) (lower-is (c .before)) (omega (arith, leaf-count .ensures, c .if1 .taken)) (loop .inv)
 
 add-upper : tie.Need-add-upper Inv-loop μ-loop

@@ -1,3 +1,4 @@
+-- Each of the eight entries is the upper word's next digit, or zero behind it.
 use Rattle.lists.specs.Span.{span}
 use mathlib.Core.List.{[], _∷_}
 use borrow.Author.Needs.{needs}

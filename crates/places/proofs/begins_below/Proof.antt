@@ -1,3 +1,4 @@
+-- The word's digits passed are the window's; the first of them is given.
 use mathlib.Core.Path.{refl}
 use Rattle.numeration.specs.Conversion.{window}
 use Rattle.lists.proofs.Test.{clash}

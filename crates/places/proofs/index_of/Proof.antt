@@ -1,3 +1,4 @@
+-- A digit in the element's slot that is the element is its first index; else the search says it, and what it found may stand there.
 use native.Mathlib.Omega.{arith}
 use Prim.Native.Nat.{ℕ, _^_}
 use lib.Dec.{lit≤}

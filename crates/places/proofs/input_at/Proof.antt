@@ -1,3 +1,4 @@
+-- What stands at the pair after the test is the index of the sum, looked for now or before.
 use Rattle.places.proofs.Known.{looked-for, stood-there}
 use Rattle.place_rules.proofs.Place.{sum-index-high}
 use Rattle.places.specs.Helpers.{Known}
@@ -16,7 +17,11 @@ use Rattle.digits.proofs.sum_index.Reads as sum-index-reads
 use Rattle.rows.proofs.byte_at.Reads as byte-at-reads
 
 -- after the test: what stands at the pair
-found : (c : tie.Joined1) → (getD (c .if1 .known) (16 * c .before .before .before .byte-at .result + c .before .before .byte-at2 .result) 0 ≡ sumIndex (c .before .before .before .before .before .before .before .before .before .args .alphabet .now) (c .before .before .before .before .before .before .before .before .before .args .inputs .now) (c .before .before .before .byte-at .result) (c .before .before .byte-at2 .result)) × Known (c .before .before .before .before .before .before .before .before .before .args .alphabet .now) (c .before .before .before .before .before .before .before .before .before .args .inputs .now) (c .if1 .known)
+found : (c : tie.Joined1) →
+    (let a = c .before .before .before .before .before .before .before .before .before .args in
+    (getD (c .if1 .known) (16 * c .before .before .before .byte-at .result + c .before .before .byte-at2 .result) 0 ≡ sumIndex (a .alphabet .now) (a .inputs .now)
+    (c .before .before .before .byte-at .result) (c .before .before .byte-at2 .result))
+    × Known (a .alphabet .now) (a .inputs .now) (c .if1 .known))
 found c =
     let a = c .before .before .before .before .before .before .before .before .before .args in
     let alphabet = a .alphabet .now in

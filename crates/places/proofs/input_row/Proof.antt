@@ -1,3 +1,4 @@
+-- The places passed have their input indexes, and what is known stays true.
 use Rattle.place_rules.proofs.Part.{row-start, row-next}
 use Rattle.places.proofs.Known.{known-none}
 use Rattle.place_rules.specs.Place.{inputAt}
@@ -52,10 +53,9 @@ loop-less c = omega arith
 -- src/lib.rt:59:5
 loop-again : tie.Need-loop-again Inv-loop μ-loop
 loop-again c =
-    let a′ = c .before .before .before .before .before .before .before .before .before .args in
+    let a = c .before .before .before .before .before .before .before .before .before .args in
     let pre = c .before .before .before .before .before .before .before .before .before .pre in
     let loop = c .before .before .before .before .loop in
-    let a = a′ in
     (omega arith, omega arith, row-next (inputAt (a .alphabet .now) (a .inputs .now) (changed (a .change) 0 (a .first .now)) (changed (a .change) 1 (a .second .now))) (a .from) (loop .place) (loop .row) (c .before .input-at .result) (loop .inv .0) (omega (arith, pre .1, c .before .before .before .loop-test .taken)) (loop .inv .2) (c .before .input-at .ensures .0), c .before .input-at .ensures .1)
 
 -- src/lib.rt:44:1

@@ -1,3 +1,4 @@
+-- The guessed leaf where it begins the window, else the one that the search finds: either has the weight into the place.
 use Rattle.places.proofs.Tried.{weight-begun}
 use Rattle.place_rules.proofs.Place.{weight-found}
 use Rattle.leaf_rules.specs.Window.{LookedUp}

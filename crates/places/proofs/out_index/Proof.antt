@@ -1,3 +1,4 @@
+-- The index of the digit that the input digit and the two weights give.
 use Prim.Native.Nat.{_^_}
 use mathlib.Core.Path.{sym, ap, subst, _∙_}
 use Rattle.place_rules.specs.Place.{alphabetIndex}

@@ -1,3 +1,4 @@
+-- Each of the eight entries is the window's digit.
 use mathlib.Core.List.{[], _∷_}
 use Rattle.lists.specs.Span.{span}
 use borrow.Author.Needs.{needs}

@@ -1,3 +1,4 @@
+-- The words passed lie one after the other and rise, and their strings are counted; at the end all strings are.
 use mathlib.Core.Path.{refl}
 use lib.ListN.{getD}
 use native.Mathlib.Omega.{arith}
@@ -89,7 +90,13 @@ add-floor c =
     let word-start = c .before .before .before .before .before .word-start in
     let word-length = c .before .before .before .before .word-length in
     let l = c .before .before .before .lies .ensures (not-false _ (c .before .before .if1 .left)) in
-    omega (arith, floor-room (a .leaves .now) (a .words .now) (a .inputs) (loop .leaf) (loop .end) (loop .floor) (loop .strings) (word-start .result) (word-length .result) (c .before .word-number-by .result) (getD (powers .result) (word-length .result) 0) (getD (powers2 .result) (word-length .result) 0) (loop .inv) (omega (arith, leaf-count .ensures)) (word-start .ensures .0) (word-length .ensures .0) l (c .before .word-number-by .ensures) (powers .ensures (word-length .result) (l .1) (l .2)) (powers2 .ensures (word-length .result) (l .1) (l .2)) (pre .1) (pre .3))
+    omega (
+      arith,
+      floor-room (a .leaves .now) (a .words .now) (a .inputs) (loop .leaf) (loop .end) (loop .floor) (loop .strings) (word-start .result) (word-length .result)
+          (c .before .word-number-by .result) (getD (powers .result) (word-length .result) 0) (getD (powers2 .result) (word-length .result) 0) (loop .inv)
+          (omega (arith, leaf-count .ensures)) (word-start .ensures .0) (word-length .ensures .0) l (c .before .word-number-by .ensures) (powers .ensures (word-length .result) (l .1) (l .2))
+          (powers2 .ensures (word-length .result) (l .1) (l .2)) (pre .1) (pre .3),
+    )
 
 -- src/lib.rt:73:20
 mul-strings : tie.Need-mul-strings Inv-loop μ-loop
@@ -132,7 +139,10 @@ loop-again c =
     let word-start = c .before .before .before .before .before .word-start in
     let word-length = c .before .before .before .before .word-length in
     let l = c .before .before .before .lies .ensures (not-false _ (c .before .before .if1 .left)) in
-    so-far-next (a .leaves .now) (a .words .now) (a .inputs) (loop .leaf) (loop .end) (loop .floor) (loop .strings) (word-start .result) (word-length .result) (c .before .word-number-by .result) (getD (powers .result) (word-length .result) 0) (getD (powers2 .result) (word-length .result) 0) (loop .inv) (omega (arith, leaf-count .ensures)) (word-start .ensures .0) (word-length .ensures .0) l (c .before .word-number-by .ensures) (powers .ensures (word-length .result) (l .1) (l .2)) (powers2 .ensures (word-length .result) (l .1) (l .2)) (pre .1) (omega (arith, c .if2 .left))
+    so-far-next (a .leaves .now) (a .words .now) (a .inputs) (loop .leaf) (loop .end) (loop .floor) (loop .strings) (word-start .result) (word-length .result)
+    (c .before .word-number-by .result) (getD (powers .result) (word-length .result) 0) (getD (powers2 .result) (word-length .result) 0) (loop .inv)
+    (omega (arith, leaf-count .ensures)) (word-start .ensures .0) (word-length .ensures .0) l (c .before .word-number-by .ensures) (powers .ensures (word-length .result) (l .1) (l .2))
+    (powers2 .ensures (word-length .result) (l .1) (l .2)) (pre .1) (omega (arith, c .if2 .left))
 
 -- src/lib.rt:77:9
 returns-3 : tie.Need-returns-3 Inv-loop μ-loop

@@ -1,3 +1,4 @@
+-- Yes is said only where the counts, the word bytes and the numbers of the words all allow it.
 use mathlib.Core.Path.{refl}
 use native.Mathlib.Omega.{arith}
 use Rattle.lists.proofs.Test.{clash}

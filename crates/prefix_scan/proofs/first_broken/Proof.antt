@@ -1,3 +1,4 @@
+-- The first of the five rules that finds a fault; those before it found none.
 use borrow.Author.Needs.{needs}
 use Rattle.faults.proofs.Check.{found-first, found-next}
 use Rattle.prefix_rules.specs.Check.{leafCheck}

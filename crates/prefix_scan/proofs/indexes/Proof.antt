@@ -1,3 +1,4 @@
+-- The word bytes passed are input indexes.
 use mathlib.Core.Path.{_≡_, sym, _∙_}
 use Prim.Native.Nat.{_-_}
 use native.Mathlib.Omega.{arith}

@@ -1,3 +1,4 @@
+-- Each test of rule 9 in turn; a leaf that passes all is inside, or is the last and ends the section.
 use native.Mathlib.Omega.{arith}
 use borrow.Author.Needs.{needs}
 use Rattle.prefix_rules.proofs.Place.{leaf-empty, leaf-long, leaf-elsewhere, leaf-past, leaf-inner, leaf-last}

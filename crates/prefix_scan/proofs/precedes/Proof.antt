@@ -1,3 +1,4 @@
+-- The comparison of the two words as they are read from their places.
 use mathlib.Core.Path.{_∙_, ap₂}
 use Prim.Native.Nat.{min}
 use borrow.Author.Needs.{needs}

@@ -1,3 +1,4 @@
+-- The leaves passed have the digit.
 use mathlib.Core.Path.{_≡_, refl, sym, _∙_}
 use Prim.Native.Nat.{_-_, _≤_}
 use lib.Dec.{eqb}

@@ -1,3 +1,4 @@
+-- The sets passed have the weights of twice as many neighbours; the others are as they were.
 use Rattle.weight_sets.proofs.Weights.{double-next, double-end, same-next}
 use mathlib.Core.Path.{_≡_, refl, _∙_}
 use Prim.Native.Nat.{ℕ, _+_, _-_, _<_, _≤_}

@@ -1,3 +1,4 @@
+-- Sets of one leaf, doubled three times, are sets of eight.
 use Prim.Native.Nat.{_-_}
 use lib.ListN.{length}
 use borrow.Author.Needs.{needs}

@@ -1,3 +1,4 @@
+-- Each weight in the set gives an alphabet digit with the part.
 use Rattle.weight_sets.proofs.Bits.{has-none}
 use Rattle.weight_sets.proofs.Weights.{good-next}
 use Prim.Native.Nat.{_-_}

@@ -1,3 +1,4 @@
+-- The leaves passed have the number of a leaf with their weight.
 use Rattle.weight_sets.proofs.Weights.{numbered-old, numbered-new}
 use mathlib.Core.Logic.{⊎-elim}
 use lib.Dec.{lit≤}

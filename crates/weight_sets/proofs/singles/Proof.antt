@@ -1,3 +1,4 @@
+-- The sets passed have their leaf's weight.
 use Rattle.weight_sets.proofs.Bits.{has-single}
 use Rattle.weight_sets.proofs.Weights.{entry-next}
 use mathlib.Core.Path.{_≡_, refl, sym, ap, subst, _∙_}

@@ -1,3 +1,4 @@
+-- The bytes passed are a number below the power of 256.
 use Prim.Native.Nat.{_*_, _+_}
 use native.Mathlib.Nat.{pow-zero}
 use Rattle.radix.proofs.Order.{number-zero}

@@ -1,3 +1,4 @@
+-- Four bytes are a number in base 256, joined by shifts that lose nothing.
 use native.Mathlib.Omega.{arith}
 use Rattle.word_numbers.proofs.Shift.{four-bytes}
 use borrow.Author.Needs.{needs}
