@@ -91,8 +91,8 @@ fn mark_sums(
     i: usize,
     marks: &mut [u8; MOST],
 ) -> bool
-    requires { ⌜ (i < elementCount (now alphabet)) × (elementCount (now inputs) ≤ 136)
-        × Marked (now alphabet) (located (now inputs) (now heads) (now links)) (now marks) ⌝ }
+    requires sizes { ⌜ (i < elementCount (now alphabet)) × (elementCount (now inputs) ≤ 136) ⌝ }
+    requires marked { ⌜ Marked (now alphabet) (located (now inputs) (now heads) (now links)) (now marks) ⌝ }
     ensures listed { λ r. ⌜ (r ≡ true → sumsListed (now (alphabet .entry)) (now (inputs .entry)) i ≡ true) ⌝ }
     ensures marked { λ r. ⌜ Marked (now (alphabet .entry)) (located (now (inputs .entry)) (now (heads .entry)) (now (links .entry)))
         (now (marks .exit)) ⌝ }

@@ -100,8 +100,8 @@ fn by_eights(keys: &[u64], sets: &[u64], count: usize, start: usize, last: u64) 
 
 // The same leaf by leaf, up to the first whose word is above the last one.
 fn one_by_one(keys: &[u64], numbers: &[u8], count: usize, run: Run, last: u64) -> Run
-    requires { ⌜ (count ≤ length (now keys)) × (count ≤ length (now numbers)) × (run .end ≤ count)
-        × ((k : ℕ) → k < count → getD (now numbers) k 0 < 64) ⌝ }
+    requires room { ⌜ (count ≤ length (now keys)) × (count ≤ length (now numbers)) × (run .end ≤ count) ⌝ }
+    requires weights { ⌜ ((k : ℕ) → k < count → getD (now numbers) k 0 < 64) ⌝ }
     ensures end { λ r. ⌜ (run .end ≤ r .end) × (r .end ≤ count) × (r .end < count → last < getD (now (keys .entry)) (r .end) 0) ⌝ }
     ensures set { λ r. ⌜ ((start : ℕ) → InRun (now (numbers .entry)) start (run .set) (run .end)
         → InRun (now (numbers .entry)) start (r .set) (r .end)) ⌝ }
@@ -128,10 +128,11 @@ fn fitting(
     upper: usize,
     guess: usize,
 ) -> Run
-    requires { ⌜ (leafCount (now leaves) ≤ length (now keys)) × (leafCount (now leaves) ≤ length (now numbers))
-        × (leafCount (now leaves) ≤ length (now sets)) × (upper < leafCount (now leaves)) × (1 ≤ wordLength (now leaves) upper)
-        × (wordLength (now leaves) upper ≤ 8) × (guess ≤ leafCount (now leaves))
-        × ((k : ℕ) → k < leafCount (now leaves) → getD (now numbers) k 0 < 64)
+    requires room { ⌜ (leafCount (now leaves) ≤ length (now keys)) × (leafCount (now leaves) ≤ length (now numbers))
+        × (leafCount (now leaves) ≤ length (now sets)) ⌝ }
+    requires upper { ⌜ (upper < leafCount (now leaves)) × (1 ≤ wordLength (now leaves) upper) × (wordLength (now leaves) upper ≤ 8)
+        × (guess ≤ leafCount (now leaves)) ⌝ }
+    requires weights { ⌜ ((k : ℕ) → k < leafCount (now leaves) → getD (now numbers) k 0 < 64)
         × Covers (now numbers) (now sets) (leafCount (now leaves)) 8
         × ((k : ℕ) → k < leafCount (now leaves) → Has all (getD (now numbers) k 0)) ⌝ }
     ensures end { λ r. ⌜ r .end ≤ leafCount (now (leaves .entry)) ⌝ }
@@ -167,11 +168,11 @@ fn all_in(
     first: &[usize],
     count: usize,
 ) -> bool
-    requires { ⌜ RowsWithin (2 ^ 24) base × (0 < elementCount (now inputs))
-        × (leafCheck (now leaves) (now words) (elementCount (now inputs)) .number ≡ 0)
-        × (leafCount (now leaves) ≤ length (now keys)) × (leafCount (now leaves) ≤ length (now numbers))
-        × (leafCount (now leaves) ≤ length (now sets)) × (count ≤ 64) × (count ≤ length (now first))
-        × Keyed (now leaves) (now words) (now keys) (leafCount (now leaves))
+    requires table { ⌜ RowsWithin (2 ^ 24) base × (0 < elementCount (now inputs))
+        × (leafCheck (now leaves) (now words) (elementCount (now inputs)) .number ≡ 0) ⌝ }
+    requires room { ⌜ (leafCount (now leaves) ≤ length (now keys)) × (leafCount (now leaves) ≤ length (now numbers))
+        × (leafCount (now leaves) ≤ length (now sets)) × (count ≤ 64) × (count ≤ length (now first)) ⌝ }
+    requires known { ⌜ Keyed (now leaves) (now words) (now keys) (leafCount (now leaves))
         × WeightsNumbered (now leaves) (now numbers) (now first) count (leafCount (now leaves))
         × Covers (now numbers) (now sets) (leafCount (now leaves)) 8 ⌝ }
     ensures { λ r. ⌜ (r ≡ true → AllPass base (now (alphabet .entry)) (now (inputs .entry)) (now (leaves .entry))
@@ -225,9 +226,9 @@ fn look(
     sets: &mut [u64],
     numbers: &mut [u8],
 ) -> bool
-    requires { ⌜ BasePart (now base) × (0 < elementCount (now inputs))
-        × (leafCheck (now leaves) (now words) (elementCount (now inputs)) .number ≡ 0)
-        × (leafCount (now leaves) ≤ length (now keys)) × (leafCount (now leaves) ≤ length (now sets))
+    requires table { ⌜ BasePart (now base) × (0 < elementCount (now inputs))
+        × (leafCheck (now leaves) (now words) (elementCount (now inputs)) .number ≡ 0) ⌝ }
+    requires room { ⌜ (leafCount (now leaves) ≤ length (now keys)) × (leafCount (now leaves) ≤ length (now sets))
         × (leafCount (now leaves) ≤ length (now numbers)) ⌝ }
     ensures { λ r. ⌜ (r ≡ true → AllPass (baseMatrix (now (base .entry))) (now (alphabet .entry)) (now (inputs .entry))
         (now (leaves .entry)) (now (words .entry)) (leafCount (now (leaves .entry)))) ⌝ }
@@ -256,8 +257,9 @@ fn look(
 
 // The same for few leaves, since cleared room costs time.
 fn look_at_few(base: &[u8], alphabet: &[u8], inputs: &[u8], leaves: &[u8], words: &[u8]) -> bool
-    requires { ⌜ BasePart (now base) × (0 < elementCount (now inputs))
-        × (leafCheck (now leaves) (now words) (elementCount (now inputs)) .number ≡ 0) × (leafCount (now leaves) ≤ 512) ⌝ }
+    requires table { ⌜ BasePart (now base) × (0 < elementCount (now inputs))
+        × (leafCheck (now leaves) (now words) (elementCount (now inputs)) .number ≡ 0) ⌝ }
+    requires few { ⌜ leafCount (now leaves) ≤ 512 ⌝ }
     ensures { λ r. ⌜ (r ≡ true → AllPass (baseMatrix (now (base .entry))) (now (alphabet .entry)) (now (inputs .entry))
         (now (leaves .entry)) (now (words .entry)) (leafCount (now (leaves .entry)))) ⌝ }
 {
@@ -277,8 +279,9 @@ fn look_at_few(base: &[u8], alphabet: &[u8], inputs: &[u8], leaves: &[u8], words
 }
 
 fn look_at_many(base: &[u8], alphabet: &[u8], inputs: &[u8], leaves: &[u8], words: &[u8]) -> bool
-    requires { ⌜ BasePart (now base) × (0 < elementCount (now inputs))
-        × (leafCheck (now leaves) (now words) (elementCount (now inputs)) .number ≡ 0) × (leafCount (now leaves) ≤ 4096) ⌝ }
+    requires table { ⌜ BasePart (now base) × (0 < elementCount (now inputs))
+        × (leafCheck (now leaves) (now words) (elementCount (now inputs)) .number ≡ 0) ⌝ }
+    requires many { ⌜ leafCount (now leaves) ≤ 4096 ⌝ }
     ensures { λ r. ⌜ (r ≡ true → AllPass (baseMatrix (now (base .entry))) (now (alphabet .entry)) (now (inputs .entry))
         (now (leaves .entry)) (now (words .entry)) (leafCount (now (leaves .entry)))) ⌝ }
 {

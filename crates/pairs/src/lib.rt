@@ -77,9 +77,10 @@ fn bad_lower(
     upper: usize,
     guess: usize,
 ) -> Run
-    requires { ⌜ RowsWithin (2 ^ 24) base × (0 < elementCount (now inputs))
-        × (leafCheck (now leaves) (now words) (elementCount (now inputs)) .number ≡ 0) × (upper < leafCount (now leaves))
-        × (known ≡ true → Slotted (now alphabet) (now slots)) ⌝ }
+    requires table { ⌜ RowsWithin (2 ^ 24) base × (0 < elementCount (now inputs))
+        × (leafCheck (now leaves) (now words) (elementCount (now inputs)) .number ≡ 0) ⌝ }
+    requires upper { ⌜ upper < leafCount (now leaves) ⌝ }
+    requires slots { ⌜ (known ≡ true → Slotted (now alphabet) (now slots)) ⌝ }
     ensures { λ r. ⌜ r .bad ≡ firstFailing (pairPasses (elements degree base) (recordAt (now (inputs .entry)))
         (codeOf (now (leaves .entry)) (now (words .entry))) (inAlphabet (now (alphabet .entry))) upper) 0
         (leafCount (now (leaves .entry))) ⌝ }

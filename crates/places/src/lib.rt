@@ -42,10 +42,10 @@ fn input_at(
     place: usize,
     known: &mut [u8],
 ) -> u8
-    requires { ⌜ (elementCount (now alphabet) ≤ 16) × (elementCount (now inputs) < 256)
-        × (getD (changed change 0 (now first)) place 0 < elementCount (now alphabet))
-        × (getD (changed change 1 (now second)) place 0 < elementCount (now alphabet))
-        × Known (now alphabet) (now inputs) (now known) ⌝ }
+    requires sizes { ⌜ (elementCount (now alphabet) ≤ 16) × (elementCount (now inputs) < 256) ⌝ }
+    requires indexes { ⌜ (getD (changed change 0 (now first)) place 0 < elementCount (now alphabet))
+        × (getD (changed change 1 (now second)) place 0 < elementCount (now alphabet)) ⌝ }
+    requires known { ⌜ Known (now alphabet) (now inputs) (now known) ⌝ }
     ensures index { λ r. ⌜ r ≡ inputAt (now (alphabet .entry)) (now (inputs .entry)) (changed change 0 (now (first .entry)))
         (changed change 1 (now (second .entry))) place ⌝ }
     ensures known { λ r. ⌜ Known (now (alphabet .entry)) (now (inputs .entry)) (now (known .exit)) ⌝ }
@@ -273,8 +273,8 @@ fn out_index(
     own: [i64; 2],
     slots: &mut [u8; DIGITS],
 ) -> usize
-    requires { ⌜ RowsWithin (2 ^ 24) base × (input < elementCount (now inputs)) × Within 32768 below × Within 32768 own
-        × (elementCount (now alphabet) ≤ 256) × Firsts (now alphabet) (now slots) ⌝ }
+    requires sizes { ⌜ RowsWithin (2 ^ 24) base × (input < elementCount (now inputs)) × Within 32768 below × Within 32768 own ⌝ }
+    requires alphabet { ⌜ (elementCount (now alphabet) ≤ 256) × Firsts (now alphabet) (now slots) ⌝ }
     ensures index { λ r. ⌜ r ≡ alphabetIndex (now (alphabet .entry))
         (outDigit (elements degree base) (recordAt (now (inputs .entry)) input) below own) ⌝ }
     ensures slots { λ r. ⌜ Firsts (now (alphabet .entry)) (now (slots .exit)) ⌝ }

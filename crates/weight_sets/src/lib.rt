@@ -180,10 +180,11 @@ pub fn judged(
     made: &mut [usize; WEIGHTS],
     good: &mut [u64; WEIGHTS],
 ) -> u64
-    requires { ⌜ RowsWithin (2 ^ 24) base × Slotted (now alphabet) (now slots)
-        × (getD (wordGiven (now leaves) (now words) upper) 0 0 < elementCount (now inputs)) × (number < 64) × (count ≤ 64)
-        × (count ≤ length (now first)) × (weightGiven (now leaves) (getD (now first) number 0) ≡ weightGiven (now leaves) upper)
-        × Judged base (now alphabet) (now inputs) (now leaves) (now first) (now made) (now good) ⌝ }
+    requires part { ⌜ RowsWithin (2 ^ 24) base × Slotted (now alphabet) (now slots)
+        × (getD (wordGiven (now leaves) (now words) upper) 0 0 < elementCount (now inputs)) ⌝ }
+    requires number { ⌜ (number < 64) × (count ≤ 64) × (count ≤ length (now first))
+        × (weightGiven (now leaves) (getD (now first) number 0) ≡ weightGiven (now leaves) upper) ⌝ }
+    requires kept { ⌜ Judged base (now alphabet) (now inputs) (now leaves) (now first) (now made) (now good) ⌝ }
     ensures good { λ r. ⌜ Good (now (alphabet .entry)) (now (leaves .entry)) (now (first .entry))
         (upperPart base (now (inputs .entry)) (now (leaves .entry)) (now (words .entry)) upper) r ⌝ }
     ensures kept { λ r. ⌜ Judged base (now (alphabet .entry)) (now (inputs .entry)) (now (leaves .entry)) (now (first .entry))

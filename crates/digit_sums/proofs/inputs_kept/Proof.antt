@@ -45,7 +45,13 @@ loop-holds : tie.Need-loop-holds Inv-loop μ-loop
 loop-holds c = (omega arith, simp sub-zero, none-marked _ _ 136)
 
 mark-sums-requires : tie.Need-mark-sums-requires Inv-loop μ-loop
-mark-sums-requires c κs = (omega (arith, c .before .before .before .before .before .before .before .before .before .before .before .before .before .record-count .ensures), omega (arith, c .before .before .before .before .before .before .before .before .before .before .before .before .record-count2 .ensures), c .before .before .before .before .loop .inv .2)
+mark-sums-requires c κs = (
+  (
+    omega (arith, c .before .before .before .before .before .before .before .before .before .before .before .before .before .record-count .ensures),
+    omega (arith, c .before .before .before .before .before .before .before .before .before .before .before .before .record-count2 .ensures),
+  ),
+  c .before .before .before .before .loop .inv .2,
+)
 
 returns-4 : tie.Need-returns-4 Inv-loop μ-loop
 returns-4 c = λ no. clash no refl

@@ -49,16 +49,16 @@ fitting-requires c κs =
     let words = a .words .now in
     let pre = c .before .before .before .before .before .before .before .before .before .before .before .before .before .before .before .pre in
     let leaf-count = c .before .before .before .leaf-count in (
-      pre .3,
-      pre .4,
-      pre .5,
-      omega (arith, leaf-count .ensures),
-      formed leaves words (elementCount inputs) (pre .1) (pre .2) .some (c .before .loop .upper) (omega (arith, leaf-count .ensures)),
-      formed leaves words (elementCount inputs) (pre .1) (pre .2) .short (c .before .loop .upper) (omega (arith, leaf-count .ensures)),
-      omega (arith, leaf-count .ensures, c .before .loop .inv .0),
-      λ k h. omega (arith, pre .9 k h .0, pre .6),
-      pre .10,
-      λ k h. c .before .before .all-weights .ensures (getD (a .numbers .now) k 0) (pre .9 k h .0),
+      (pre .1 .0 .0, pre .1 .0 .1, pre .1 .0 .2),
+      (
+        (
+          omega (arith, leaf-count .ensures),
+          formed leaves words (elementCount inputs) (pre .0 .1) (pre .0 .2) .some (c .before .loop .upper) (omega (arith, leaf-count .ensures)),
+          formed leaves words (elementCount inputs) (pre .0 .1) (pre .0 .2) .short (c .before .loop .upper) (omega (arith, leaf-count .ensures)),
+          omega (arith, leaf-count .ensures, c .before .loop .inv .0),
+        ),
+        (λ k h. omega (arith, pre .1 .1 .1 k h .0, pre .1 .0 .3), pre .1 .1 .2, λ k h. c .before .before .all-weights .ensures (getD (a .numbers .now) k 0) (pre .1 .1 .1 k h .0)),
+      ),
     )
 
 shared-slice-read-wide : tie.Need-shared-slice-read-wide Inv-loop μ-loop
@@ -79,14 +79,20 @@ judged-requires c κs =
     let leaf-count = c .before .before .before .before .before .before .before .before .before .leaf-count in
     let loop = c .before .before .before .before .before .before .before .loop in
     let wide = c .before .before .before .wide in (
-      pre .0,
-      slot-digits .ensures (not-false _ (if1 .left)),
-      first-input leaves words (elementCount inputs) (pre .1) (formed leaves words (elementCount inputs) (pre .1) (pre .2)) (loop .upper) (omega (arith, leaf-count .ensures)),
-      omega (arith, wide .ensures .0, pre .9 (loop .upper) (omega (arith, leaf-count .ensures)) .0, pre .6),
-      pre .6,
-      pre .7,
-      ap (λ (n : ℕ). weightGiven leaves (getD (a .first .now) n 0)) (wide .ensures .0) ∙ pre .9 (loop .upper) (omega (arith, leaf-count .ensures)) .1,
-      loop .inv .2,
+      (
+        pre .0 .0,
+        slot-digits .ensures (not-false _ (if1 .left)),
+        first-input leaves words (elementCount inputs) (pre .0 .1) (formed leaves words (elementCount inputs) (pre .0 .1) (pre .0 .2)) (loop .upper) (omega (arith, leaf-count .ensures)),
+      ),
+      (
+        (
+          omega (arith, wide .ensures .0, pre .1 .1 .1 (loop .upper) (omega (arith, leaf-count .ensures)) .0, pre .1 .0 .3),
+          pre .1 .0 .3,
+          pre .1 .0 .4,
+          ap (λ (n : ℕ). weightGiven leaves (getD (a .first .now) n 0)) (wide .ensures .0) ∙ pre .1 .1 .1 (loop .upper) (omega (arith, leaf-count .ensures)) .1,
+        ),
+        loop .inv .2,
+      ),
     )
 
 returns-2 : tie.Need-returns-2 Inv-loop μ-loop
@@ -110,9 +116,9 @@ loop-again c =
     let loop = c .before .before .before .before .before .before .before .before .before .loop in
     let fitting = c .before .before .before .before .before .before .before .fitting in (
       omega (arith, fitting .ensures .0, leaf-count .ensures),
-      all-next leaves words (elementCount inputs) (pre .1) (formed leaves words (elementCount inputs) (pre .1) (pre .2)) (a .base) inputs (a .alphabet .now) (a .numbers .now) (a .first .now) (a .count)
-          (pre .9) (loop .upper) (omega (arith, leaf-count .ensures)) (fitting .result .set) (c .before .judged .result)
-          (fitting .ensures .1 words (ready-words leaves words (elementCount inputs) (formed leaves words (elementCount inputs) (pre .1) (pre .2)) (λ i. omega (arith, shared-slice-known4 .given i))) (pre .8))
+      all-next leaves words (elementCount inputs) (pre .0 .1) (formed leaves words (elementCount inputs) (pre .0 .1) (pre .0 .2)) (a .base) inputs (a .alphabet .now) (a .numbers .now) (a .first .now) (a .count)
+          (pre .1 .1 .1) (loop .upper) (omega (arith, leaf-count .ensures)) (fitting .result .set) (c .before .judged .result)
+          (fitting .ensures .1 words (ready-words leaves words (elementCount inputs) (formed leaves words (elementCount inputs) (pre .0 .1) (pre .0 .2)) (λ i. omega (arith, shared-slice-known4 .given i))) (pre .1 .1 .0))
           (omega (arith, c .if2 .left)) (c .before .judged .ensures .0) (loop .inv .1),
       c .before .judged .ensures .1,
     )

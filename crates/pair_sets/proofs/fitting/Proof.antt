@@ -17,7 +17,7 @@ word-length-requires : tie.Need-word-length-requires
 word-length-requires c κs = search needs
 
 returns : tie.Need-returns
-returns c = (omega (arith, c .before .before .leaf-count .ensures), λ words ready keyed l there fit. c .before .before .before .before .before .before .before .pre .9 l there)
+returns c = (omega (arith, c .before .before .leaf-count .ensures), λ words ready keyed l there fit. c .before .before .before .before .before .before .before .pre .1 .1 .2 l there)
 
 mul-tail : tie.Need-mul-tail
 mul-tail c = search needs
@@ -37,8 +37,10 @@ by-eights-requires c κs = search needs
 one-by-one-requires : tie.Need-one-by-one-requires
 one-by-one-requires c κs =
     let pre = c .before .before .before .before .before .before .before .before .before .before .before .pre in
-    let leaf-count = c .before .before .before .before .before .before .leaf-count in
-    (omega (arith, leaf-count .ensures), omega (arith, leaf-count .ensures), c .by-eights .ensures .0 .1, λ k h. pre .7 k (omega (arith, leaf-count .ensures)))
+    let leaf-count = c .before .before .before .before .before .before .leaf-count in (
+      (omega (arith, leaf-count .ensures), omega (arith, leaf-count .ensures), c .by-eights .ensures .0 .1),
+      λ k h. pre .1 .1 .0 k (omega (arith, leaf-count .ensures)),
+    )
 
 returns-2 : tie.Need-returns-2
 returns-2 c =
@@ -52,10 +54,10 @@ returns-2 c =
     let behind = c .before .before .before .behind in
     let start-of = c .before .before .start-of in (
       omega (arith, c .one-by-one .ensures .0 .1, leaf-count .ensures),
-      λ words ready keyed. run-has (a .leaves .now) words ready upper (pre .3) keys numbers keyed ((getD keys upper 0 * 2 ^ 8) % 2 ^ 64) (behind .result) (start-of .result) (c .one-by-one .result .set)
+      λ words ready keyed. run-has (a .leaves .now) words ready upper (pre .1 .0 .0) keys numbers keyed ((getD keys upper 0 * 2 ^ 8) % 2 ^ 64) (behind .result) (start-of .result) (c .one-by-one .result .set)
           (c .one-by-one .result .end) refl (behind .ensures ∙ ap (λ (n : ℕ). 256 ^ (8 - pred n)) (word-length .ensures .0))
           (λ h. let e = start-of .ensures .1 h in (omega (arith, e .0, leaf-count .ensures), e .1)) (λ h. c .one-by-one .ensures .0 .2 (omega (arith, leaf-count .ensures)))
-          (c .one-by-one .ensures .1 (start-of .result) (c .before .by-eights .ensures .1 numbers (subst (λ (n : ℕ). Covers numbers (a .sets .now) n 8) (sym (leaf-count .ensures)) (pre .8)))),
+          (c .one-by-one .ensures .1 (start-of .result) (c .before .by-eights .ensures .1 numbers (subst (λ (n : ℕ). Covers numbers (a .sets .now) n 8) (sym (leaf-count .ensures)) (pre .1 .1 .1)))),
     )
 
 pub fitting-spec : {M : Type 1} → statement M

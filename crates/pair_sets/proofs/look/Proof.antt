@@ -37,7 +37,7 @@ keys-of-requires c κs =
     let words = a .words .now in
     let pre = c .before .before .before .before .before .before .before .before .before .before .before .before .before .before .before .before .pre in
     let shared-slice-known5 = c .before .before .before .before .before .before .before .before .before .before .before .shared-slice-known5 in
-    (pre .3, ready-words leaves words (elementCount inputs) (formed leaves words (elementCount inputs) (pre .1) (pre .2)) (λ i. omega (arith, shared-slice-known5 .given i)))
+    (pre .1 .0, ready-words leaves words (elementCount inputs) (formed leaves words (elementCount inputs) (pre .0 .1) (pre .0 .2)) (λ i. omega (arith, shared-slice-known5 .given i)))
 
 leaf-count-requires : tie.Need-leaf-count-requires
 leaf-count-requires c κs = search needs
@@ -48,8 +48,8 @@ eights-requires c κs =
     let number-weights = c .before .before .before .before .before .before .before .before .before .before .before .number-weights in
     let numbers = c .before .before .before .before .before .before .before .before .before .before .numbers in
     let if1 = c .before .before .before .before .before .before .before .if1 in (
-      omega (arith, c .before .leaf-count .ensures, numbers .given, pre .5),
-      omega (arith, c .before .leaf-count .ensures, pre .4),
+      omega (arith, c .before .leaf-count .ensures, numbers .given, pre .1 .2),
+      omega (arith, c .before .leaf-count .ensures, pre .1 .1),
       λ k h. omega (arith, number-weights .ensures (omega (arith, if1 .left)) k (omega (arith, c .before .leaf-count .ensures)) .0, if1 .left),
     )
 
@@ -73,17 +73,17 @@ all-in-requires c κs =
     let eights = c .before .before .before .before .before .before .before .eights in
     let sets = c .before .before .before .before .before .before .sets in
     let base-of = c .before .before .before .before .base-of in (
-      subst (RowsWithin (2 ^ 24)) (sym (base-of .ensures)) (base-within (a .base .now) (pre .0)),
-      pre .1,
-      pre .2,
-      omega (arith, keys .given, pre .3),
-      omega (arith, numbers .given, pre .5),
-      omega (arith, sets .given, pre .4),
-      omega (arith, if1 .left),
-      omega (arith, if1 .left, first2 .given),
-      keys-of .ensures,
-      number-weights .ensures (omega (arith, if1 .left)),
-      λ l k h there. eights .ensures l k h (omega (arith, there, leaf-count .ensures)),
+      (subst (RowsWithin (2 ^ 24)) (sym (base-of .ensures)) (base-within (a .base .now) (pre .0 .0)), pre .0 .1, pre .0 .2),
+      (
+        (
+          omega (arith, keys .given, pre .1 .0),
+          omega (arith, numbers .given, pre .1 .2),
+          omega (arith, sets .given, pre .1 .1),
+          omega (arith, if1 .left),
+          omega (arith, if1 .left, first2 .given),
+        ),
+        (keys-of .ensures, number-weights .ensures (omega (arith, if1 .left)), λ l k h there. eights .ensures l k h (omega (arith, there, leaf-count .ensures))),
+      ),
     )
 
 same-length-2 : tie.Need-same-length-2

@@ -38,7 +38,7 @@ wide-requires : tie.Need-wide-requires Inv-loop μ-loop
 wide-requires c κs = search needs
 
 single-requires : tie.Need-single-requires Inv-loop μ-loop
-single-requires c κs = omega (arith, c .wide .ensures .0, c .before .before .before .before .before .before .before .before .pre .3 (c .before .before .before .before .before .loop .leaf) (c .before .before .before .before .loop-test .taken))
+single-requires c κs = omega (arith, c .wide .ensures .0, c .before .before .before .before .before .before .before .before .pre .1 (c .before .before .before .before .before .loop .leaf) (c .before .before .before .before .loop-test .taken))
 
 add-leaf : tie.Need-add-leaf Inv-loop μ-loop
 add-leaf c = omega arith

@@ -52,8 +52,13 @@ bad-lower-requires c κs =
     let pre = c .before .before .before .before .before .before .before .before .before .before .before .before .pre in
     let base-of = c .before .before .before .before .before .before .base-of in
     let slot-digits = c .before .before .before .before .slot-digits in
-    let base = a .base .now in
-    (subst (RowsWithin (2 ^ 24)) (sym (base-of .ensures)) (base-within base (pre .0)), pre .1, pre .2, omega (arith, c .before .before .before .leaf-count .ensures, c .before .loop-test .taken), slot-digits .ensures)
+    let base = a .base .now in (
+      (subst (RowsWithin (2 ^ 24)) (sym (base-of .ensures)) (base-within base (pre .0)), pre .1, pre .2),
+      (
+        omega (arith, c .before .before .before .leaf-count .ensures, c .before .loop-test .taken),
+        slot-digits .ensures,
+      ),
+    )
 
 returns : tie.Need-returns Inv-loop μ-loop
 returns c =

@@ -85,8 +85,15 @@ out-index-requires c κs =
     let a = c .before .before .before .before .before .before .before .before .before .before .before .before .before .before .before .before .before .before .before .args in
     let pre = c .before .before .before .before .before .before .before .before .before .before .before .before .before .before .before .before .before .before .before .pre in
     let loop = c .before .before .before .before .before .before .loop in
-    let byte-at = c .before .before .before .before .byte-at in
-    (pre .0, subst (λ (n : ℕ). n < elementCount (a .inputs .now)) (sym (byte-at .ensures)) (getD-inputs (elementCount (a .inputs .now)) (a .row .now) (pre .2) (pre .3) (a .from + loop .k)), loop .inv .0 .small, c .before .weight-tried .ensures .1, pre .1, loop .inv .1)
+    let byte-at = c .before .before .before .before .byte-at in (
+      (
+        pre .0,
+        subst (λ (n : ℕ). n < elementCount (a .inputs .now)) (sym (byte-at .ensures)) (getD-inputs (elementCount (a .inputs .now)) (a .row .now) (pre .2) (pre .3) (a .from + loop .k)),
+        loop .inv .0 .small,
+        c .before .weight-tried .ensures .1,
+      ),
+      (pre .1, loop .inv .1),
+    )
 
 same-length : tie.Need-same-length Inv-loop μ-loop
 same-length c = c .before .before .before .before .before .before .before .before .loop .inv .0 .long

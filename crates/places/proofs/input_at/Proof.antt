@@ -30,9 +30,9 @@ found c =
     let pre = c .before .before .before .before .before .before .before .before .before .pre in
     let byte-at = c .before .before .before .byte-at in
     let byte-at2 = c .before .before .byte-at2 in
-    let u : byte-at .result < 16 = omega (arith, byte-at .ensures, pre .0, pre .2) in
-    let l : byte-at2 .result < 16 = omega (arith, byte-at2 .ensures, pre .0, pre .3) in
-    ⊎-elim (λ t. looked-for alphabet inputs known (pre .4) (byte-at .result) (byte-at2 .result) u l (c .if1 .known) (t .1 .result) (t .1 .ensures) (t .2)) (λ t. stood-there alphabet inputs known (pre .4) (byte-at .result) (byte-at2 .result) u l (c .if1 .known) (t .0 .left) (t .1)) (c .if1 .came)
+    let u : byte-at .result < 16 = omega (arith, byte-at .ensures, pre .0 .0, pre .1 .0 .0) in
+    let l : byte-at2 .result < 16 = omega (arith, byte-at2 .ensures, pre .0 .0, pre .1 .0 .1) in
+    ⊎-elim (λ t. looked-for alphabet inputs known (pre .1 .1) (byte-at .result) (byte-at2 .result) u l (c .if1 .known) (t .1 .result) (t .1 .ensures) (t .2)) (λ t. stood-there alphabet inputs known (pre .1 .1) (byte-at .result) (byte-at2 .result) u l (c .if1 .known) (t .0 .left) (t .1)) (c .if1 .came)
 
 -- src/lib.rt:34:17
 byte-at-requires : tie.Need-byte-at-requires
@@ -72,7 +72,7 @@ cast-known c =
     let a = c .before .before .before .before .before .before .before .before .before .before .args in
     let pre = c .before .before .before .before .before .before .before .before .before .before .pre in
     let byte-at = c .before .before .before .before .byte-at in
-    omega (arith, c .sum-index .ensures, pre .1, sum-index-high (a .alphabet .now) (a .inputs .now) (byte-at .result) (c .before .before .before .byte-at2 .result))
+    omega (arith, c .sum-index .ensures, pre .0 .1, sum-index-high (a .alphabet .now) (a .inputs .now) (byte-at .result) (c .before .before .before .byte-at2 .result))
 
 -- src/lib.rt:38:9
 slice-write-known : tie.Need-slice-write-known
@@ -83,11 +83,11 @@ slice-read-result : tie.Need-slice-read-result
 slice-read-result c =
     let pre = c .before .before .before .before .before .before .before .before .before .before .pre in
     let byte-at = c .before .before .before .before .byte-at in
-    omega (arith, found (c .before) .1 .long, byte-at .ensures, c .before .before .before .byte-at2 .ensures, pre .0, pre .2, pre .3)
+    omega (arith, found (c .before) .1 .long, byte-at .ensures, c .before .before .before .byte-at2 .ensures, pre .0 .0, pre .1 .0 .0, pre .1 .0 .1)
 
 -- src/lib.rt:22:1
 same-length : tie.Need-same-length
-same-length c = found (c .before) .1 .long ∙ sym (c .before .before .before .before .before .before .before .before .before .before .pre .4 .long)
+same-length c = found (c .before) .1 .long ∙ sym (c .before .before .before .before .before .before .before .before .before .before .pre .1 .1 .long)
 
 -- src/lib.rt:22:1
 returns : tie.Need-returns

@@ -35,8 +35,13 @@ slice-aggregate-input-at c = sym (c .before .before .loop .inv .3 .long)
 input-at-requires : tie.Need-input-at-requires Inv-loop μ-loop
 input-at-requires c κs =
     let pre = c .before .before .before .before .before .before .before .pre in
-    let loop = c .before .before .loop in
-    (pre .5, pre .2, pre .3 (loop .place) (c .before .loop-test .taken), pre .4 (loop .place) (c .before .loop-test .taken), loop .inv .3)
+    let loop = c .before .before .loop in (
+      (pre .5, pre .2),
+      (
+        (pre .3 (loop .place) (c .before .loop-test .taken), pre .4 (loop .place) (c .before .loop-test .taken)),
+        loop .inv .3,
+      ),
+    )
 
 -- src/lib.rt:60:9
 array-write-row : tie.Need-array-write-row Inv-loop μ-loop

@@ -22,9 +22,9 @@ index-of-requires c κs =
     let a = c .before .before .before .before .before .args in
     let pre = c .before .before .before .before .before .pre in
     let record-at = c .before .before .record-at in (
-      subst (Within (2 ^ 42)) (sym (c .before .out-digit .ensures)) (out-size (a .base) (record-at .result) (a .below) (a .own) (pre .0) (search needs) (record-at .ensures .1) (pre .2) (pre .3)),
-      pre .4,
-      pre .5,
+      subst (Within (2 ^ 42)) (sym (c .before .out-digit .ensures)) (out-size (a .base) (record-at .result) (a .below) (a .own) (pre .0 .0) (search needs) (record-at .ensures .1) (pre .0 .2) (pre .0 .3)),
+      pre .1 .0,
+      pre .1 .1,
     )
 
 returns : tie.Need-returns

@@ -47,10 +47,10 @@ returns c =
     let pre = c .before .before .before .before .before .before .before .before .before .before .before .pre in
     let word = c .before .before .before .before .before .word in
     let byte-at = c .before .before .before .before .byte-at in (
-      subst (λ w. Good (a .alphabet .now) leaves (a .first .now) (minus (recordAt (a .inputs .now) (getD (wordGiven leaves words upper) 0 0)) (times (a .base) w)) (getD (a .good .now) number 0)) (pre .6)
-          (pre .7 number (getD (wordGiven leaves words upper) 0 0)
+      subst (λ w. Good (a .alphabet .now) leaves (a .first .now) (minus (recordAt (a .inputs .now) (getD (wordGiven leaves words upper) 0 0)) (times (a .base) w)) (getD (a .good .now) number 0)) (pre .1 .0 .3)
+          (pre .1 .1 number (getD (wordGiven leaves words upper) 0 0)
           (c .before .if1 .taken ∙ ap (λ (x : ℕ). x + 1) (c .before .before .before .wide .ensures .0 ∙ byte-at .ensures ∙ ap (λ w. getD w 0 0) (word .ensures)))),
-      pre .7,
+      pre .1 .1,
     )
 
 upper-part-requires : tie.Need-upper-part-requires
@@ -86,9 +86,9 @@ returns-2 c =
       subst (λ p. Good alphabet leaves first p (c .good-set .result)) (c .before .upper-part .ensures .0) (c .good-set .ensures),
       judged-next base alphabet inputs leaves first (a .made .now) (a .good .now) (a .number) (wide .result) (c .good-set .result)
           (subst (λ p. Good alphabet leaves first p (c .good-set .result))
-          (c .before .upper-part .ensures .0 ∙ (λ i. minus (recordAt inputs (sym (wide .ensures .0 ∙ byte-at .ensures ∙ ap (λ w. getD w 0 0) (word .ensures)) i)) (times base (sym (pre .6) i))))
+          (c .before .upper-part .ensures .0 ∙ (λ i. minus (recordAt inputs (sym (wide .ensures .0 ∙ byte-at .ensures ∙ ap (λ w. getD w 0 0) (word .ensures)) i)) (times base (sym (pre .1 .0 .3) i))))
           (c .good-set .ensures))
-          (pre .7),
+          (pre .1 .1),
     )
 
 pub judged-spec : {M : Type 1} → statement M
