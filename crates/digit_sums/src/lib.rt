@@ -70,7 +70,8 @@ fn locate(
     i: usize,
     other: usize,
 ) -> usize
-    requires { ⌜ (i < elementCount (now alphabet)) × (other < elementCount (now alphabet)) × (elementCount (now inputs) ≤ 136) ⌝ }
+    requires digits { ⌜ (i < elementCount (now alphabet)) × (other < elementCount (now alphabet)) ⌝ }
+    requires inputs { ⌜ elementCount (now inputs) ≤ 136 ⌝ }
     ensures { λ r. ⌜ r ≡ located (now (inputs .entry)) (now (heads .entry)) (now (links .entry))
         (plus (recordAt (now (alphabet .entry)) i) (recordAt (now (alphabet .entry)) other)) ⌝ }
 {

@@ -81,7 +81,7 @@ fn start_of(keys: &[u64], count: usize, guess: usize, tail: u64) -> usize
 
 // The weights from a leaf on, eight leaves at a time, while their words are at most the last one.
 fn by_eights(keys: &[u64], sets: &[u64], count: usize, start: usize, last: u64) -> Run
-    requires { ⌜ (count ≤ length (now keys)) × (count ≤ length (now sets)) × (start ≤ count) ⌝ }
+    requires room { ⌜ (count ≤ length (now keys)) × (count ≤ length (now sets)) × (start ≤ count) ⌝ }
     ensures end { λ r. ⌜ (start ≤ r .end) × (r .end ≤ count) ⌝ }
     ensures set { λ r. ⌜ ((numbers : List ℕ) → Covers numbers (now (sets .entry)) count 8 → InRun numbers start (r .set) (r .end)) ⌝ }
 {
@@ -302,7 +302,7 @@ fn look_at_many(base: &[u8], alphabet: &[u8], inputs: &[u8], leaves: &[u8], word
 
 // Whether every fitting pair is seen to give an alphabet digit. Of so few leaves that the pairs are judged sooner it says nothing.
 pub fn all_pass(base: &[u8], alphabet: &[u8], inputs: &[u8], leaves: &[u8], words: &[u8]) -> bool
-    requires { ⌜ BasePart (now base) × (0 < elementCount (now inputs))
+    requires table { ⌜ BasePart (now base) × (0 < elementCount (now inputs))
         × (leafCheck (now leaves) (now words) (elementCount (now inputs)) .number ≡ 0) ⌝ }
     ensures { λ r. ⌜ (r ≡ true → AllPass (baseMatrix (now (base .entry))) (now (alphabet .entry)) (now (inputs .entry))
         (now (leaves .entry)) (now (words .entry)) (leafCount (now (leaves .entry)))) ⌝ }

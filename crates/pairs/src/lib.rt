@@ -112,7 +112,7 @@ fn bad_lower(
 
 // The lowest upper leaf that fails with some lower leaf, and the lowest such lower leaf; the leaf count twice where none fails.
 pub fn bad_pair(base: &[u8], alphabet: &[u8], inputs: &[u8], leaves: &[u8], words: &[u8]) -> Pair
-    requires { ⌜ BasePart (now base) × (0 < elementCount (now inputs))
+    requires table { ⌜ BasePart (now base) × (0 < elementCount (now inputs))
         × (leafCheck (now leaves) (now words) (elementCount (now inputs)) .number ≡ 0) ⌝ }
     ensures { λ r. ⌜ r ≡ badPair (now (base .entry)) (now (alphabet .entry)) (now (inputs .entry)) (now (leaves .entry)) (now (words .entry)) ⌝ }
 {
@@ -149,7 +149,7 @@ pub fn bad_pair(base: &[u8], alphabet: &[u8], inputs: &[u8], leaves: &[u8], word
 
 // Rule 14. The scan that names the leaves is only made where the quick look says nothing.
 pub fn pairs(base: &[u8], alphabet: &[u8], inputs: &[u8], leaves: &[u8], words: &[u8]) -> Refusal
-    requires { ⌜ BasePart (now base) × (0 < elementCount (now inputs))
+    requires table { ⌜ BasePart (now base) × (0 < elementCount (now inputs))
         × (leafCheck (now leaves) (now words) (elementCount (now inputs)) .number ≡ 0) ⌝ }
     ensures { λ r. ⌜ r ≡ pairCheck (now (base .entry)) (now (alphabet .entry)) (now (inputs .entry)) (now (leaves .entry)) (now (words .entry)) ⌝ }
 {

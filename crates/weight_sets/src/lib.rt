@@ -84,7 +84,8 @@ pub fn single(number: usize) -> u64
 
 // Each leaf's weight as a set.
 fn singles(numbers: &[u8], count: usize, sets: &mut [u64])
-    requires { ⌜ (count ≤ length (now numbers)) × (count ≤ length (now sets)) × ((k : ℕ) → k < count → getD (now numbers) k 0 < 64) ⌝ }
+    requires room { ⌜ (count ≤ length (now numbers)) × (count ≤ length (now sets)) ⌝ }
+    requires weights { ⌜ ((k : ℕ) → k < count → getD (now numbers) k 0 < 64) ⌝ }
     ensures { λ r. ⌜ Covers (now (numbers .entry)) (now (sets .exit)) count 1 ⌝ }
 {
     let mut leaf = 0;
@@ -108,7 +109,8 @@ fn double(count: usize, sets: &mut [u64], step: usize)
 
 // For each leaf the weights of the eight leaves from it on.
 pub fn eights(numbers: &[u8], count: usize, sets: &mut [u64])
-    requires { ⌜ (count ≤ length (now numbers)) × (count ≤ length (now sets)) × ((k : ℕ) → k < count → getD (now numbers) k 0 < 64) ⌝ }
+    requires room { ⌜ (count ≤ length (now numbers)) × (count ≤ length (now sets)) ⌝ }
+    requires weights { ⌜ ((k : ℕ) → k < count → getD (now numbers) k 0 < 64) ⌝ }
     ensures { λ r. ⌜ Covers (now (numbers .entry)) (now (sets .exit)) count 8 ⌝ }
 {
     singles(numbers, count, sets);
@@ -151,7 +153,8 @@ fn good_set(
     first: &[usize],
     count: usize,
 ) -> u64
-    requires { ⌜ Slotted (now alphabet) (now slots) × Within (2 ^ 57 + 32768) part × (count ≤ 64) × (count ≤ length (now first)) ⌝ }
+    requires part { ⌜ Slotted (now alphabet) (now slots) × Within (2 ^ 57 + 32768) part ⌝ }
+    requires weights { ⌜ (count ≤ 64) × (count ≤ length (now first)) ⌝ }
     ensures { λ r. ⌜ Good (now (alphabet .entry)) (now (leaves .entry)) (now (first .entry)) part r ⌝ }
 {
     let mut good = 0;

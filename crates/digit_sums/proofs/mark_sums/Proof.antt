@@ -29,7 +29,10 @@ add-loop : tie.Need-add-loop Inv-loop μ-loop
 add-loop c = search needs
 
 locate-requires : tie.Need-locate-requires Inv-loop μ-loop
-locate-requires c κs = (c .before .before .before .before .before .pre .0 .0, omega arith, c .before .before .before .before .before .pre .0 .1)
+locate-requires c κs = (
+  (c .before .before .before .before .before .pre .0 .0, omega arith),
+  c .before .before .before .before .before .pre .0 .1,
+)
 
 returns : tie.Need-returns Inv-loop μ-loop
 returns c = (λ no. clash no refl, c .before .before .before .loop .inv .2)

@@ -48,8 +48,7 @@ eights-requires c κs =
     let number-weights = c .before .before .before .before .before .before .before .before .before .before .before .number-weights in
     let numbers = c .before .before .before .before .before .before .before .before .before .before .numbers in
     let if1 = c .before .before .before .before .before .before .before .if1 in (
-      omega (arith, c .before .leaf-count .ensures, numbers .given, pre .1 .2),
-      omega (arith, c .before .leaf-count .ensures, pre .1 .1),
+      (omega (arith, c .before .leaf-count .ensures, numbers .given, pre .1 .2), omega (arith, c .before .leaf-count .ensures, pre .1 .1)),
       λ k h. omega (arith, number-weights .ensures (omega (arith, if1 .left)) k (omega (arith, c .before .leaf-count .ensures)) .0, if1 .left),
     )
 

@@ -95,7 +95,7 @@ add-floor c =
       floor-room (a .leaves .now) (a .words .now) (a .inputs) (loop .leaf) (loop .end) (loop .floor) (loop .strings) (word-start .result) (word-length .result)
           (c .before .word-number-by .result) (getD (powers .result) (word-length .result) 0) (getD (powers2 .result) (word-length .result) 0) (loop .inv)
           (omega (arith, leaf-count .ensures)) (word-start .ensures .0) (word-length .ensures .0) l (c .before .word-number-by .ensures) (powers .ensures (word-length .result) (l .1) (l .2))
-          (powers2 .ensures (word-length .result) (l .1) (l .2)) (pre .1) (pre .3),
+          (powers2 .ensures (word-length .result) (l .1) (l .2)) (pre .0 .1) (pre .1),
     )
 
 -- src/lib.rt:73:20
@@ -117,11 +117,11 @@ add-strings c =
     let loop-test = c .before .before .before .before .before .before .loop-test in
     let word-length = c .before .before .before .before .word-length in
     let l = c .before .before .before .lies .ensures (not-false _ (c .before .before .if1 .left)) in
-    omega (arith, leaf-count .ensures, pre .2, loop-test .taken, loop .inv .small, share-small (a .inputs) (word-length .result) (getD (powers2 .result) (word-length .result) 0) (pre .1) (l .1) (powers2 .ensures (word-length .result) (l .1) (l .2)))
+    omega (arith, leaf-count .ensures, pre .0 .2, loop-test .taken, loop .inv .small, share-small (a .inputs) (word-length .result) (getD (powers2 .result) (word-length .result) 0) (pre .0 .1) (l .1) (powers2 .ensures (word-length .result) (l .1) (l .2)))
 
 -- src/lib.rt:74:9
 add-leaf : tie.Need-add-leaf Inv-loop μ-loop
-add-leaf c = omega (arith, c .before .before .before .before .before .before .before .before .leaf-count .ensures, c .before .before .before .before .before .before .before .before .before .before .before .before .before .pre .2, c .before .before .before .before .before .before .loop-test .taken)
+add-leaf c = omega (arith, c .before .before .before .before .before .before .before .before .leaf-count .ensures, c .before .before .before .before .before .before .before .before .before .before .before .before .before .pre .0 .2, c .before .before .before .before .before .before .loop-test .taken)
 
 -- src/lib.rt:61:5
 loop-less : tie.Need-loop-less Inv-loop μ-loop
@@ -142,7 +142,7 @@ loop-again c =
     so-far-next (a .leaves .now) (a .words .now) (a .inputs) (loop .leaf) (loop .end) (loop .floor) (loop .strings) (word-start .result) (word-length .result)
     (c .before .word-number-by .result) (getD (powers .result) (word-length .result) 0) (getD (powers2 .result) (word-length .result) 0) (loop .inv)
     (omega (arith, leaf-count .ensures)) (word-start .ensures .0) (word-length .ensures .0) l (c .before .word-number-by .ensures) (powers .ensures (word-length .result) (l .1) (l .2))
-    (powers2 .ensures (word-length .result) (l .1) (l .2)) (pre .1) (omega (arith, c .if2 .left))
+    (powers2 .ensures (word-length .result) (l .1) (l .2)) (pre .0 .1) (omega (arith, c .if2 .left))
 
 -- src/lib.rt:77:9
 returns-3 : tie.Need-returns-3 Inv-loop μ-loop
@@ -154,7 +154,7 @@ array-read-result c = omega arith
 
 -- src/lib.rt:79:16
 mul-result : tie.Need-mul-result Inv-loop μ-loop
-mul-result c = omega (arith, strings-room (c .before .before .before .before .before .before .before .before .args .inputs) (getD (c .before .before .before .before .powers2 .result) 1 0) (c .before .before .before .before .before .before .before .before .pre .1) (c .before .before .before .before .powers2 .ensures 1 (omega arith) (omega arith)))
+mul-result c = omega (arith, strings-room (c .before .before .before .before .before .before .before .before .args .inputs) (getD (c .before .before .before .before .powers2 .result) 1 0) (c .before .before .before .before .before .before .before .before .pre .0 .1) (c .before .before .before .before .powers2 .ensures 1 (omega arith) (omega arith)))
 
 -- src/lib.rt:50:1
 returns-4 : tie.Need-returns-4 Inv-loop μ-loop

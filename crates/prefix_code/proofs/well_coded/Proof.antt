@@ -37,7 +37,14 @@ returns-4 c = λ t. clash t refl
 
 -- src/lib.rt:98:5
 numbered-requires : tie.Need-numbered-requires
-numbered-requires c κs = (omega (arith, c .before .before .before .before .before .before .if1 .left), omega (arith, c .before .before .before .before .before .if2 .left), omega (arith, c .before .before .before .before .leaf-count .ensures, c .before .before .before .if3 .left), λ k h. omega (arith, c .before .before .highest .ensures k h, c .before .wide .ensures, c .if4 .left))
+numbered-requires c κs = (
+  (
+    omega (arith, c .before .before .before .before .before .before .if1 .left),
+    omega (arith, c .before .before .before .before .before .if2 .left),
+    omega (arith, c .before .before .before .before .leaf-count .ensures, c .before .before .before .if3 .left),
+  ),
+  λ k h. omega (arith, c .before .before .highest .ensures k h, c .before .wide .ensures, c .if4 .left),
+)
 
 -- src/lib.rt:83:1
 returns-5 : tie.Need-returns-5

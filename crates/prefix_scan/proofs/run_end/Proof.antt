@@ -39,12 +39,8 @@ returns c =
     let a = c .before .before .before .before .before .before .before .before .args in
     let loop = c .before .before .before .before .before .loop in
     let loop-test = c .before .before .before .before .loop-test in
-    sym
-    (scan-here _ _ (a .high) (loop-test .taken)
-    (ne-eqb _ _
-    (λ q. c .if1 .taken
-    (c .before .wide .ensures ∙ digit-read (a .leaves .now) (a .words .now) (loop .leaf) (a .place) _ _ (c .before .before .before .word-start .ensures .0) (c .before .before .byte-at .ensures) ∙ q))))
-    ∙ loop .inv .1
+    let read = c .before .wide .ensures ∙ digit-read (a .leaves .now) (a .words .now) (loop .leaf) (a .place) _ _ (c .before .before .before .word-start .ensures .0) (c .before .before .byte-at .ensures) in
+    sym (scan-here _ _ (a .high) (loop-test .taken) (ne-eqb _ _ (λ q. c .if1 .taken (read ∙ q)))) ∙ loop .inv .1
 
 add-leaf : tie.Need-add-leaf Inv-loop μ-loop
 add-leaf c = search needs
@@ -56,15 +52,9 @@ loop-again : tie.Need-loop-again Inv-loop μ-loop
 loop-again c =
     let a = c .before .before .before .before .before .before .before .before .args in
     let loop = c .before .before .before .before .before .loop in
-    let loop-test = c .before .before .before .before .loop-test in (
-      search needs,
-      sym
-          (scan-on _ _ (a .high) (loop-test .taken)
-          (eq-eqb _ _
-          (sym (c .before .wide .ensures ∙ digit-read (a .leaves .now) (a .words .now) (loop .leaf) (a .place) _ _ (c .before .before .before .word-start .ensures .0) (c .before .before .byte-at .ensures)) ∙
-          c .if1 .left)))
-          ∙ loop .inv .1,
-    )
+    let loop-test = c .before .before .before .before .loop-test in
+    let read = c .before .wide .ensures ∙ digit-read (a .leaves .now) (a .words .now) (loop .leaf) (a .place) _ _ (c .before .before .before .word-start .ensures .0) (c .before .before .byte-at .ensures) in
+    (search needs, sym (scan-on _ _ (a .high) (loop-test .taken) (eq-eqb _ _ (sym read ∙ c .if1 .left))) ∙ loop .inv .1)
 
 returns-2 : tie.Need-returns-2 Inv-loop μ-loop
 unfolding runEnd

@@ -26,7 +26,7 @@ wide-requires : tie.Need-wide-requires Inv-loop μ-loop
 wide-requires c κs = search needs
 
 single-requires : tie.Need-single-requires Inv-loop μ-loop
-single-requires c κs = omega (arith, c .wide .ensures .0, c .before .before .before .before .before .before .pre .2 (c .before .before .before .loop .leaf) (c .before .before .loop-test .taken))
+single-requires c κs = omega (arith, c .wide .ensures .0, c .before .before .before .before .before .before .pre .1 (c .before .before .before .loop .leaf) (c .before .before .loop-test .taken))
 
 mul-sets : tie.Need-mul-sets Inv-loop μ-loop
 mul-sets c = omega arith
