@@ -64,8 +64,10 @@ fn locate(
     i: usize,
     other: usize,
 ) -> usize
-    requires { ⌜ (i < elementCount (now alphabet)) × (other < elementCount (now alphabet)) × (elementCount (now inputs) ≤ 136) ⌝ }
-    ensures { λ r. ⌜ r ≡ located (now (inputs .entry)) (now (heads .entry)) (now (links .entry)) (plus (recordAt (now (alphabet .entry)) i) (recordAt (now (alphabet .entry)) other)) ⌝ }
+    requires digits { ⌜ (i < elementCount (now alphabet)) × (other < elementCount (now alphabet)) ⌝ }
+    requires inputs { ⌜ elementCount (now inputs) ≤ 136 ⌝ }
+    ensures { λ r. ⌜ r ≡ located (now (inputs .entry)) (now (heads .entry)) (now (links .entry))
+        (plus (recordAt (now (alphabet .entry)) i) (recordAt (now (alphabet .entry)) other)) ⌝ }
 {
     let x = ring::sum(
         digits::record_at(alphabet, i),
@@ -84,8 +86,11 @@ fn mark_sums(
     i: usize,
     marks: &mut [u8; MOST],
 ) -> bool
-    requires { ⌜ (i < elementCount (now alphabet)) × (elementCount (now inputs) ≤ 136) × Marked (now alphabet) (located (now inputs) (now heads) (now links)) (now marks) ⌝ }
-    ensures { λ r. ⌜ (r ≡ true → sumsListed (now (alphabet .entry)) (now (inputs .entry)) i ≡ true) × Marked (now (alphabet .entry)) (located (now (inputs .entry)) (now (heads .entry)) (now (links .entry))) (now (marks .exit)) ⌝ }
+    requires sizes { ⌜ (i < elementCount (now alphabet)) × (elementCount (now inputs) ≤ 136) ⌝ }
+    requires marked { ⌜ Marked (now alphabet) (located (now inputs) (now heads) (now links)) (now marks) ⌝ }
+    ensures listed { λ r. ⌜ (r ≡ true → sumsListed (now (alphabet .entry)) (now (inputs .entry)) i ≡ true) ⌝ }
+    ensures marked { λ r. ⌜ Marked (now (alphabet .entry)) (located (now (inputs .entry)) (now (heads .entry)) (now (links .entry)))
+        (now (marks .exit)) ⌝ }
 {
     let count = layout::record_count(inputs, INPUTS);
     let mut other = 0;

@@ -24,7 +24,8 @@ pub fn upper_part(
     upper: usize,
 ) -> [i64; 2]
     requires { ⌜ RowsWithin (2 ^ 24) base × (getD (wordGiven (now leaves) (now words) upper) 0 0 < elementCount (now inputs)) ⌝ }
-    ensures { λ r. ⌜ (r ≡ upperPart base (now (inputs .entry)) (now (leaves .entry)) (now (words .entry)) upper) × Within (2 ^ 57 + 32768) r ⌝ }
+    ensures part { λ r. ⌜ r ≡ upperPart base (now (inputs .entry)) (now (leaves .entry)) (now (words .entry)) upper ⌝ }
+    ensures within { λ r. ⌜ Within (2 ^ 57 + 32768) r ⌝ }
 {
     let first = octets::byte_at(leaves::word(leaves, words, upper), 0) as usize;
     ring::difference(

@@ -118,7 +118,10 @@ module _ (leaves words : List ℕ) (ready : WordsOrdered leaves words) where
         e ∙ ap (λ (n : ℕ). (aligned 256 (codeOf leaves words .digit u) n * 2 ^ 8) % 2 ^ 64) long ∙ tail-number (codeOf leaves words .digit u) (pred (wordLength leaves u)) (omega (arith, ready .short u hu)) (bytes u _)
 
     -- a run that starts early enough and ends late enough has all leaves that fit
-    pub run-has : (keys numbers : List ℕ) → Keyed leaves words keys N → (t behind start set end : ℕ) → t ≡ (getD keys u 0 * 2 ^ 8) % 2 ^ 64 → behind + 1 ≡ 256 ^ (8 - pred (wordLength leaves u)) → (0 < start → (start < N) × (getD keys start 0 ≤ t)) → (end < N → bitOr t behind < getD keys end 0) → InRun numbers start set end → (l : ℕ) → l < N → Fits (codeOf leaves words) u l → Has set (getD numbers l 0)
+    pub run-has : (keys numbers : List ℕ) → Keyed leaves words keys N
+        → (t behind start set end : ℕ) → t ≡ (getD keys u 0 * 2 ^ 8) % 2 ^ 64 → behind + 1 ≡ 256 ^ (8 - pred (wordLength leaves u))
+        → (0 < start → (start < N) × (getD keys start 0 ≤ t)) → (end < N → bitOr t behind < getD keys end 0)
+        → InRun numbers start set end → (l : ℕ) → l < N → Fits (codeOf leaves words) u l → Has set (getD numbers l 0)
     run-has keys numbers keyed t behind start set end is rest early late run l there fit =
         let same : t ≡ tailNumber = tail-is t (is ∙ ap (λ (x : ℕ). (x * 2 ^ 8) % 2 ^ 64) (keyed u hu)) in
         elim (decLt l start) [

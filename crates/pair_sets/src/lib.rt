@@ -37,7 +37,8 @@ struct Run {
 
 // The words of all leaves as numbers.
 fn keys_of(leaves: &[u8], words: &[u8], keys: &mut [u64])
-    requires { ⌜ (leafCount (now leaves) ≤ length (now keys)) × WordsOrdered (now leaves) (now words) ⌝ }
+    requires room { ⌜ leafCount (now leaves) ≤ length (now keys) ⌝ }
+    requires ordered { ⌜ WordsOrdered (now leaves) (now words) ⌝ }
     ensures { λ r. ⌜ Keyed (now (leaves .entry)) (now (words .entry)) (now (keys .exit)) (leafCount (now (leaves .entry))) ⌝ }
 {
     let count = leaves::leaf_count(leaves);
@@ -61,7 +62,8 @@ fn behind(length: usize) -> u64
 // The leaf from which on words may begin with a tail, or begin it: the guessed one, the one before it, or leaf 0.
 fn start_of(keys: &[u64], count: usize, guess: usize, tail: u64) -> usize
     requires { ⌜ (count ≤ length (now keys)) × (guess ≤ count) ⌝ }
-    ensures { λ r. ⌜ (r ≤ count) × (0 < r → (r < count) × (getD (now (keys .entry)) r 0 ≤ tail)) ⌝ }
+    ensures within { λ r. ⌜ r ≤ count ⌝ }
+    ensures low { λ r. ⌜ (0 < r → (r < count) × (getD (now (keys .entry)) r 0 ≤ tail)) ⌝ }
 {
     if guess < count {
         if keys[guess] <= tail {
@@ -79,8 +81,9 @@ fn start_of(keys: &[u64], count: usize, guess: usize, tail: u64) -> usize
 
 // The weights from a leaf on, eight leaves at a time, while their words are at most the last one.
 fn by_eights(keys: &[u64], sets: &[u64], count: usize, start: usize, last: u64) -> Run
-    requires { ⌜ (count ≤ length (now keys)) × (count ≤ length (now sets)) × (start ≤ count) ⌝ }
-    ensures { λ r. ⌜ (start ≤ r .end) × (r .end ≤ count) × ((numbers : List ℕ) → Covers numbers (now (sets .entry)) count 8 → InRun numbers start (r .set) (r .end)) ⌝ }
+    requires room { ⌜ (count ≤ length (now keys)) × (count ≤ length (now sets)) × (start ≤ count) ⌝ }
+    ensures end { λ r. ⌜ (start ≤ r .end) × (r .end ≤ count) ⌝ }
+    ensures set { λ r. ⌜ ((numbers : List ℕ) → Covers numbers (now (sets .entry)) count 8 → InRun numbers start (r .set) (r .end)) ⌝ }
 {
     let mut set = 0;
     let mut leaf = start;
@@ -97,8 +100,11 @@ fn by_eights(keys: &[u64], sets: &[u64], count: usize, start: usize, last: u64) 
 
 // The same leaf by leaf, up to the first whose word is above the last one.
 fn one_by_one(keys: &[u64], numbers: &[u8], count: usize, run: Run, last: u64) -> Run
-    requires { ⌜ (count ≤ length (now keys)) × (count ≤ length (now numbers)) × (run .end ≤ count) × ((k : ℕ) → k < count → getD (now numbers) k 0 < 64) ⌝ }
-    ensures { λ r. ⌜ (run .end ≤ r .end) × (r .end ≤ count) × (r .end < count → last < getD (now (keys .entry)) (r .end) 0) × ((start : ℕ) → InRun (now (numbers .entry)) start (run .set) (run .end) → InRun (now (numbers .entry)) start (r .set) (r .end)) ⌝ }
+    requires room { ⌜ (count ≤ length (now keys)) × (count ≤ length (now numbers)) × (run .end ≤ count) ⌝ }
+    requires weights { ⌜ ((k : ℕ) → k < count → getD (now numbers) k 0 < 64) ⌝ }
+    ensures end { λ r. ⌜ (run .end ≤ r .end) × (r .end ≤ count) × (r .end < count → last < getD (now (keys .entry)) (r .end) 0) ⌝ }
+    ensures set { λ r. ⌜ ((start : ℕ) → InRun (now (numbers .entry)) start (run .set) (run .end)
+        → InRun (now (numbers .entry)) start (r .set) (r .end)) ⌝ }
 {
     let mut set = run.set;
     let mut leaf = run.end;
@@ -122,8 +128,17 @@ fn fitting(
     upper: usize,
     guess: usize,
 ) -> Run
-    requires { ⌜ (leafCount (now leaves) ≤ length (now keys)) × (leafCount (now leaves) ≤ length (now numbers)) × (leafCount (now leaves) ≤ length (now sets)) × (upper < leafCount (now leaves)) × (1 ≤ wordLength (now leaves) upper) × (wordLength (now leaves) upper ≤ 8) × (guess ≤ leafCount (now leaves)) × ((k : ℕ) → k < leafCount (now leaves) → getD (now numbers) k 0 < 64) × Covers (now numbers) (now sets) (leafCount (now leaves)) 8 × ((k : ℕ) → k < leafCount (now leaves) → Has all (getD (now numbers) k 0)) ⌝ }
-    ensures { λ r. ⌜ (r .end ≤ leafCount (now (leaves .entry))) × ((words : List ℕ) → WordsOrdered (now (leaves .entry)) words → Keyed (now (leaves .entry)) words (now (keys .entry)) (leafCount (now (leaves .entry))) → (l : ℕ) → l < leafCount (now (leaves .entry)) → Fits (codeOf (now (leaves .entry)) words) upper l → Has (r .set) (getD (now (numbers .entry)) l 0)) ⌝ }
+    requires room { ⌜ (leafCount (now leaves) ≤ length (now keys)) × (leafCount (now leaves) ≤ length (now numbers))
+        × (leafCount (now leaves) ≤ length (now sets)) ⌝ }
+    requires upper { ⌜ (upper < leafCount (now leaves)) × (1 ≤ wordLength (now leaves) upper) × (wordLength (now leaves) upper ≤ 8)
+        × (guess ≤ leafCount (now leaves)) ⌝ }
+    requires weights { ⌜ ((k : ℕ) → k < leafCount (now leaves) → getD (now numbers) k 0 < 64)
+        × Covers (now numbers) (now sets) (leafCount (now leaves)) 8
+        × ((k : ℕ) → k < leafCount (now leaves) → Has all (getD (now numbers) k 0)) ⌝ }
+    ensures end { λ r. ⌜ r .end ≤ leafCount (now (leaves .entry)) ⌝ }
+    ensures set { λ r. ⌜ (let table = now (leaves .entry) in
+        (words : List ℕ) → WordsOrdered table words → Keyed table words (now (keys .entry)) (leafCount table)
+        → (l : ℕ) → l < leafCount table → Fits (codeOf table words) upper l → Has (r .set) (getD (now (numbers .entry)) l 0)) ⌝ }
 {
     let count = leaves::leaf_count(leaves);
     let length = leaves::word_length(leaves, upper);
@@ -153,8 +168,15 @@ fn all_in(
     first: &[usize],
     count: usize,
 ) -> bool
-    requires { ⌜ RowsWithin (2 ^ 24) base × (0 < elementCount (now inputs)) × (leafCheck (now leaves) (now words) (elementCount (now inputs)) .number ≡ 0) × (leafCount (now leaves) ≤ length (now keys)) × (leafCount (now leaves) ≤ length (now numbers)) × (leafCount (now leaves) ≤ length (now sets)) × (count ≤ 64) × (count ≤ length (now first)) × Keyed (now leaves) (now words) (now keys) (leafCount (now leaves)) × WeightsNumbered (now leaves) (now numbers) (now first) count (leafCount (now leaves)) × Covers (now numbers) (now sets) (leafCount (now leaves)) 8 ⌝ }
-    ensures { λ r. ⌜ (r ≡ true → AllPass base (now (alphabet .entry)) (now (inputs .entry)) (now (leaves .entry)) (now (words .entry)) (leafCount (now (leaves .entry)))) ⌝ }
+    requires table { ⌜ RowsWithin (2 ^ 24) base × (0 < elementCount (now inputs))
+        × (leafCheck (now leaves) (now words) (elementCount (now inputs)) .number ≡ 0) ⌝ }
+    requires room { ⌜ (leafCount (now leaves) ≤ length (now keys)) × (leafCount (now leaves) ≤ length (now numbers))
+        × (leafCount (now leaves) ≤ length (now sets)) × (count ≤ 64) × (count ≤ length (now first)) ⌝ }
+    requires known { ⌜ Keyed (now leaves) (now words) (now keys) (leafCount (now leaves))
+        × WeightsNumbered (now leaves) (now numbers) (now first) count (leafCount (now leaves))
+        × Covers (now numbers) (now sets) (leafCount (now leaves)) 8 ⌝ }
+    ensures { λ r. ⌜ (r ≡ true → AllPass base (now (alphabet .entry)) (now (inputs .entry)) (now (leaves .entry))
+        (now (words .entry)) (leafCount (now (leaves .entry)))) ⌝ }
 {
     let mut slots = [EMPTY; SLOTS];
     if !pair_digits::slot_digits(alphabet, &mut slots) {
@@ -204,8 +226,12 @@ fn look(
     sets: &mut [u64],
     numbers: &mut [u8],
 ) -> bool
-    requires { ⌜ BasePart (now base) × (0 < elementCount (now inputs)) × (leafCheck (now leaves) (now words) (elementCount (now inputs)) .number ≡ 0) × (leafCount (now leaves) ≤ length (now keys)) × (leafCount (now leaves) ≤ length (now sets)) × (leafCount (now leaves) ≤ length (now numbers)) ⌝ }
-    ensures { λ r. ⌜ (r ≡ true → AllPass (baseMatrix (now (base .entry))) (now (alphabet .entry)) (now (inputs .entry)) (now (leaves .entry)) (now (words .entry)) (leafCount (now (leaves .entry)))) ⌝ }
+    requires table { ⌜ BasePart (now base) × (0 < elementCount (now inputs))
+        × (leafCheck (now leaves) (now words) (elementCount (now inputs)) .number ≡ 0) ⌝ }
+    requires room { ⌜ (leafCount (now leaves) ≤ length (now keys)) × (leafCount (now leaves) ≤ length (now sets))
+        × (leafCount (now leaves) ≤ length (now numbers)) ⌝ }
+    ensures { λ r. ⌜ (r ≡ true → AllPass (baseMatrix (now (base .entry))) (now (alphabet .entry)) (now (inputs .entry))
+        (now (leaves .entry)) (now (words .entry)) (leafCount (now (leaves .entry)))) ⌝ }
 {
     let mut first = [0; WEIGHTS];
     let count = weight_sets::number_weights(leaves, numbers, &mut first);
@@ -231,8 +257,11 @@ fn look(
 
 // The same for few leaves, since cleared room costs time.
 fn look_at_few(base: &[u8], alphabet: &[u8], inputs: &[u8], leaves: &[u8], words: &[u8]) -> bool
-    requires { ⌜ BasePart (now base) × (0 < elementCount (now inputs)) × (leafCheck (now leaves) (now words) (elementCount (now inputs)) .number ≡ 0) × (leafCount (now leaves) ≤ 512) ⌝ }
-    ensures { λ r. ⌜ (r ≡ true → AllPass (baseMatrix (now (base .entry))) (now (alphabet .entry)) (now (inputs .entry)) (now (leaves .entry)) (now (words .entry)) (leafCount (now (leaves .entry)))) ⌝ }
+    requires table { ⌜ BasePart (now base) × (0 < elementCount (now inputs))
+        × (leafCheck (now leaves) (now words) (elementCount (now inputs)) .number ≡ 0) ⌝ }
+    requires few { ⌜ leafCount (now leaves) ≤ 512 ⌝ }
+    ensures { λ r. ⌜ (r ≡ true → AllPass (baseMatrix (now (base .entry))) (now (alphabet .entry)) (now (inputs .entry))
+        (now (leaves .entry)) (now (words .entry)) (leafCount (now (leaves .entry)))) ⌝ }
 {
     let mut keys = [0; FEW];
     let mut sets = [0; FEW];
@@ -250,8 +279,11 @@ fn look_at_few(base: &[u8], alphabet: &[u8], inputs: &[u8], leaves: &[u8], words
 }
 
 fn look_at_many(base: &[u8], alphabet: &[u8], inputs: &[u8], leaves: &[u8], words: &[u8]) -> bool
-    requires { ⌜ BasePart (now base) × (0 < elementCount (now inputs)) × (leafCheck (now leaves) (now words) (elementCount (now inputs)) .number ≡ 0) × (leafCount (now leaves) ≤ 4096) ⌝ }
-    ensures { λ r. ⌜ (r ≡ true → AllPass (baseMatrix (now (base .entry))) (now (alphabet .entry)) (now (inputs .entry)) (now (leaves .entry)) (now (words .entry)) (leafCount (now (leaves .entry)))) ⌝ }
+    requires table { ⌜ BasePart (now base) × (0 < elementCount (now inputs))
+        × (leafCheck (now leaves) (now words) (elementCount (now inputs)) .number ≡ 0) ⌝ }
+    requires many { ⌜ leafCount (now leaves) ≤ 4096 ⌝ }
+    ensures { λ r. ⌜ (r ≡ true → AllPass (baseMatrix (now (base .entry))) (now (alphabet .entry)) (now (inputs .entry))
+        (now (leaves .entry)) (now (words .entry)) (leafCount (now (leaves .entry)))) ⌝ }
 {
     let mut keys = [0; LEAVES];
     let mut sets = [0; LEAVES];
@@ -270,8 +302,10 @@ fn look_at_many(base: &[u8], alphabet: &[u8], inputs: &[u8], leaves: &[u8], word
 
 // Whether every fitting pair is seen to give an alphabet digit. Of so few leaves that the pairs are judged sooner it says nothing.
 pub fn all_pass(base: &[u8], alphabet: &[u8], inputs: &[u8], leaves: &[u8], words: &[u8]) -> bool
-    requires { ⌜ BasePart (now base) × (0 < elementCount (now inputs)) × (leafCheck (now leaves) (now words) (elementCount (now inputs)) .number ≡ 0) ⌝ }
-    ensures { λ r. ⌜ (r ≡ true → AllPass (baseMatrix (now (base .entry))) (now (alphabet .entry)) (now (inputs .entry)) (now (leaves .entry)) (now (words .entry)) (leafCount (now (leaves .entry)))) ⌝ }
+    requires table { ⌜ BasePart (now base) × (0 < elementCount (now inputs))
+        × (leafCheck (now leaves) (now words) (elementCount (now inputs)) .number ≡ 0) ⌝ }
+    ensures { λ r. ⌜ (r ≡ true → AllPass (baseMatrix (now (base .entry))) (now (alphabet .entry)) (now (inputs .entry))
+        (now (leaves .entry)) (now (words .entry)) (leafCount (now (leaves .entry)))) ⌝ }
 {
     let count = leaves::leaf_count(leaves);
     if count < FEWEST {

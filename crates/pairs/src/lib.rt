@@ -48,7 +48,8 @@ fn tail_window(upper: &[u8]) -> [u8; 8]
 
 // Whether the upper word without its first digit and the lower word agree as far as both reach.
 fn fit(upper: &[u8], lower: &[u8]) -> bool
-    ensures { λ r. ⌜ r ≡ agree (λ i. getD (now (upper .entry)) (i + 1) 0) (λ i. getD (now (lower .entry)) i 0) (min (pred (length (now (upper .entry)))) (length (now (lower .entry)))) ⌝ }
+    ensures { λ r. ⌜ r ≡ agree (λ i. getD (now (upper .entry)) (i + 1) 0) (λ i. getD (now (lower .entry)) i 0)
+        (min (pred (length (now (upper .entry)))) (length (now (lower .entry)))) ⌝ }
 {
     let mut i = 0;
     while i < lower.len() {
@@ -76,8 +77,13 @@ fn bad_lower(
     upper: usize,
     guess: usize,
 ) -> Run
-    requires { ⌜ RowsWithin (2 ^ 24) base × (0 < elementCount (now inputs)) × (leafCheck (now leaves) (now words) (elementCount (now inputs)) .number ≡ 0) × (upper < leafCount (now leaves)) × (known ≡ true → Slotted (now alphabet) (now slots)) ⌝ }
-    ensures { λ r. ⌜ r .bad ≡ firstFailing (pairPasses (elements degree base) (recordAt (now (inputs .entry))) (codeOf (now (leaves .entry)) (now (words .entry))) (inAlphabet (now (alphabet .entry))) upper) 0 (leafCount (now (leaves .entry))) ⌝ }
+    requires table { ⌜ RowsWithin (2 ^ 24) base × (0 < elementCount (now inputs))
+        × (leafCheck (now leaves) (now words) (elementCount (now inputs)) .number ≡ 0) ⌝ }
+    requires upper { ⌜ upper < leafCount (now leaves) ⌝ }
+    requires slots { ⌜ (known ≡ true → Slotted (now alphabet) (now slots)) ⌝ }
+    ensures { λ r. ⌜ r .bad ≡ firstFailing (pairPasses (elements degree base) (recordAt (now (inputs .entry)))
+        (codeOf (now (leaves .entry)) (now (words .entry))) (inAlphabet (now (alphabet .entry))) upper) 0
+        (leafCount (now (leaves .entry))) ⌝ }
 {
     let count = leaves::leaf_count(leaves);
     let top = leaves::word(leaves, words, upper);
@@ -106,7 +112,8 @@ fn bad_lower(
 
 // The lowest upper leaf that fails with some lower leaf, and the lowest such lower leaf; the leaf count twice where none fails.
 pub fn bad_pair(base: &[u8], alphabet: &[u8], inputs: &[u8], leaves: &[u8], words: &[u8]) -> Pair
-    requires { ⌜ BasePart (now base) × (0 < elementCount (now inputs)) × (leafCheck (now leaves) (now words) (elementCount (now inputs)) .number ≡ 0) ⌝ }
+    requires table { ⌜ BasePart (now base) × (0 < elementCount (now inputs))
+        × (leafCheck (now leaves) (now words) (elementCount (now inputs)) .number ≡ 0) ⌝ }
     ensures { λ r. ⌜ r ≡ badPair (now (base .entry)) (now (alphabet .entry)) (now (inputs .entry)) (now (leaves .entry)) (now (words .entry)) ⌝ }
 {
     let matrix = digits::base_of(base);
@@ -142,7 +149,8 @@ pub fn bad_pair(base: &[u8], alphabet: &[u8], inputs: &[u8], leaves: &[u8], word
 
 // Rule 14. The scan that names the leaves is only made where the quick look says nothing.
 pub fn pairs(base: &[u8], alphabet: &[u8], inputs: &[u8], leaves: &[u8], words: &[u8]) -> Refusal
-    requires { ⌜ BasePart (now base) × (0 < elementCount (now inputs)) × (leafCheck (now leaves) (now words) (elementCount (now inputs)) .number ≡ 0) ⌝ }
+    requires table { ⌜ BasePart (now base) × (0 < elementCount (now inputs))
+        × (leafCheck (now leaves) (now words) (elementCount (now inputs)) .number ≡ 0) ⌝ }
     ensures { λ r. ⌜ r ≡ pairCheck (now (base .entry)) (now (alphabet .entry)) (now (inputs .entry)) (now (leaves .entry)) (now (words .entry)) ⌝ }
 {
     if pair_sets::all_pass(base, alphabet, inputs, leaves, words) {

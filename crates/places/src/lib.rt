@@ -42,8 +42,13 @@ fn input_at(
     place: usize,
     known: &mut [u8],
 ) -> u8
-    requires { ⌜ (elementCount (now alphabet) ≤ 16) × (elementCount (now inputs) < 256) × (getD (changed change 0 (now first)) place 0 < elementCount (now alphabet)) × (getD (changed change 1 (now second)) place 0 < elementCount (now alphabet)) × Known (now alphabet) (now inputs) (now known) ⌝ }
-    ensures { λ r. ⌜ (r ≡ inputAt (now (alphabet .entry)) (now (inputs .entry)) (changed change 0 (now (first .entry))) (changed change 1 (now (second .entry))) place) × Known (now (alphabet .entry)) (now (inputs .entry)) (now (known .exit)) ⌝ }
+    requires sizes { ⌜ (elementCount (now alphabet) ≤ 16) × (elementCount (now inputs) < 256) ⌝ }
+    requires indexes { ⌜ (getD (changed change 0 (now first)) place 0 < elementCount (now alphabet))
+        × (getD (changed change 1 (now second)) place 0 < elementCount (now alphabet)) ⌝ }
+    requires known { ⌜ Known (now alphabet) (now inputs) (now known) ⌝ }
+    ensures index { λ r. ⌜ r ≡ inputAt (now (alphabet .entry)) (now (inputs .entry)) (changed change 0 (now (first .entry)))
+        (changed change 1 (now (second .entry))) place ⌝ }
+    ensures known { λ r. ⌜ Known (now (alphabet .entry)) (now (inputs .entry)) (now (known .exit)) ⌝ }
 {
     let upper = rows::byte_at(change, 0, first, place) as usize;
     let lower = rows::byte_at(change, 1, second, place) as usize;
@@ -64,8 +69,12 @@ pub fn input_row(
     from: usize,
     end: usize,
 ) -> [u8; 256]
-    requires { ⌜ (from ≤ end) × (end ≤ 256) × (elementCount (now inputs) < 256) × ((k : ℕ) → k < end → getD (changed change 0 (now first)) k 0 < elementCount (now alphabet)) × ((k : ℕ) → k < end → getD (changed change 1 (now second)) k 0 < elementCount (now alphabet)) × (elementCount (now alphabet) ≤ 16) ⌝ }
-    ensures { λ r. ⌜ r ≡ partRow (inputAt (now (alphabet .entry)) (now (inputs .entry)) (changed change 0 (now (first .entry))) (changed change 1 (now (second .entry)))) from end ⌝ }
+    requires { ⌜ (from ≤ end) × (end ≤ 256) × (elementCount (now inputs) < 256)
+        × ((k : ℕ) → k < end → getD (changed change 0 (now first)) k 0 < elementCount (now alphabet))
+        × ((k : ℕ) → k < end → getD (changed change 1 (now second)) k 0 < elementCount (now alphabet))
+        × (elementCount (now alphabet) ≤ 16) ⌝ }
+    ensures { λ r. ⌜ r ≡ partRow (inputAt (now (alphabet .entry)) (now (inputs .entry)) (changed change 0 (now (first .entry)))
+        (changed change 1 (now (second .entry)))) from end ⌝ }
 {
     let mut row = [0u8; 256];
     let mut known = [255u8; 256];
@@ -106,7 +115,8 @@ fn window_below(row: &[u8], place: usize) -> [u8; 8]
 // The weight that a place gets from below.
 fn weight_into(leaves: &[u8], words: &[u8], row: &[u8], place: usize) -> [i64; 2]
     requires { ⌜ Begun (now leaves) (now words) (now row) ⌝ }
-    ensures { λ r. ⌜ (r ≡ weightInto (codeOf (now (leaves .entry)) (now (words .entry))) (now (row .entry)) place) × Within 32768 r ⌝ }
+    ensures weight { λ r. ⌜ r ≡ weightInto (codeOf (now (leaves .entry)) (now (words .entry))) (now (row .entry)) place ⌝ }
+    ensures within { λ r. ⌜ Within 32768 r ⌝ }
 {
     leaves::weight(
         leaves,
@@ -195,7 +205,8 @@ fn weight_tried(
     found: &mut [u16; WINDOWS],
 ) -> [i64; 2]
     requires { ⌜ Begun (now leaves) (now words) (now row) × (first ≡ window (now row) place 0) ⌝ }
-    ensures { λ r. ⌜ (r ≡ weightInto (codeOf (now (leaves .entry)) (now (words .entry))) (now (row .entry)) place) × Within 32768 r ⌝ }
+    ensures weight { λ r. ⌜ r ≡ weightInto (codeOf (now (leaves .entry)) (now (words .entry))) (now (row .entry)) place ⌝ }
+    ensures within { λ r. ⌜ Within 32768 r ⌝ }
 {
     let slot = window_slot(row, place, first, single);
     let digit = octets::wide(first);
@@ -234,7 +245,8 @@ fn first_leaves(leaves: &[u8], words: &[u8], inputs: usize) -> [u16; STARTS] {
 // that was found is put there.
 fn index_of(alphabet: &[u8], x: [i64; 2], slots: &mut [u8; DIGITS]) -> usize
     requires { ⌜ Within (2 ^ 42) x × (elementCount (now alphabet) ≤ 256) × Firsts (now alphabet) (now slots) ⌝ }
-    ensures { λ r. ⌜ (r ≡ alphabetIndex (now (alphabet .entry)) x) × Firsts (now (alphabet .entry)) (now (slots .exit)) ⌝ }
+    ensures index { λ r. ⌜ r ≡ alphabetIndex (now (alphabet .entry)) x ⌝ }
+    ensures slots { λ r. ⌜ Firsts (now (alphabet .entry)) (now (slots .exit)) ⌝ }
 {
     let size = layout::record_count(alphabet, 1);
     let slot = slots::slot_of(x);
@@ -261,8 +273,11 @@ fn out_index(
     own: [i64; 2],
     slots: &mut [u8; DIGITS],
 ) -> usize
-    requires { ⌜ RowsWithin (2 ^ 24) base × (input < elementCount (now inputs)) × Within 32768 below × Within 32768 own × (elementCount (now alphabet) ≤ 256) × Firsts (now alphabet) (now slots) ⌝ }
-    ensures { λ r. ⌜ (r ≡ alphabetIndex (now (alphabet .entry)) (outDigit (elements degree base) (recordAt (now (inputs .entry)) input) below own)) × Firsts (now (alphabet .entry)) (now (slots .exit)) ⌝ }
+    requires sizes { ⌜ RowsWithin (2 ^ 24) base × (input < elementCount (now inputs)) × Within 32768 below × Within 32768 own ⌝ }
+    requires alphabet { ⌜ (elementCount (now alphabet) ≤ 256) × Firsts (now alphabet) (now slots) ⌝ }
+    ensures index { λ r. ⌜ r ≡ alphabetIndex (now (alphabet .entry))
+        (outDigit (elements degree base) (recordAt (now (inputs .entry)) input) below own) ⌝ }
+    ensures slots { λ r. ⌜ Firsts (now (alphabet .entry)) (now (slots .exit)) ⌝ }
 {
     let digit = converted_digit::out_digit(base, digits::record_at(inputs, input), below, own);
     index_of(alphabet, digit, slots)
@@ -293,8 +308,15 @@ pub fn convert(
     count: usize,
     out: &mut [u8],
 ) -> usize
-    requires { ⌜ RowsWithin (2 ^ 24) base × (elementCount (now alphabet) ≤ 256) × (0 < elementCount (now inputs)) × Inputs (elementCount (now inputs)) (now row) × Begun (now leaves) (now words) (now row) × (from + count < 65536) × (count ≤ length (now out)) ⌝ }
-    ensures { λ r. ⌜ (r ≡ firstFailing (λ k. digitAllowed (elements degree base) (now (alphabet .entry)) (now (inputs .entry)) (now (leaves .entry)) (now (words .entry)) (now (row .entry)) (from + k)) 0 count) × (now (out .exit) ≡ overwrite (now (out .entry)) 0 (span (λ k. indexAt (elements degree base) (now (alphabet .entry)) (now (inputs .entry)) (now (leaves .entry)) (now (words .entry)) (now (row .entry)) (from + k)) 0 r)) ⌝ }
+    requires { ⌜ RowsWithin (2 ^ 24) base × (elementCount (now alphabet) ≤ 256) × (0 < elementCount (now inputs))
+        × Inputs (elementCount (now inputs)) (now row) × Begun (now leaves) (now words) (now row) × (from + count < 65536)
+        × (count ≤ length (now out)) ⌝ }
+    ensures count { λ r. ⌜ (let allowed = digitAllowed (elements degree base) (now (alphabet .entry)) (now (inputs .entry))
+        (now (leaves .entry)) (now (words .entry)) (now (row .entry)) in
+        r ≡ firstFailing (λ k. allowed (from + k)) 0 count) ⌝ }
+    ensures buffer { λ r. ⌜ (let index = indexAt (elements degree base) (now (alphabet .entry)) (now (inputs .entry))
+        (now (leaves .entry)) (now (words .entry)) (now (row .entry)) in
+        now (out .exit) ≡ overwrite (now (out .entry)) 0 (span (λ k. index (from + k)) 0 r)) ⌝ }
 {
     let size = layout::record_count(alphabet, 1);
     let single = words.len() <= leaves::leaf_count(leaves);

@@ -33,8 +33,11 @@ fn lies(start: usize, length: usize, place: usize, all: usize) -> bool
 // Whether the words lie one after the other, each above the one before, and begin as many strings of eight as there are, so that rules
 // 9, 11 and 12 hold. Where words are in order no string begins with two of them, so their strings are counted by a sum.
 fn numbered(leaves: &[u8], words: &[u8], inputs: u64) -> bool
-    requires { ⌜ (1 ≤ inputs) × (inputs ≤ 136) × (leafCount (now leaves) ≤ 8191) × ((k : ℕ) → k < length (now words) → getD (now words) k 0 < inputs) ⌝ }
-    ensures { λ r. ⌜ (r ≡ true → ((k : ℕ) → k < leafCount (now (leaves .entry)) → leafAllowed (now (leaves .entry)) (length (now (words .entry))) k ≡ true) × Numbered (codeOf (now (leaves .entry)) (now (words .entry))) inputs) ⌝ }
+    requires sizes { ⌜ (1 ≤ inputs) × (inputs ≤ 136) × (leafCount (now leaves) ≤ 8191) ⌝ }
+    requires indexes { ⌜ ((k : ℕ) → k < length (now words) → getD (now words) k 0 < inputs) ⌝ }
+    ensures { λ r. ⌜ (r ≡ true → ((k : ℕ) → k < leafCount (now (leaves .entry))
+        → leafAllowed (now (leaves .entry)) (length (now (words .entry))) k ≡ true)
+        × Numbered (codeOf (now (leaves .entry)) (now (words .entry))) inputs) ⌝ }
 {
     let units = word_numbers::powers(256);
     let shares = word_numbers::powers(inputs);

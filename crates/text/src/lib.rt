@@ -13,7 +13,8 @@ use faults::Fault;
 // Writes a number in decimal from a place on; the next place.
 pub fn put_decimal(out: &mut [u8], at: usize, n: usize) -> usize
     requires { ⌜ at + length (decimal n) ≤ length (now out) ⌝ }
-    ensures { λ r. ⌜ (r ≡ at + length (decimal n)) × (now (out .exit) ≡ overwrite (now (out .entry)) at (decimal n)) ⌝ }
+    ensures end { λ r. ⌜ r ≡ at + length (decimal n) ⌝ }
+    ensures buffer { λ r. ⌜ now (out .exit) ≡ overwrite (now (out .entry)) at (decimal n) ⌝ }
 {
     if n < 10 {
         out[at] = 48 + n as u8;
@@ -27,7 +28,8 @@ pub fn put_decimal(out: &mut [u8], at: usize, n: usize) -> usize
 // Writes a word and then a number from a place on; the next place.
 pub fn put_item(out: &mut [u8], at: usize, word: &[u8], n: usize) -> usize
     requires { ⌜ at + length (now word ++ decimal n) ≤ length (now out) ⌝ }
-    ensures { λ r. ⌜ (r ≡ at + length (now (word .entry) ++ decimal n)) × (now (out .exit) ≡ overwrite (now (out .entry)) at (now (word .entry) ++ decimal n)) ⌝ }
+    ensures end { λ r. ⌜ r ≡ at + length (now (word .entry) ++ decimal n) ⌝ }
+    ensures buffer { λ r. ⌜ now (out .exit) ≡ overwrite (now (out .entry)) at (now (word .entry) ++ decimal n) ⌝ }
 {
     let number = octets::put(out, at, word);
     put_decimal(out, number, n)
@@ -45,7 +47,8 @@ fn size(z: i64) -> usize
 // since the lowest number of 32 has no opposite there.
 pub fn put_signed(out: &mut [u8], at: usize, z: i32) -> usize
     requires { ⌜ at + length (decimalZ z) ≤ length (now out) ⌝ }
-    ensures { λ r. ⌜ (r ≡ at + length (decimalZ z)) × (now (out .exit) ≡ overwrite (now (out .entry)) at (decimalZ z)) ⌝ }
+    ensures end { λ r. ⌜ r ≡ at + length (decimalZ z) ⌝ }
+    ensures buffer { λ r. ⌜ now (out .exit) ≡ overwrite (now (out .entry)) at (decimalZ z) ⌝ }
 {
     let digits = size(z as i64);
     if z < 0 {
@@ -68,7 +71,8 @@ fn hex_byte(d: u8) -> u8
 // Writes two hexadecimal digits for each byte from a place on; the next place.
 fn put_hex_digits(out: &mut [u8], at: usize, bytes: &[u8]) -> usize
     requires { ⌜ at + length (hexDigits (now bytes)) ≤ length (now out) ⌝ }
-    ensures { λ r. ⌜ (r ≡ at + length (hexDigits (now (bytes .entry)))) × (now (out .exit) ≡ overwrite (now (out .entry)) at (hexDigits (now (bytes .entry)))) ⌝ }
+    ensures end { λ r. ⌜ r ≡ at + length (hexDigits (now (bytes .entry))) ⌝ }
+    ensures buffer { λ r. ⌜ now (out .exit) ≡ overwrite (now (out .entry)) at (hexDigits (now (bytes .entry))) ⌝ }
 {
     let mut end = at;
     let mut i = 0;
@@ -85,7 +89,8 @@ fn put_hex_digits(out: &mut [u8], at: usize, bytes: &[u8]) -> usize
 // Writes a buffer in hexadecimal from a place on, `-` where it is empty; the next place.
 pub fn put_hex(out: &mut [u8], at: usize, bytes: &[u8]) -> usize
     requires { ⌜ at + length (hex (now bytes)) ≤ length (now out) ⌝ }
-    ensures { λ r. ⌜ (r ≡ at + length (hex (now (bytes .entry)))) × (now (out .exit) ≡ overwrite (now (out .entry)) at (hex (now (bytes .entry)))) ⌝ }
+    ensures end { λ r. ⌜ r ≡ at + length (hex (now (bytes .entry))) ⌝ }
+    ensures buffer { λ r. ⌜ now (out .exit) ≡ overwrite (now (out .entry)) at (hex (now (bytes .entry))) ⌝ }
 {
     if bytes.len() == 0 {
         return octets::put(out, at, b"-");
@@ -96,7 +101,9 @@ pub fn put_hex(out: &mut [u8], at: usize, bytes: &[u8]) -> usize
 // Writes a word, a fault's number and its place from a place on; the next place. Each number has at most 20 digits.
 fn put_refusal(out: &mut [u8], at: usize, word: &[u8], number: usize, place: usize) -> usize
     requires { ⌜ at + length (now word) + 47 ≤ length (now out) ⌝ }
-    ensures { λ r. ⌜ (r ≡ at + length (now (word .entry) ++ (decimal number ++ (placeWord ++ decimal place)))) × (now (out .exit) ≡ overwrite (now (out .entry)) at (now (word .entry) ++ (decimal number ++ (placeWord ++ decimal place)))) ⌝ }
+    ensures end { λ r. ⌜ r ≡ at + length (now (word .entry) ++ (decimal number ++ (placeWord ++ decimal place))) ⌝ }
+    ensures buffer { λ r. ⌜ now (out .exit) ≡ overwrite (now (out .entry)) at
+        (now (word .entry) ++ (decimal number ++ (placeWord ++ decimal place))) ⌝ }
 {
     let end = put_item(out, at, word, number);
     put_item(out, end, b" place ", place)
@@ -105,7 +112,8 @@ fn put_refusal(out: &mut [u8], at: usize, word: &[u8], number: usize, place: usi
 // Writes `refused GROUP N place P` from a place on; the next place.
 pub fn put_fault(out: &mut [u8], at: usize, fault: Fault) -> usize
     requires { ⌜ at + 64 ≤ length (now out) ⌝ }
-    ensures { λ r. ⌜ (r ≡ at + length (faultText fault)) × (now (out .exit) ≡ overwrite (now (out .entry)) at (faultText fault)) ⌝ }
+    ensures end { λ r. ⌜ r ≡ at + length (faultText fault) ⌝ }
+    ensures buffer { λ r. ⌜ now (out .exit) ≡ overwrite (now (out .entry)) at (faultText fault) ⌝ }
 {
     match fault {
         Fault::Author { number, place } => put_refusal(out, at, b"refused author ", number, place),

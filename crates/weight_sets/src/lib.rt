@@ -25,7 +25,9 @@ const EMPTY: u8 = 255;
 // too high a one where the slot has another weight.
 fn number_in(leaves: &[u8], first: &[usize], count: usize, leaf: usize, number: usize) -> usize
     requires { ⌜ (count ≤ 64) × (count ≤ length (now first)) ⌝ }
-    ensures { λ r. ⌜ ((r < 64 → r ≤ count) × (r < count → weightGiven (now (leaves .entry)) (getD (now (first .entry)) r 0) ≡ weightGiven (now (leaves .entry)) leaf)) ⌝ }
+    ensures within { λ r. ⌜ (r < 64 → r ≤ count) ⌝ }
+    ensures same { λ r. ⌜ (r < count
+        → weightGiven (now (leaves .entry)) (getD (now (first .entry)) r 0) ≡ weightGiven (now (leaves .entry)) leaf) ⌝ }
 {
     if count <= number {
         return count;
@@ -76,7 +78,8 @@ pub fn single(number: usize) -> u64
 
 // Each leaf's weight as a set.
 fn singles(numbers: &[u8], count: usize, sets: &mut [u64])
-    requires { ⌜ (count ≤ length (now numbers)) × (count ≤ length (now sets)) × ((k : ℕ) → k < count → getD (now numbers) k 0 < 64) ⌝ }
+    requires room { ⌜ (count ≤ length (now numbers)) × (count ≤ length (now sets)) ⌝ }
+    requires weights { ⌜ ((k : ℕ) → k < count → getD (now numbers) k 0 < 64) ⌝ }
     ensures { λ r. ⌜ Covers (now (numbers .entry)) (now (sets .exit)) count 1 ⌝ }
 {
     let mut leaf = 0;
@@ -100,7 +103,8 @@ fn double(count: usize, sets: &mut [u64], step: usize)
 
 // For each leaf the weights of the eight leaves from it on.
 pub fn eights(numbers: &[u8], count: usize, sets: &mut [u64])
-    requires { ⌜ (count ≤ length (now numbers)) × (count ≤ length (now sets)) × ((k : ℕ) → k < count → getD (now numbers) k 0 < 64) ⌝ }
+    requires room { ⌜ (count ≤ length (now numbers)) × (count ≤ length (now sets)) ⌝ }
+    requires weights { ⌜ ((k : ℕ) → k < count → getD (now numbers) k 0 < 64) ⌝ }
     ensures { λ r. ⌜ Covers (now (numbers .entry)) (now (sets .exit)) count 8 ⌝ }
 {
     singles(numbers, count, sets);
@@ -143,7 +147,8 @@ fn good_set(
     first: &[usize],
     count: usize,
 ) -> u64
-    requires { ⌜ Slotted (now alphabet) (now slots) × Within (2 ^ 57 + 32768) part × (count ≤ 64) × (count ≤ length (now first)) ⌝ }
+    requires part { ⌜ Slotted (now alphabet) (now slots) × Within (2 ^ 57 + 32768) part ⌝ }
+    requires weights { ⌜ (count ≤ 64) × (count ≤ length (now first)) ⌝ }
     ensures { λ r. ⌜ Good (now (alphabet .entry)) (now (leaves .entry)) (now (first .entry)) part r ⌝ }
 {
     let mut good = 0;
@@ -172,8 +177,15 @@ pub fn judged(
     made: &mut [usize; WEIGHTS],
     good: &mut [u64; WEIGHTS],
 ) -> u64
-    requires { ⌜ RowsWithin (2 ^ 24) base × Slotted (now alphabet) (now slots) × (getD (wordGiven (now leaves) (now words) upper) 0 0 < elementCount (now inputs)) × (number < 64) × (count ≤ 64) × (count ≤ length (now first)) × (weightGiven (now leaves) (getD (now first) number 0) ≡ weightGiven (now leaves) upper) × Judged base (now alphabet) (now inputs) (now leaves) (now first) (now made) (now good) ⌝ }
-    ensures { λ r. ⌜ Good (now (alphabet .entry)) (now (leaves .entry)) (now (first .entry)) (upperPart base (now (inputs .entry)) (now (leaves .entry)) (now (words .entry)) upper) r × Judged base (now (alphabet .entry)) (now (inputs .entry)) (now (leaves .entry)) (now (first .entry)) (now (made .exit)) (now (good .exit)) ⌝ }
+    requires part { ⌜ RowsWithin (2 ^ 24) base × Slotted (now alphabet) (now slots)
+        × (getD (wordGiven (now leaves) (now words) upper) 0 0 < elementCount (now inputs)) ⌝ }
+    requires number { ⌜ (number < 64) × (count ≤ 64) × (count ≤ length (now first))
+        × (weightGiven (now leaves) (getD (now first) number 0) ≡ weightGiven (now leaves) upper) ⌝ }
+    requires kept { ⌜ Judged base (now alphabet) (now inputs) (now leaves) (now first) (now made) (now good) ⌝ }
+    ensures good { λ r. ⌜ Good (now (alphabet .entry)) (now (leaves .entry)) (now (first .entry))
+        (upperPart base (now (inputs .entry)) (now (leaves .entry)) (now (words .entry)) upper) r ⌝ }
+    ensures kept { λ r. ⌜ Judged base (now (alphabet .entry)) (now (inputs .entry)) (now (leaves .entry)) (now (first .entry))
+        (now (made .exit)) (now (good .exit)) ⌝ }
 {
     let digit = octets::wide(octets::byte_at(leaves::word(leaves, words, upper), 0)) + 1;
     if made[number] == digit {

@@ -16,7 +16,8 @@ fn wide(x: u8) -> u64
 // The four bytes from a place on.
 fn four(bytes: &[u8], at: usize) -> u64
     requires { ⌜ at + 4 ≤ length (now bytes) ⌝ }
-    ensures { λ r. ⌜ (r ≡ number 256 (λ i. getD (now (bytes .entry)) (at + i) 0) 4) × (r < 4294967296) ⌝ }
+    ensures number { λ r. ⌜ r ≡ number 256 (λ i. getD (now (bytes .entry)) (at + i) 0) 4 ⌝ }
+    ensures within { λ r. ⌜ r < 4294967296 ⌝ }
 {
     wide(bytes[at]) * 16777216
         + wide(bytes[at + 1]) * 65536
@@ -27,7 +28,8 @@ fn four(bytes: &[u8], at: usize) -> u64
 // The eight bytes from a place on. That they are bytes is said for a caller whose bytes are an array, which doesn't tell it.
 pub fn eight(bytes: &[u8], at: usize) -> u64
     requires { ⌜ at + 8 ≤ length (now bytes) ⌝ }
-    ensures { λ r. ⌜ (r ≡ number 256 (λ i. getD (now (bytes .entry)) (at + i) 0) 8) × ((i : ℕ) → getD (now (bytes .entry)) i 0 < 256) ⌝ }
+    ensures number { λ r. ⌜ r ≡ number 256 (λ i. getD (now (bytes .entry)) (at + i) 0) 8 ⌝ }
+    ensures bytes { λ r. ⌜ ((i : ℕ) → getD (now (bytes .entry)) i 0 < 256) ⌝ }
 {
     four(bytes, at) * 4294967296 + four(bytes, at + 4)
 }

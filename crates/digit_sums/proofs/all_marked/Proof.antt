@@ -1,3 +1,4 @@
+-- No mark passed is zero.
 use Rattle.lists.proofs.Test.{clash}
 use mathlib.Core.Path.{refl}
 use denote.Ref.{now}

@@ -1,3 +1,4 @@
+-- What is found from here with so many links left is what is found from the first one.
 use Rattle.digit_sums.proofs.Marks.{follow-out, follow-here, follow-on, follow-end}
 use Rattle.digit_sums.specs.Marks.{followed}
 use denote.Ref.{now}
@@ -48,7 +49,17 @@ loop-less : tie.Need-loop-less Inv-loop μ-loop
 loop-less c = omega arith
 
 loop-again : tie.Need-loop-again Inv-loop μ-loop
-loop-again c = (omega arith, ap (followed _ _ _ _) (c .wide2 .ensures .0) ∙ sym (follow-on _ (now (c .before .before .before .before .before .before .before .before .before .before .before .args .links)) _ _ _ _ (c .before .before .before .before .before .before .loop-test .taken) (omega (arith, c .before .before .before .before .before .before .before .before .before .record-count .ensures)) (c .before .before .before .before .record-at .ensures .0) (sym (c .before .before .before .equal .ensures) ∙ c .before .before .if2 .left)) ∙ c .before .before .before .before .before .before .before .loop .inv .1)
+loop-again c =
+    let a = c .before .before .before .before .before .before .before .before .before .before .before .args in
+    let record-count = c .before .before .before .before .before .before .before .before .before .record-count in
+    let loop = c .before .before .before .before .before .before .before .loop in
+    let loop-test = c .before .before .before .before .before .before .loop-test in
+    let record-at = c .before .before .before .before .record-at in (
+      omega arith,
+      ap (followed _ _ _ _) (c .wide2 .ensures .0) ∙ sym
+          (follow-on _ (now (a .links)) _ _ _ _ (loop-test .taken) (omega (arith, record-count .ensures)) (record-at .ensures .0) (sym (c .before .before .before .equal .ensures) ∙ c .before .before .if2 .left))
+          ∙ loop .inv .1,
+    )
 
 returns-3 : tie.Need-returns-3 Inv-loop μ-loop
 returns-3 c = c .before .before .before .record-count .ensures ∙ sym (follow-end _ _ _ _ _ (c .loop-test .left)) ∙ c .before .loop .inv .1

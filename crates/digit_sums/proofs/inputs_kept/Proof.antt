@@ -1,3 +1,4 @@
+-- All sums passed are listed, and each mark is at the index of a sum; at the end all are marked.
 use Rattle.digit_sums.proofs.Marks.{located-finds, none-marked, all-kept}
 use Rattle.digit_sums.specs.Marks.{located, Marked}
 use Rattle.digit_rules.specs.Digits.{sumsListed, allSumsListed}
@@ -44,7 +45,13 @@ loop-holds : tie.Need-loop-holds Inv-loop μ-loop
 loop-holds c = (omega arith, simp sub-zero, none-marked _ _ 136)
 
 mark-sums-requires : tie.Need-mark-sums-requires Inv-loop μ-loop
-mark-sums-requires c κs = (omega (arith, c .before .before .before .before .before .before .before .before .before .before .before .before .before .record-count .ensures), omega (arith, c .before .before .before .before .before .before .before .before .before .before .before .before .record-count2 .ensures), c .before .before .before .before .loop .inv .2)
+mark-sums-requires c κs = (
+  (
+    omega (arith, c .before .before .before .before .before .before .before .before .before .before .before .before .before .record-count .ensures),
+    omega (arith, c .before .before .before .before .before .before .before .before .before .before .before .before .record-count2 .ensures),
+  ),
+  c .before .before .before .before .loop .inv .2,
+)
 
 returns-4 : tie.Need-returns-4 Inv-loop μ-loop
 returns-4 c = λ no. clash no refl
@@ -63,7 +70,15 @@ all-marked-requires c κs = omega arith
 
 returns-5 : tie.Need-returns-5 Inv-loop μ-loop
 unfolding allSumsListed
-returns-5 c = λ yes. all-kept _ _ _ (located-finds _ _ _) (sym (c .before .before .before .before .before .before .before .before .record-allowed .ensures) ∙ not-false _ (c .before .before .before .before .before .before .before .if3 .left)) (λ k h. c .before .before .before .loop .inv .2 .marked k (c .all-marked .ensures yes k (omega (arith, c .before .before .before .before .before .before .before .before .before .before .before .record-count2 .ensures)))) (ap (every _ 0) (sym (c .before .before .before .before .before .before .before .before .before .before .before .before .record-count .ensures)) ∙ every-out _ _ _ (c .before .before .before .loop .inv .1) (c .before .before .loop-test .left))
+returns-5 c =
+    let record-count = c .before .before .before .before .before .before .before .before .before .before .before .before .record-count in
+    let record-count2 = c .before .before .before .before .before .before .before .before .before .before .before .record-count2 in
+    let record-allowed = c .before .before .before .before .before .before .before .before .record-allowed in
+    let if3 = c .before .before .before .before .before .before .before .if3 in
+    let loop = c .before .before .before .loop in
+    λ yes. all-kept _ _ _ (located-finds _ _ _) (sym (record-allowed .ensures) ∙ not-false _ (if3 .left))
+    (λ k h. loop .inv .2 .marked k (c .all-marked .ensures yes k (omega (arith, record-count2 .ensures))))
+    (ap (every _ 0) (sym (record-count .ensures)) ∙ every-out _ _ _ (loop .inv .1) (c .before .before .loop-test .left))
 
 pub inputs-kept-spec : {M : Type 1} → statement M
 inputs-kept-spec =

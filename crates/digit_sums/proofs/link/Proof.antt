@@ -1,3 +1,4 @@
+-- Nothing is said of the links, since what they lead to is compared.
 use Rattle.ring.proofs.Element.{within-le}
 use borrow.Author.Needs.{needs}
 use native.Mathlib.Omega.{arith}

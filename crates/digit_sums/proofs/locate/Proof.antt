@@ -1,3 +1,4 @@
+-- The links are followed from the slot of the sum.
 use Rattle.digit_sums.specs.Marks.{located}
 use Rattle.ring.proofs.Element.{within-le, within-plus}
 use Rattle.ring.specs.Element.{Within}

@@ -1,3 +1,4 @@
+-- The sums passed are listed, and each mark is at the index of a sum.
 use Rattle.digit_sums.proofs.Marks.{located-finds, found-listed, one-marked}
 use Rattle.digit_sums.specs.Marks.{located, Marked}
 use Rattle.digit_rules.specs.Digits.{sumListed, sumsListed}
@@ -22,13 +23,16 @@ record-count-requires : tie.Need-record-count-requires Inv-loop μ-loop
 record-count-requires c κs = search needs
 
 loop-holds : tie.Need-loop-holds Inv-loop μ-loop
-loop-holds c = (omega arith, simp sub-zero, c .before .before .before .pre .2)
+loop-holds c = (omega arith, simp sub-zero, c .before .before .before .pre .1)
 
 add-loop : tie.Need-add-loop Inv-loop μ-loop
 add-loop c = search needs
 
 locate-requires : tie.Need-locate-requires Inv-loop μ-loop
-locate-requires c κs = (c .before .before .before .before .before .pre .0, omega arith, c .before .before .before .before .before .pre .1)
+locate-requires c κs = (
+  (c .before .before .before .before .before .pre .0 .0, omega arith),
+  c .before .before .before .before .before .pre .0 .1,
+)
 
 returns : tie.Need-returns Inv-loop μ-loop
 returns c = (λ no. clash no refl, c .before .before .before .loop .inv .2)
@@ -43,7 +47,14 @@ loop-less : tie.Need-loop-less Inv-loop μ-loop
 loop-less c = omega arith
 
 loop-again : tie.Need-loop-again Inv-loop μ-loop
-loop-again c = (omega arith, sym (scan-on _ _ _ (c .before .before .loop-test .taken) (found-listed _ _ _ (located-finds _ _ _) _ _ _ (c .before .locate .ensures) (omega (arith, c .before .before .before .before .record-count .ensures)))) ∙ c .before .before .before .loop .inv .1, one-marked _ _ _ _ _ _ (c .before .before .before .loop .inv .2) (c .before .before .before .before .before .before .before .pre .0) (omega arith) (c .before .locate .ensures))
+loop-again c =
+    let pre = c .before .before .before .before .before .before .before .pre in
+    let record-count = c .before .before .before .before .record-count in
+    let loop = c .before .before .before .loop in (
+      omega arith,
+      sym (scan-on _ _ _ (c .before .before .loop-test .taken) (found-listed _ _ _ (located-finds _ _ _) _ _ _ (c .before .locate .ensures) (omega (arith, record-count .ensures)))) ∙ loop .inv .1,
+      one-marked _ _ _ _ _ _ (loop .inv .2) (pre .0 .0) (omega arith) (c .before .locate .ensures),
+    )
 
 returns-2 : tie.Need-returns-2 Inv-loop μ-loop
 unfolding sumsListed

@@ -1,3 +1,4 @@
+-- The sum of the part and the weight is the digit; the slots or the search say whether it is in the alphabet.
 use Rattle.table_rules.specs.Pairs.{inAlphabet}
 use Rattle.digit_rules.specs.Digits.{indexIn}
 use Rattle.ring.proofs.Element.{within-plus, within-le}

@@ -1,3 +1,4 @@
+-- The digits passed have slots of their own.
 use Rattle.pair_digits.proofs.Slots.{slot-next}
 use Rattle.slots.specs.Slot.{slotOf}
 use Rattle.pair_digits.specs.Slots.{SlottedBefore}
@@ -53,7 +54,13 @@ loop-less c = omega arith
 
 loop-again : tie.Need-loop-again Inv-loop μ-loop
 loop-again c =
-    (omega arith, slot-next (c .before .before .before .before .before .before .before .before .before .args .alphabet .now) (c .before .before .before .before .before .loop .slots) (c .before .before .before .before .before .loop .digit) (c .before .before .slot-of .result) (c .before .before .slot-of .ensures .0 ∙ ap slotOf (c .before .before .before .record-at .ensures .0)) (omega (arith, c .if2 .left)) (omega arith) (c .before .before .before .before .before .loop .inv .1))
+    let a = c .before .before .before .before .before .before .before .before .before .args in
+    let loop = c .before .before .before .before .before .loop in
+    let slot-of = c .before .before .slot-of in (
+      omega arith,
+      slot-next (a .alphabet .now) (loop .slots) (loop .digit) (slot-of .result) (slot-of .ensures .0 ∙ ap slotOf (c .before .before .before .record-at .ensures .0)) (omega (arith, c .if2 .left))
+          (omega arith) (loop .inv .1),
+    )
 
 returns-3 : tie.Need-returns-3 Inv-loop μ-loop
 returns-3 c = λ yes k h. c .before .loop .inv .1 k (omega (arith, c .before .before .before .record-count .ensures, c .loop-test .left))

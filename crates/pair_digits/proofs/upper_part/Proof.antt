@@ -1,3 +1,4 @@
+-- The first digit minus the base times the weight, each within its size.
 use Rattle.digit_rules.specs.Record.{recordAt, elementCount}
 use Rattle.ring.proofs.Element.{within-minus, within-le}
 use Rattle.ring.specs.Matrix.{times}

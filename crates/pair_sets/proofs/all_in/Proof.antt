@@ -1,3 +1,4 @@
+-- All upper leaves passed so far pass: the weights of all that fit one are among those that give digits with it.
 use Rattle.leaf_rules.specs.Leaf.{weightGiven}
 use borrow.Author.Tests.{not-false}
 use Rattle.digit_rules.specs.Record.{elementCount}
@@ -41,7 +42,24 @@ loop-holds : tie.Need-loop-holds Inv-loop μ-loop
 loop-holds c = (omega arith, λ u h. absurd (omega arith), λ i d e. absurd (omega (arith, e, zeros-none 64 i)))
 
 fitting-requires : tie.Need-fitting-requires Inv-loop μ-loop
-fitting-requires c κs = (c .before .before .before .before .before .before .before .before .before .before .before .before .before .before .before .pre .3, c .before .before .before .before .before .before .before .before .before .before .before .before .before .before .before .pre .4, c .before .before .before .before .before .before .before .before .before .before .before .before .before .before .before .pre .5, omega (arith, c .before .before .before .leaf-count .ensures), formed (c .before .before .before .before .before .before .before .before .before .before .before .before .before .before .before .args .leaves .now) (c .before .before .before .before .before .before .before .before .before .before .before .before .before .before .before .args .words .now) (elementCount (c .before .before .before .before .before .before .before .before .before .before .before .before .before .before .before .args .inputs .now)) (c .before .before .before .before .before .before .before .before .before .before .before .before .before .before .before .pre .1) (c .before .before .before .before .before .before .before .before .before .before .before .before .before .before .before .pre .2) .some (c .before .loop .upper) (omega (arith, c .before .before .before .leaf-count .ensures)), formed (c .before .before .before .before .before .before .before .before .before .before .before .before .before .before .before .args .leaves .now) (c .before .before .before .before .before .before .before .before .before .before .before .before .before .before .before .args .words .now) (elementCount (c .before .before .before .before .before .before .before .before .before .before .before .before .before .before .before .args .inputs .now)) (c .before .before .before .before .before .before .before .before .before .before .before .before .before .before .before .pre .1) (c .before .before .before .before .before .before .before .before .before .before .before .before .before .before .before .pre .2) .short (c .before .loop .upper) (omega (arith, c .before .before .before .leaf-count .ensures)), omega (arith, c .before .before .before .leaf-count .ensures, c .before .loop .inv .0), λ k h. omega (arith, c .before .before .before .before .before .before .before .before .before .before .before .before .before .before .before .pre .9 k h .0, c .before .before .before .before .before .before .before .before .before .before .before .before .before .before .before .pre .6), c .before .before .before .before .before .before .before .before .before .before .before .before .before .before .before .pre .10, λ k h. c .before .before .all-weights .ensures (getD (c .before .before .before .before .before .before .before .before .before .before .before .before .before .before .before .args .numbers .now) k 0) (c .before .before .before .before .before .before .before .before .before .before .before .before .before .before .before .pre .9 k h .0))
+fitting-requires c κs =
+    let a = c .before .before .before .before .before .before .before .before .before .before .before .before .before .before .before .args in
+    let leaves = a .leaves .now in
+    let inputs = a .inputs .now in
+    let words = a .words .now in
+    let pre = c .before .before .before .before .before .before .before .before .before .before .before .before .before .before .before .pre in
+    let leaf-count = c .before .before .before .leaf-count in (
+      (pre .1 .0 .0, pre .1 .0 .1, pre .1 .0 .2),
+      (
+        (
+          omega (arith, leaf-count .ensures),
+          formed leaves words (elementCount inputs) (pre .0 .1) (pre .0 .2) .some (c .before .loop .upper) (omega (arith, leaf-count .ensures)),
+          formed leaves words (elementCount inputs) (pre .0 .1) (pre .0 .2) .short (c .before .loop .upper) (omega (arith, leaf-count .ensures)),
+          omega (arith, leaf-count .ensures, c .before .loop .inv .0),
+        ),
+        (λ k h. omega (arith, pre .1 .1 .1 k h .0, pre .1 .0 .3), pre .1 .1 .2, λ k h. c .before .before .all-weights .ensures (getD (a .numbers .now) k 0) (pre .1 .1 .1 k h .0)),
+      ),
+    )
 
 shared-slice-read-wide : tie.Need-shared-slice-read-wide Inv-loop μ-loop
 shared-slice-read-wide c = omega arith
@@ -50,7 +68,32 @@ wide-requires : tie.Need-wide-requires Inv-loop μ-loop
 wide-requires c κs = search needs
 
 judged-requires : tie.Need-judged-requires Inv-loop μ-loop
-judged-requires c κs = (c .before .before .before .before .before .before .before .before .before .before .before .before .before .before .before .before .before .before .before .before .before .pre .0, c .before .before .before .before .before .before .before .before .before .before .before .slot-digits .ensures (not-false _ (c .before .before .before .before .before .before .before .before .before .before .if1 .left)), first-input (c .before .before .before .before .before .before .before .before .before .before .before .before .before .before .before .before .before .before .before .before .before .args .leaves .now) (c .before .before .before .before .before .before .before .before .before .before .before .before .before .before .before .before .before .before .before .before .before .args .words .now) (elementCount (c .before .before .before .before .before .before .before .before .before .before .before .before .before .before .before .before .before .before .before .before .before .args .inputs .now)) (c .before .before .before .before .before .before .before .before .before .before .before .before .before .before .before .before .before .before .before .before .before .pre .1) (formed (c .before .before .before .before .before .before .before .before .before .before .before .before .before .before .before .before .before .before .before .before .before .args .leaves .now) (c .before .before .before .before .before .before .before .before .before .before .before .before .before .before .before .before .before .before .before .before .before .args .words .now) (elementCount (c .before .before .before .before .before .before .before .before .before .before .before .before .before .before .before .before .before .before .before .before .before .args .inputs .now)) (c .before .before .before .before .before .before .before .before .before .before .before .before .before .before .before .before .before .before .before .before .before .pre .1) (c .before .before .before .before .before .before .before .before .before .before .before .before .before .before .before .before .before .before .before .before .before .pre .2)) (c .before .before .before .before .before .before .before .loop .upper) (omega (arith, c .before .before .before .before .before .before .before .before .before .leaf-count .ensures)), omega (arith, c .before .before .before .wide .ensures .0, c .before .before .before .before .before .before .before .before .before .before .before .before .before .before .before .before .before .before .before .before .before .pre .9 (c .before .before .before .before .before .before .before .loop .upper) (omega (arith, c .before .before .before .before .before .before .before .before .before .leaf-count .ensures)) .0, c .before .before .before .before .before .before .before .before .before .before .before .before .before .before .before .before .before .before .before .before .before .pre .6), c .before .before .before .before .before .before .before .before .before .before .before .before .before .before .before .before .before .before .before .before .before .pre .6, c .before .before .before .before .before .before .before .before .before .before .before .before .before .before .before .before .before .before .before .before .before .pre .7, ap (λ (n : ℕ). weightGiven (c .before .before .before .before .before .before .before .before .before .before .before .before .before .before .before .before .before .before .before .before .before .args .leaves .now) (getD (c .before .before .before .before .before .before .before .before .before .before .before .before .before .before .before .before .before .before .before .before .before .args .first .now) n 0)) (c .before .before .before .wide .ensures .0) ∙ c .before .before .before .before .before .before .before .before .before .before .before .before .before .before .before .before .before .before .before .before .before .pre .9 (c .before .before .before .before .before .before .before .loop .upper) (omega (arith, c .before .before .before .before .before .before .before .before .before .leaf-count .ensures)) .1, c .before .before .before .before .before .before .before .loop .inv .2)
+judged-requires c κs =
+    let a = c .before .before .before .before .before .before .before .before .before .before .before .before .before .before .before .before .before .before .before .before .before .args in
+    let leaves = a .leaves .now in
+    let inputs = a .inputs .now in
+    let words = a .words .now in
+    let pre = c .before .before .before .before .before .before .before .before .before .before .before .before .before .before .before .before .before .before .before .before .before .pre in
+    let slot-digits = c .before .before .before .before .before .before .before .before .before .before .before .slot-digits in
+    let if1 = c .before .before .before .before .before .before .before .before .before .before .if1 in
+    let leaf-count = c .before .before .before .before .before .before .before .before .before .leaf-count in
+    let loop = c .before .before .before .before .before .before .before .loop in
+    let wide = c .before .before .before .wide in (
+      (
+        pre .0 .0,
+        slot-digits .ensures (not-false _ (if1 .left)),
+        first-input leaves words (elementCount inputs) (pre .0 .1) (formed leaves words (elementCount inputs) (pre .0 .1) (pre .0 .2)) (loop .upper) (omega (arith, leaf-count .ensures)),
+      ),
+      (
+        (
+          omega (arith, wide .ensures .0, pre .1 .1 .1 (loop .upper) (omega (arith, leaf-count .ensures)) .0, pre .1 .0 .3),
+          pre .1 .0 .3,
+          pre .1 .0 .4,
+          ap (λ (n : ℕ). weightGiven leaves (getD (a .first .now) n 0)) (wide .ensures .0) ∙ pre .1 .1 .1 (loop .upper) (omega (arith, leaf-count .ensures)) .1,
+        ),
+        loop .inv .2,
+      ),
+    )
 
 returns-2 : tie.Need-returns-2 Inv-loop μ-loop
 returns-2 c = λ no. clash no refl
@@ -62,7 +105,23 @@ loop-less : tie.Need-loop-less Inv-loop μ-loop
 loop-less c = omega arith
 
 loop-again : tie.Need-loop-again Inv-loop μ-loop
-loop-again c = (omega (arith, c .before .before .before .before .before .before .before .fitting .ensures .0, c .before .before .before .before .before .before .before .before .before .before .before .leaf-count .ensures), all-next (c .before .before .before .before .before .before .before .before .before .before .before .before .before .before .before .before .before .before .before .before .before .before .before .args .leaves .now) (c .before .before .before .before .before .before .before .before .before .before .before .before .before .before .before .before .before .before .before .before .before .before .before .args .words .now) (elementCount (c .before .before .before .before .before .before .before .before .before .before .before .before .before .before .before .before .before .before .before .before .before .before .before .args .inputs .now)) (c .before .before .before .before .before .before .before .before .before .before .before .before .before .before .before .before .before .before .before .before .before .before .before .pre .1) (formed (c .before .before .before .before .before .before .before .before .before .before .before .before .before .before .before .before .before .before .before .before .before .before .before .args .leaves .now) (c .before .before .before .before .before .before .before .before .before .before .before .before .before .before .before .before .before .before .before .before .before .before .before .args .words .now) (elementCount (c .before .before .before .before .before .before .before .before .before .before .before .before .before .before .before .before .before .before .before .before .before .before .before .args .inputs .now)) (c .before .before .before .before .before .before .before .before .before .before .before .before .before .before .before .before .before .before .before .before .before .before .before .pre .1) (c .before .before .before .before .before .before .before .before .before .before .before .before .before .before .before .before .before .before .before .before .before .before .before .pre .2)) (c .before .before .before .before .before .before .before .before .before .before .before .before .before .before .before .before .before .before .before .before .before .before .before .args .base) (c .before .before .before .before .before .before .before .before .before .before .before .before .before .before .before .before .before .before .before .before .before .before .before .args .inputs .now) (c .before .before .before .before .before .before .before .before .before .before .before .before .before .before .before .before .before .before .before .before .before .before .before .args .alphabet .now) (c .before .before .before .before .before .before .before .before .before .before .before .before .before .before .before .before .before .before .before .before .before .before .before .args .numbers .now) (c .before .before .before .before .before .before .before .before .before .before .before .before .before .before .before .before .before .before .before .before .before .before .before .args .first .now) (c .before .before .before .before .before .before .before .before .before .before .before .before .before .before .before .before .before .before .before .before .before .before .before .args .count) (c .before .before .before .before .before .before .before .before .before .before .before .before .before .before .before .before .before .before .before .before .before .before .before .pre .9) (c .before .before .before .before .before .before .before .before .before .loop .upper) (omega (arith, c .before .before .before .before .before .before .before .before .before .before .before .leaf-count .ensures)) (c .before .before .before .before .before .before .before .fitting .result .set) (c .before .judged .result) (c .before .before .before .before .before .before .before .fitting .ensures .1 (c .before .before .before .before .before .before .before .before .before .before .before .before .before .before .before .before .before .before .before .before .before .before .before .args .words .now) (ready-words (c .before .before .before .before .before .before .before .before .before .before .before .before .before .before .before .before .before .before .before .before .before .before .before .args .leaves .now) (c .before .before .before .before .before .before .before .before .before .before .before .before .before .before .before .before .before .before .before .before .before .before .before .args .words .now) (elementCount (c .before .before .before .before .before .before .before .before .before .before .before .before .before .before .before .before .before .before .before .before .before .before .before .args .inputs .now)) (formed (c .before .before .before .before .before .before .before .before .before .before .before .before .before .before .before .before .before .before .before .before .before .before .before .args .leaves .now) (c .before .before .before .before .before .before .before .before .before .before .before .before .before .before .before .before .before .before .before .before .before .before .before .args .words .now) (elementCount (c .before .before .before .before .before .before .before .before .before .before .before .before .before .before .before .before .before .before .before .before .before .before .before .args .inputs .now)) (c .before .before .before .before .before .before .before .before .before .before .before .before .before .before .before .before .before .before .before .before .before .before .before .pre .1) (c .before .before .before .before .before .before .before .before .before .before .before .before .before .before .before .before .before .before .before .before .before .before .before .pre .2)) (λ i. omega (arith, c .before .before .before .before .before .before .before .before .before .before .before .before .before .before .before .before .before .before .before .shared-slice-known4 .given i))) (c .before .before .before .before .before .before .before .before .before .before .before .before .before .before .before .before .before .before .before .before .before .before .before .pre .8)) (omega (arith, c .if2 .left)) (c .before .judged .ensures .0) (c .before .before .before .before .before .before .before .before .before .loop .inv .1), c .before .judged .ensures .1)
+loop-again c =
+    let a = c .before .before .before .before .before .before .before .before .before .before .before .before .before .before .before .before .before .before .before .before .before .before .before .args in
+    let leaves = a .leaves .now in
+    let inputs = a .inputs .now in
+    let words = a .words .now in
+    let pre = c .before .before .before .before .before .before .before .before .before .before .before .before .before .before .before .before .before .before .before .before .before .before .before .pre in
+    let shared-slice-known4 = c .before .before .before .before .before .before .before .before .before .before .before .before .before .before .before .before .before .before .before .shared-slice-known4 in
+    let leaf-count = c .before .before .before .before .before .before .before .before .before .before .before .leaf-count in
+    let loop = c .before .before .before .before .before .before .before .before .before .loop in
+    let fitting = c .before .before .before .before .before .before .before .fitting in (
+      omega (arith, fitting .ensures .0, leaf-count .ensures),
+      all-next leaves words (elementCount inputs) (pre .0 .1) (formed leaves words (elementCount inputs) (pre .0 .1) (pre .0 .2)) (a .base) inputs (a .alphabet .now) (a .numbers .now) (a .first .now) (a .count)
+          (pre .1 .1 .1) (loop .upper) (omega (arith, leaf-count .ensures)) (fitting .result .set) (c .before .judged .result)
+          (fitting .ensures .1 words (ready-words leaves words (elementCount inputs) (formed leaves words (elementCount inputs) (pre .0 .1) (pre .0 .2)) (λ i. omega (arith, shared-slice-known4 .given i))) (pre .1 .1 .0))
+          (omega (arith, c .if2 .left)) (c .before .judged .ensures .0) (loop .inv .1),
+      c .before .judged .ensures .1,
+    )
 
 returns-3 : tie.Need-returns-3 Inv-loop μ-loop
 returns-3 c = λ yes u h. c .before .loop .inv .1 u (omega (arith, c .before .before .before .leaf-count .ensures))

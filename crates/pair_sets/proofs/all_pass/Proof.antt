@@ -1,3 +1,4 @@
+-- Yes is said only where the look at few or at many leaves says it.
 use Rattle.lists.proofs.Test.{clash}
 use mathlib.Core.Path.{refl}
 use Prim.Native.Nat.{_-_}

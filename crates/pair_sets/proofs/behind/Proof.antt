@@ -1,3 +1,4 @@
+-- The highest 64-bit number shifted right by so many bytes is the highest of the bytes that are left.
 use Rattle.pair_sets.proofs.Keys.{behind-is}
 use mathlib.Core.Path.{_≡_, ap, _∙_}
 use Prim.Native.Nat.{ℕ, _+_, _-_, _*_, _/_, _^_, pred}

@@ -1,3 +1,4 @@
+-- A run that starts early enough and ends late enough has all leaves that fit, and its set their weights.
 use Rattle.pair_sets.proofs.Keys.{run-has}
 use Rattle.weight_sets.specs.Weights.{Covers}
 use mathlib.Core.Path.{refl, sym, ap, subst, _∙_}
@@ -16,7 +17,7 @@ word-length-requires : tie.Need-word-length-requires
 word-length-requires c κs = search needs
 
 returns : tie.Need-returns
-returns c = (omega (arith, c .before .before .leaf-count .ensures), λ words ready keyed l there fit. c .before .before .before .before .before .before .before .pre .9 l there)
+returns c = (omega (arith, c .before .before .leaf-count .ensures), λ words ready keyed l there fit. c .before .before .before .before .before .before .before .pre .1 .1 .2 l there)
 
 mul-tail : tie.Need-mul-tail
 mul-tail c = search needs
@@ -34,10 +35,30 @@ by-eights-requires : tie.Need-by-eights-requires
 by-eights-requires c κs = search needs
 
 one-by-one-requires : tie.Need-one-by-one-requires
-one-by-one-requires c κs = (omega (arith, c .before .before .before .before .before .before .leaf-count .ensures), omega (arith, c .before .before .before .before .before .before .leaf-count .ensures), c .by-eights .ensures .1, λ k h. c .before .before .before .before .before .before .before .before .before .before .before .pre .7 k (omega (arith, c .before .before .before .before .before .before .leaf-count .ensures)))
+one-by-one-requires c κs =
+    let pre = c .before .before .before .before .before .before .before .before .before .before .before .pre in
+    let leaf-count = c .before .before .before .before .before .before .leaf-count in (
+      (omega (arith, leaf-count .ensures), omega (arith, leaf-count .ensures), c .by-eights .ensures .0 .1),
+      λ k h. pre .1 .1 .0 k (omega (arith, leaf-count .ensures)),
+    )
 
 returns-2 : tie.Need-returns-2
-returns-2 c = (omega (arith, c .one-by-one .ensures .1, c .before .before .before .before .before .before .before .leaf-count .ensures), λ words ready keyed. run-has (c .before .before .before .before .before .before .before .before .before .before .before .before .args .leaves .now) words ready (c .before .before .before .before .before .before .before .before .before .before .before .before .args .upper) (c .before .before .before .before .before .before .before .before .before .before .before .before .pre .3) (c .before .before .before .before .before .before .before .before .before .before .before .before .args .keys .now) (c .before .before .before .before .before .before .before .before .before .before .before .before .args .numbers .now) keyed ((getD (c .before .before .before .before .before .before .before .before .before .before .before .before .args .keys .now) (c .before .before .before .before .before .before .before .before .before .before .before .before .args .upper) 0 * 2 ^ 8) % 2 ^ 64) (c .before .before .before .behind .result) (c .before .before .start-of .result) (c .one-by-one .result .set) (c .one-by-one .result .end) refl (c .before .before .before .behind .ensures ∙ ap (λ (n : ℕ). 256 ^ (8 - pred n)) (c .before .before .before .before .before .before .word-length .ensures .0)) (λ h. let e = c .before .before .start-of .ensures .1 h in (omega (arith, e .0, c .before .before .before .before .before .before .before .leaf-count .ensures), e .1)) (λ h. c .one-by-one .ensures .2 (omega (arith, c .before .before .before .before .before .before .before .leaf-count .ensures))) (c .one-by-one .ensures .3 (c .before .before .start-of .result) (c .before .by-eights .ensures .2 (c .before .before .before .before .before .before .before .before .before .before .before .before .args .numbers .now) (subst (λ (n : ℕ). Covers (c .before .before .before .before .before .before .before .before .before .before .before .before .args .numbers .now) (c .before .before .before .before .before .before .before .before .before .before .before .before .args .sets .now) n 8) (sym (c .before .before .before .before .before .before .before .leaf-count .ensures)) (c .before .before .before .before .before .before .before .before .before .before .before .before .pre .8)))))
+returns-2 c =
+    let a = c .before .before .before .before .before .before .before .before .before .before .before .before .args in
+    let numbers = a .numbers .now in
+    let keys = a .keys .now in
+    let upper = a .upper in
+    let pre = c .before .before .before .before .before .before .before .before .before .before .before .before .pre in
+    let leaf-count = c .before .before .before .before .before .before .before .leaf-count in
+    let word-length = c .before .before .before .before .before .before .word-length in
+    let behind = c .before .before .before .behind in
+    let start-of = c .before .before .start-of in (
+      omega (arith, c .one-by-one .ensures .0 .1, leaf-count .ensures),
+      λ words ready keyed. run-has (a .leaves .now) words ready upper (pre .1 .0 .0) keys numbers keyed ((getD keys upper 0 * 2 ^ 8) % 2 ^ 64) (behind .result) (start-of .result) (c .one-by-one .result .set)
+          (c .one-by-one .result .end) refl (behind .ensures ∙ ap (λ (n : ℕ). 256 ^ (8 - pred n)) (word-length .ensures .0))
+          (λ h. let e = start-of .ensures .1 h in (omega (arith, e .0, leaf-count .ensures), e .1)) (λ h. c .one-by-one .ensures .0 .2 (omega (arith, leaf-count .ensures)))
+          (c .one-by-one .ensures .1 (start-of .result) (c .before .by-eights .ensures .1 numbers (subst (λ (n : ℕ). Covers numbers (a .sets .now) n 8) (sym (leaf-count .ensures)) (pre .1 .1 .1)))),
+    )
 
 pub fitting-spec : {M : Type 1} → statement M
 fitting-spec =

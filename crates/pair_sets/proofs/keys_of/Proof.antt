@@ -1,3 +1,4 @@
+-- The leaves passed have their words' numbers.
 use Rattle.radix.specs.Number.{aligned}
 use Rattle.pair_sets.specs.Runs.{wordNumber}
 use Rattle.weight_sets.proofs.Weights.{entry-next}
@@ -29,7 +30,14 @@ word-length-requires : tie.Need-word-length-requires Inv-loop μ-loop
 word-length-requires c κs = search needs
 
 word-number-requires : tie.Need-word-number-requires Inv-loop μ-loop
-word-number-requires c κs = (omega (arith, c .word-length .ensures .0, c .before .before .before .before .before .before .before .before .pre .1 .some (c .before .before .before .loop .leaf) (omega (arith, c .before .before .before .before .leaf-count .ensures))), omega (arith, c .word-length .ensures .0, c .before .before .before .before .before .before .before .before .pre .1 .short (c .before .before .before .loop .leaf) (omega (arith, c .before .before .before .before .leaf-count .ensures))), omega (arith, c .word-length .ensures .0, c .before .word-start .ensures .0, c .before .before .before .before .before .before .before .before .pre .1 .inside (c .before .before .before .loop .leaf) (omega (arith, c .before .before .before .before .leaf-count .ensures))))
+word-number-requires c κs =
+    let pre = c .before .before .before .before .before .before .before .before .pre in
+    let leaf-count = c .before .before .before .before .leaf-count in
+    let loop = c .before .before .before .loop in (
+      omega (arith, c .word-length .ensures .0, pre .1 .some (loop .leaf) (omega (arith, leaf-count .ensures))),
+      omega (arith, c .word-length .ensures .0, pre .1 .short (loop .leaf) (omega (arith, leaf-count .ensures))),
+      omega (arith, c .word-length .ensures .0, c .before .word-start .ensures .0, pre .1 .inside (loop .leaf) (omega (arith, leaf-count .ensures))),
+    )
 
 mul-keys : tie.Need-mul-keys Inv-loop μ-loop
 mul-keys c = omega arith
@@ -44,7 +52,15 @@ loop-less : tie.Need-loop-less Inv-loop μ-loop
 loop-less c = omega arith
 
 loop-again : tie.Need-loop-again Inv-loop μ-loop
-loop-again c = (length-set (c .before .before .before .before .loop .keys) _ _ ∙ c .before .before .before .before .loop .inv .0, entry-next (λ k x. x ≡ wordNumber (c .before .before .before .before .before .before .before .before .before .args .leaves .now) (c .before .before .before .before .before .before .before .before .before .args .words .now) k) (c .before .before .before .before .loop .keys) (c .before .before .before .before .loop .leaf) (c .word-number .result) (omega (arith, c .before .before .before .before .before .leaf-count .ensures, c .before .before .before .before .loop .inv .0)) (c .before .before .before .before .loop .inv .1) (c .word-number .ensures ∙ (λ i. aligned 256 (λ j. getD (c .before .before .before .before .before .before .before .before .before .args .words .now) (c .before .before .word-start .ensures .0 i + j) 0) (c .before .word-length .ensures .0 i))))
+loop-again c =
+    let a = c .before .before .before .before .before .before .before .before .before .args in
+    let words = a .words .now in
+    let leaf-count = c .before .before .before .before .before .leaf-count in
+    let loop = c .before .before .before .before .loop in (
+      length-set (loop .keys) _ _ ∙ loop .inv .0,
+      entry-next (λ k x. x ≡ wordNumber (a .leaves .now) words k) (loop .keys) (loop .leaf) (c .word-number .result) (omega (arith, leaf-count .ensures, loop .inv .0)) (loop .inv .1)
+          (c .word-number .ensures ∙ (λ i. aligned 256 (λ j. getD words (c .before .before .word-start .ensures .0 i + j) 0) (c .before .word-length .ensures .0 i))),
+    )
 
 same-length : tie.Need-same-length Inv-loop μ-loop
 same-length c = omega arith

@@ -1,3 +1,4 @@
+-- The weights are numbered, the words are numbers and the eights cover their leaves, which is what the look at all pairs asks for.
 use Rattle.pair_sets.specs.Runs.{AllPass}
 use Rattle.pair_sets.proofs.Keys.{ready-words}
 use Rattle.pair_sets.specs.Runs.{AllPass}
@@ -29,13 +30,27 @@ returns : tie.Need-returns
 returns c = λ no. clash no refl
 
 keys-of-requires : tie.Need-keys-of-requires
-keys-of-requires c κs = (c .before .before .before .before .before .before .before .before .before .before .before .before .before .before .before .before .pre .3, ready-words (c .before .before .before .before .before .before .before .before .before .before .before .before .before .before .before .before .args .leaves .now) (c .before .before .before .before .before .before .before .before .before .before .before .before .before .before .before .before .args .words .now) (elementCount (c .before .before .before .before .before .before .before .before .before .before .before .before .before .before .before .before .args .inputs .now)) (formed (c .before .before .before .before .before .before .before .before .before .before .before .before .before .before .before .before .args .leaves .now) (c .before .before .before .before .before .before .before .before .before .before .before .before .before .before .before .before .args .words .now) (elementCount (c .before .before .before .before .before .before .before .before .before .before .before .before .before .before .before .before .args .inputs .now)) (c .before .before .before .before .before .before .before .before .before .before .before .before .before .before .before .before .pre .1) (c .before .before .before .before .before .before .before .before .before .before .before .before .before .before .before .before .pre .2)) (λ i. omega (arith, c .before .before .before .before .before .before .before .before .before .before .before .shared-slice-known5 .given i)))
+keys-of-requires c κs =
+    let a = c .before .before .before .before .before .before .before .before .before .before .before .before .before .before .before .before .args in
+    let leaves = a .leaves .now in
+    let inputs = a .inputs .now in
+    let words = a .words .now in
+    let pre = c .before .before .before .before .before .before .before .before .before .before .before .before .before .before .before .before .pre in
+    let shared-slice-known5 = c .before .before .before .before .before .before .before .before .before .before .before .shared-slice-known5 in
+    (pre .1 .0, ready-words leaves words (elementCount inputs) (formed leaves words (elementCount inputs) (pre .0 .1) (pre .0 .2)) (λ i. omega (arith, shared-slice-known5 .given i)))
 
 leaf-count-requires : tie.Need-leaf-count-requires
 leaf-count-requires c κs = search needs
 
 eights-requires : tie.Need-eights-requires
-eights-requires c κs = (omega (arith, c .before .leaf-count .ensures, c .before .before .before .before .before .before .before .before .before .before .numbers .given, c .before .before .before .before .before .before .before .before .before .before .before .before .before .before .before .before .before .before .before .before .before .before .pre .5), omega (arith, c .before .leaf-count .ensures, c .before .before .before .before .before .before .before .before .before .before .before .before .before .before .before .before .before .before .before .before .before .before .pre .4), λ k h. omega (arith, c .before .before .before .before .before .before .before .before .before .before .before .number-weights .ensures (omega (arith, c .before .before .before .before .before .before .before .if1 .left)) k (omega (arith, c .before .leaf-count .ensures)) .0, c .before .before .before .before .before .before .before .if1 .left))
+eights-requires c κs =
+    let pre = c .before .before .before .before .before .before .before .before .before .before .before .before .before .before .before .before .before .before .before .before .before .before .pre in
+    let number-weights = c .before .before .before .before .before .before .before .before .before .before .before .number-weights in
+    let numbers = c .before .before .before .before .before .before .before .before .before .before .numbers in
+    let if1 = c .before .before .before .before .before .before .before .if1 in (
+      (omega (arith, c .before .leaf-count .ensures, numbers .given, pre .1 .2), omega (arith, c .before .leaf-count .ensures, pre .1 .1)),
+      λ k h. omega (arith, number-weights .ensures (omega (arith, if1 .left)) k (omega (arith, c .before .leaf-count .ensures)) .0, if1 .left),
+    )
 
 base-of-requires : tie.Need-base-of-requires
 base-of-requires c κs = search needs
@@ -44,7 +59,31 @@ slice-aggregate-all-in : tie.Need-slice-aggregate-all-in
 slice-aggregate-all-in c = search needs
 
 all-in-requires : tie.Need-all-in-requires
-all-in-requires c κs = (subst (RowsWithin (2 ^ 24)) (sym (c .before .before .before .before .base-of .ensures)) (base-within (c .before .before .before .before .before .before .before .before .before .before .before .before .before .before .before .before .before .before .before .before .before .before .before .before .before .before .before .before .before .before .args .base .now) (c .before .before .before .before .before .before .before .before .before .before .before .before .before .before .before .before .before .before .before .before .before .before .before .before .before .before .before .before .before .before .pre .0)), c .before .before .before .before .before .before .before .before .before .before .before .before .before .before .before .before .before .before .before .before .before .before .before .before .before .before .before .before .before .before .pre .1, c .before .before .before .before .before .before .before .before .before .before .before .before .before .before .before .before .before .before .before .before .before .before .before .before .before .before .before .before .before .before .pre .2, omega (arith, c .before .before .before .before .before .before .before .before .before .before .before .before .keys .given, c .before .before .before .before .before .before .before .before .before .before .before .before .before .before .before .before .before .before .before .before .before .before .before .before .before .before .before .before .before .before .pre .3), omega (arith, c .before .before .before .before .before .before .before .before .before .before .before .before .before .before .before .before .before .before .numbers .given, c .before .before .before .before .before .before .before .before .before .before .before .before .before .before .before .before .before .before .before .before .before .before .before .before .before .before .before .before .before .before .pre .5), omega (arith, c .before .before .before .before .before .before .sets .given, c .before .before .before .before .before .before .before .before .before .before .before .before .before .before .before .before .before .before .before .before .before .before .before .before .before .before .before .before .before .before .pre .4), omega (arith, c .before .before .before .before .before .before .before .before .before .before .before .before .before .before .before .if1 .left), omega (arith, c .before .before .before .before .before .before .before .before .before .before .before .before .before .before .before .if1 .left, c .before .before .before .before .before .before .before .before .before .before .before .before .before .before .before .before .first2 .given), c .before .before .before .before .before .before .before .before .before .before .before .before .before .keys-of .ensures, c .before .before .before .before .before .before .before .before .before .before .before .before .before .before .before .before .before .before .before .number-weights .ensures (omega (arith, c .before .before .before .before .before .before .before .before .before .before .before .before .before .before .before .if1 .left)), λ l k h there. c .before .before .before .before .before .before .before .eights .ensures l k h (omega (arith, there, c .before .before .before .before .before .before .before .before .before .leaf-count .ensures)))
+all-in-requires c κs =
+    let a = c .before .before .before .before .before .before .before .before .before .before .before .before .before .before .before .before .before .before .before .before .before .before .before .before .before .before .before .before .before .before .args in
+    let pre = c .before .before .before .before .before .before .before .before .before .before .before .before .before .before .before .before .before .before .before .before .before .before .before .before .before .before .before .before .before .before .pre in
+    let number-weights = c .before .before .before .before .before .before .before .before .before .before .before .before .before .before .before .before .before .before .before .number-weights in
+    let numbers = c .before .before .before .before .before .before .before .before .before .before .before .before .before .before .before .before .before .before .numbers in
+    let first2 = c .before .before .before .before .before .before .before .before .before .before .before .before .before .before .before .before .first2 in
+    let if1 = c .before .before .before .before .before .before .before .before .before .before .before .before .before .before .before .if1 in
+    let keys-of = c .before .before .before .before .before .before .before .before .before .before .before .before .before .keys-of in
+    let keys = c .before .before .before .before .before .before .before .before .before .before .before .before .keys in
+    let leaf-count = c .before .before .before .before .before .before .before .before .before .leaf-count in
+    let eights = c .before .before .before .before .before .before .before .eights in
+    let sets = c .before .before .before .before .before .before .sets in
+    let base-of = c .before .before .before .before .base-of in (
+      (subst (RowsWithin (2 ^ 24)) (sym (base-of .ensures)) (base-within (a .base .now) (pre .0 .0)), pre .0 .1, pre .0 .2),
+      (
+        (
+          omega (arith, keys .given, pre .1 .0),
+          omega (arith, numbers .given, pre .1 .2),
+          omega (arith, sets .given, pre .1 .1),
+          omega (arith, if1 .left),
+          omega (arith, if1 .left, first2 .given),
+        ),
+        (keys-of .ensures, number-weights .ensures (omega (arith, if1 .left)), λ l k h there. eights .ensures l k h (omega (arith, there, leaf-count .ensures))),
+      ),
+    )
 
 same-length-2 : tie.Need-same-length-2
 same-length-2 c = search needs
@@ -56,7 +95,11 @@ same-length-4 : tie.Need-same-length-4
 same-length-4 c = search needs
 
 returns-2 : tie.Need-returns-2
-returns-2 c = λ yes. subst (λ b. AllPass b (c .before .before .before .before .before .before .before .before .before .before .before .before .before .before .before .before .before .before .before .before .before .before .before .before .before .before .before .before .before .before .before .args .alphabet .now) (c .before .before .before .before .before .before .before .before .before .before .before .before .before .before .before .before .before .before .before .before .before .before .before .before .before .before .before .before .before .before .before .args .inputs .now) (c .before .before .before .before .before .before .before .before .before .before .before .before .before .before .before .before .before .before .before .before .before .before .before .before .before .before .before .before .before .before .before .args .leaves .now) (c .before .before .before .before .before .before .before .before .before .before .before .before .before .before .before .before .before .before .before .before .before .before .before .before .before .before .before .before .before .before .before .args .words .now) (leafCount (c .before .before .before .before .before .before .before .before .before .before .before .before .before .before .before .before .before .before .before .before .before .before .before .before .before .before .before .before .before .before .before .args .leaves .now))) (c .before .before .before .before .before .base-of .ensures) (c .all-in .ensures yes)
+returns-2 c =
+    let a = c .before .before .before .before .before .before .before .before .before .before .before .before .before .before .before .before .before .before .before .before .before .before .before .before .before .before .before .before .before .before .before .args in
+    let leaves = a .leaves .now in
+    let base-of = c .before .before .before .before .before .base-of in
+    λ yes. subst (λ b. AllPass b (a .alphabet .now) (a .inputs .now) leaves (a .words .now) (leafCount leaves)) (base-of .ensures) (c .all-in .ensures yes)
 
 pub look-spec : {M : Type 1} → statement M
 look-spec =

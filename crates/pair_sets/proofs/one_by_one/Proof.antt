@@ -1,3 +1,4 @@
+-- The set has the weights of all leaves from the start up to this one, and the run ends at the first word above the last one.
 use Rattle.weight_sets.proofs.Bits.{has-single}
 use Rattle.pair_sets.proofs.Runs.{run-next}
 use mathlib.Core.Path.{sym, ap, subst, _∙_}
@@ -26,7 +27,9 @@ shared-slice-read-if1 : tie.Need-shared-slice-read-if1 Inv-loop μ-loop
 shared-slice-read-if1 c = omega arith
 
 returns : tie.Need-returns Inv-loop μ-loop
-returns c = (c .before .before .before .loop .inv .0, c .before .before .before .loop .inv .1, λ h. c .if1 .taken, c .before .before .before .loop .inv .2)
+returns c =
+    let inv = c .before .before .before .loop .inv in
+    ((inv .0, inv .1, λ h. c .if1 .taken), inv .2)
 
 shared-slice-read-wide : tie.Need-shared-slice-read-wide Inv-loop μ-loop
 shared-slice-read-wide c = omega arith
@@ -35,7 +38,7 @@ wide-requires : tie.Need-wide-requires Inv-loop μ-loop
 wide-requires c κs = search needs
 
 single-requires : tie.Need-single-requires Inv-loop μ-loop
-single-requires c κs = omega (arith, c .wide .ensures .0, c .before .before .before .before .before .before .before .before .pre .3 (c .before .before .before .before .before .loop .leaf) (c .before .before .before .before .loop-test .taken))
+single-requires c κs = omega (arith, c .wide .ensures .0, c .before .before .before .before .before .before .before .before .pre .1 (c .before .before .before .before .before .loop .leaf) (c .before .before .before .before .loop-test .taken))
 
 add-leaf : tie.Need-add-leaf Inv-loop μ-loop
 add-leaf c = omega arith
@@ -44,10 +47,19 @@ loop-less : tie.Need-loop-less Inv-loop μ-loop
 loop-less c = omega arith
 
 loop-again : tie.Need-loop-again Inv-loop μ-loop
-loop-again c = (omega arith, omega arith, λ start before. run-next (c .before .before .before .before .before .before .before .before .before .args .numbers .now) (c .before .before .before .before .before .before .before .before .before .args .count) start (c .before .before .before .before .before .before .loop .set) (c .before .before .before .before .before .before .loop .leaf) (c .single .result) (subst (λ (x : ℕ). Has x (getD (c .before .before .before .before .before .before .before .before .before .args .numbers .now) (c .before .before .before .before .before .before .loop .leaf) 0)) (sym (c .single .ensures ∙ ap (λ (n : ℕ). 2 ^ n) (c .before .wide .ensures .0))) (has-single (getD (c .before .before .before .before .before .before .before .before .before .args .numbers .now) (c .before .before .before .before .before .before .loop .leaf) 0))) (c .before .before .before .before .before .before .loop .inv .2 start before))
+loop-again c =
+    let a = c .before .before .before .before .before .before .before .before .before .args in
+    let numbers = a .numbers .now in
+    let loop = c .before .before .before .before .before .before .loop in (
+      omega arith,
+      omega arith,
+      λ start before. run-next numbers (a .count) start (loop .set) (loop .leaf) (c .single .result)
+          (subst (λ (x : ℕ). Has x (getD numbers (loop .leaf) 0)) (sym (c .single .ensures ∙ ap (λ (n : ℕ). 2 ^ n) (c .before .wide .ensures .0))) (has-single (getD numbers (loop .leaf) 0)))
+          (loop .inv .2 start before),
+    )
 
 returns-2 : tie.Need-returns-2 Inv-loop μ-loop
-returns-2 c = (c .before .loop .inv .0, c .before .loop .inv .1, λ h. absurd (omega arith), c .before .loop .inv .2)
+returns-2 c = ((c .before .loop .inv .0, c .before .loop .inv .1, λ h. absurd (omega arith)), c .before .loop .inv .2)
 
 pub one-by-one-spec : {M : Type 1} → statement M
 one-by-one-spec =

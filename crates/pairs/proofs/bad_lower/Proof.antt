@@ -34,29 +34,39 @@ abbrev μ-loop : tie.MeasureT-loop
 μ-loop alphabet known slots inputs leaves words upper guess count top part lower₀ lower = count - lower
 
 well : (s : tie.Start Inv-loop μ-loop) → LeavesFormed (s .args .leaves .now) (s .args .words .now) (elementCount (s .args .inputs .now))
-well s = formed (s .args .leaves .now) (s .args .words .now) (elementCount (s .args .inputs .now)) (s .pre .1) (s .pre .2)
+well s = formed (s .args .leaves .now) (s .args .words .now) (elementCount (s .args .inputs .now)) (s .pre .0 .1) (s .pre .0 .2)
 
 -- the number of leaves, as counted
 counted : (c : tie.After-leaf-count Inv-loop μ-loop) → c .leaf-count .result ≡ leafCount (c .before .before .before .before .before .args .leaves .now)
 counted c = c .leaf-count .ensures
 
-fit-says : (c : tie.After-fit Inv-loop μ-loop) → c .fit .result ≡ fits (codeOf (c .before .before .before .before .before .before .before .before .before .before .before .before .before .args .leaves .now) (c .before .before .before .before .before .before .before .before .before .before .before .before .before .args .words .now)) (c .before .before .before .before .before .before .before .before .before .before .before .before .before .args .upper) (c .before .before .before .loop .lower)
+fit-says : (c : tie.After-fit Inv-loop μ-loop) →
+    (let a = c .before .before .before .before .before .before .before .before .before .before .before .before .before .args in
+    c .fit .result ≡ fits (codeOf (a .leaves .now) (a .words .now)) (a .upper) (c .before .before .before .loop .lower))
 fit-says c =
     let s = c .before .before .before .before .before .before .before .before .before .before .before .before .before in
+    let word = c .before .before .before .before .before .before .before .word in
+    let loop = c .before .before .before .loop in
     let leaves = s .args .leaves .now in
     let words = s .args .words .now in
-    let top = c .before .before .before .before .before .before .before .word .ensures in
+    let top = word .ensures in
     let low = c .before .word2 .ensures in
-    let h : c .before .before .before .loop .lower < leafCount leaves = omega (arith, counted (c .before .before .before .before .before .before .before .before), c .before .before .loop-test .taken) in
-    c .fit .ensures ∙ (λ i. agree (λ k. getD (top i) (k + 1) 0) (λ k. getD (low i) k 0) (min (pred (length (top i))) (length (low i)))) ∙ fit-is leaves words (elementCount (s .args .inputs .now)) (s .pre .1) (well s) (s .args .upper) (s .pre .3) (c .before .before .before .loop .lower) h
+    let h : loop .lower < leafCount leaves = omega (arith, counted (c .before .before .before .before .before .before .before .before), c .before .before .loop-test .taken) in
+    c .fit .ensures ∙ (λ i. agree (λ k. getD (top i) (k + 1) 0) (λ k. getD (low i) k 0) (min (pred (length (top i))) (length (low i)))) ∙ fit-is leaves words (elementCount (s .args .inputs .now)) (s .pre .0 .1) (well s) (s .args .upper) (s .pre .1 .0) (loop .lower) h
 
-pair-says : (c : tie.After-gives-digit Inv-loop μ-loop) (matrix : List (List ℤ)) → c .before .before .before .before .before .before .before .before .upper-part .result ≡ upperPart matrix (c .before .before .before .before .before .before .before .before .before .before .before .before .before .before .before .args .inputs .now) (c .before .before .before .before .before .before .before .before .before .before .before .before .before .before .before .args .leaves .now) (c .before .before .before .before .before .before .before .before .before .before .before .before .before .before .before .args .words .now) (c .before .before .before .before .before .before .before .before .before .before .before .before .before .before .before .args .upper) → c .gives-digit .result ≡ pairPasses (elements degree matrix) (recordAt (c .before .before .before .before .before .before .before .before .before .before .before .before .before .before .before .args .inputs .now)) (codeOf (c .before .before .before .before .before .before .before .before .before .before .before .before .before .before .before .args .leaves .now) (c .before .before .before .before .before .before .before .before .before .before .before .before .before .before .before .args .words .now)) (inAlphabet (c .before .before .before .before .before .before .before .before .before .before .before .before .before .before .before .args .alphabet .now)) (c .before .before .before .before .before .before .before .before .before .before .before .before .before .before .before .args .upper) (c .before .before .before .before .before .loop .lower)
+pair-says : (c : tie.After-gives-digit Inv-loop μ-loop) (matrix : List (List ℤ)) →
+    (let a = c .before .before .before .before .before .before .before .before .before .before .before .before .before .before .before .args in
+    c .before .before .before .before .before .before .before .before .upper-part .result ≡ upperPart matrix (a .inputs .now) (a .leaves .now) (a .words .now) (a .upper)
+    → c .gives-digit .result ≡ pairPasses (elements degree matrix) (recordAt (a .inputs .now)) (codeOf (a .leaves .now) (a .words .now)) (inAlphabet (a .alphabet .now)) (a .upper)
+    (c .before .before .before .before .before .loop .lower))
 pair-says c matrix own =
     let s = c .before .before .before .before .before .before .before .before .before .before .before .before .before .before .before in
     let d = c .before .before in
     let l = d .before .before .before .loop .lower in
     let h : d .before .before .before .loop .lower < leafCount (s .args .leaves .now) = omega (arith, counted (d .before .before .before .before .before .before .before .before), d .before .before .loop-test .taken) in
-    c .gives-digit .ensures ∙ ap (λ p. inAlphabet (s .args .alphabet .now) (plus p (weightGiven (s .args .leaves .now) l))) own ∙ pair-is (s .args .leaves .now) (s .args .words .now) (elementCount (s .args .inputs .now)) (s .pre .1) (well s) (s .args .upper) (s .pre .3) matrix (s .args .inputs .now) (inAlphabet (s .args .alphabet .now)) l h (sym (fit-says d) ∙ not-false _ (c .before .if1 .left))
+    c .gives-digit .ensures ∙ ap (λ p. inAlphabet (s .args .alphabet .now) (plus p (weightGiven (s .args .leaves .now) l))) own ∙ pair-is (s .args .leaves .now) (s .args .words .now)
+    (elementCount (s .args .inputs .now)) (s .pre .0 .1) (well s) (s .args .upper) (s .pre .1 .0) matrix (s .args .inputs .now) (inAlphabet (s .args .alphabet .now)) l h
+    (sym (fit-says d) ∙ not-false _ (c .before .if1 .left))
 
 leaf-count-requires : tie.Need-leaf-count-requires Inv-loop μ-loop
 leaf-count-requires c κs = search needs
@@ -67,7 +77,7 @@ word-requires c κs = search needs
 upper-part-requires : tie.Need-upper-part-requires Inv-loop μ-loop
 upper-part-requires c κs =
     let s = (c .before .before .before .before .before .before) in
-    (s .pre .0, first-input (s .args .leaves .now) (s .args .words .now) (elementCount (s .args .inputs .now)) (s .pre .1) (well s) (s .args .upper) (s .pre .3))
+    (s .pre .0 .0, first-input (s .args .leaves .now) (s .args .words .now) (elementCount (s .args .inputs .now)) (s .pre .0 .1) (well s) (s .args .upper) (s .pre .1 .0))
 
 tail-window-requires : tie.Need-tail-window-requires Inv-loop μ-loop
 tail-window-requires c κs = search needs
@@ -83,8 +93,8 @@ loop-holds c =
     let m = elementCount (s .args .inputs .now) in
     let u = s .args .upper in
     let window = c .before .tail-window .ensures ∙ ap (λ w. span (λ i. getD w i 0) 1 8) (c .before .before .before .word .ensures) in
-    let lowest = lowest-found leaves words m (s .pre .1) (well s) u (s .pre .3) (c .look-up-from .result) (subst (λ w. LookedUp (codeOf leaves words) w (c .look-up-from .result)) window (c .look-up-from .ensures)) in
-    (omega (arith, lowest), λ matrix own. subst (λ (l : ℕ). (j : ℕ) → j < l → pairPasses (elements degree matrix) (recordAt (s .args .inputs .now)) (codeOf leaves words) (inAlphabet (s .args .alphabet .now)) u j ≡ true) (sym lowest) (upto-lowest leaves words m (s .pre .1) (well s) u (s .pre .3) matrix (s .args .inputs .now) (inAlphabet (s .args .alphabet .now))))
+    let lowest = lowest-found leaves words m (s .pre .0 .1) (well s) u (s .pre .1 .0) (c .look-up-from .result) (subst (λ w. LookedUp (codeOf leaves words) w (c .look-up-from .result)) window (c .look-up-from .ensures)) in
+    (omega (arith, lowest), λ matrix own. subst (λ (l : ℕ). (j : ℕ) → j < l → pairPasses (elements degree matrix) (recordAt (s .args .inputs .now)) (codeOf leaves words) (inAlphabet (s .args .alphabet .now)) u j ≡ true) (sym lowest) (upto-lowest leaves words m (s .pre .0 .1) (well s) u (s .pre .1 .0) matrix (s .args .inputs .now) (inAlphabet (s .args .alphabet .now))))
 
 word-requires-2 : tie.Need-word-requires-2 Inv-loop μ-loop
 word-requires-2 c κs = search needs
@@ -94,20 +104,28 @@ fit-requires c κs = search needs
 
 returns : tie.Need-returns Inv-loop μ-loop
 returns c =
-    let s = (c .before .before .before .before .before .before .before .before .before .before .before .before .before .before) in
-    let leaves = s .args .leaves .now in
+    let s = c .before .before .before .before .before .before .before .before .before .before .before .before .before .before in
+    let upper-part = c .before .before .before .before .before .before .before .upper-part in
     let loop = c .before .before .before .before .loop in
+    let leaves = s .args .leaves .now in
     let count = counted (c .before .before .before .before .before .before .before .before .before) in
-    count ∙ ends-unfit leaves (s .args .words .now) (elementCount (s .args .inputs .now)) (s .pre .1) (well s) (s .args .upper) (s .pre .3) (s .args .base) (s .args .inputs .now) (inAlphabet (s .args .alphabet .now)) (loop .lower) (loop .inv .0) (omega (arith, count, c .before .before .before .loop-test .taken)) (sym (fit-says (c .before)) ∙ not-true _ (c .if1 .taken)) (loop .inv .1 (s .args .base) (c .before .before .before .before .before .before .before .upper-part .ensures .0))
+    count ∙ ends-unfit leaves (s .args .words .now) (elementCount (s .args .inputs .now)) (s .pre .0 .1) (well s) (s .args .upper) (s .pre .1 .0) (s .args .base) (s .args .inputs .now)
+    (inAlphabet (s .args .alphabet .now)) (loop .lower) (loop .inv .0) (omega (arith, count, c .before .before .before .loop-test .taken))
+    (sym (fit-says (c .before)) ∙ not-true _ (c .if1 .taken)) (loop .inv .1 (s .args .base) (upper-part .ensures .0))
 
 gives-digit-requires : tie.Need-gives-digit-requires Inv-loop μ-loop
-gives-digit-requires c κs = (c .before .before .before .before .before .before .before .before .before .before .before .before .before .before .pre .4, c .before .before .before .before .before .before .before .upper-part .ensures .1)
+gives-digit-requires c κs = (c .before .before .before .before .before .before .before .before .before .before .before .before .before .before .pre .1 .1, c .before .before .before .before .before .before .before .upper-part .ensures .1)
 
 returns-2 : tie.Need-returns-2 Inv-loop μ-loop
 returns-2 c =
-    let s = (c .before .before .before .before .before .before .before .before .before .before .before .before .before .before .before .before) in
+    let s = c .before .before .before .before .before .before .before .before .before .before .before .before .before .before .before .before in
+    let upper-part = c .before .before .before .before .before .before .before .before .before .upper-part in
     let loop = c .before .before .before .before .before .before .loop in
-    ends-bad (s .args .leaves .now) (s .args .words .now) (elementCount (s .args .inputs .now)) (s .pre .1) (well s) (s .args .upper) (s .pre .3) (s .args .base) (s .args .inputs .now) (inAlphabet (s .args .alphabet .now)) (loop .lower) (omega (arith, counted (c .before .before .before .before .before .before .before .before .before .before .before), c .before .before .before .before .before .loop-test .taken)) (sym (pair-says (c .before) (s .args .base) (c .before .before .before .before .before .before .before .before .before .upper-part .ensures .0)) ∙ not-true _ (c .if2 .taken)) (loop .inv .1 (s .args .base) (c .before .before .before .before .before .before .before .before .before .upper-part .ensures .0))
+    let loop-test = c .before .before .before .before .before .loop-test in
+    ends-bad (s .args .leaves .now) (s .args .words .now) (elementCount (s .args .inputs .now)) (s .pre .0 .1) (well s) (s .args .upper) (s .pre .1 .0) (s .args .base) (s .args .inputs .now)
+    (inAlphabet (s .args .alphabet .now)) (loop .lower)
+    (omega (arith, counted (c .before .before .before .before .before .before .before .before .before .before .before), loop-test .taken))
+    (sym (pair-says (c .before) (s .args .base) (upper-part .ensures .0)) ∙ not-true _ (c .if2 .taken)) (loop .inv .1 (s .args .base) (upper-part .ensures .0))
 
 add-lower : tie.Need-add-lower Inv-loop μ-loop
 add-lower c = omega arith
@@ -123,7 +141,7 @@ returns-3 c =
     let s = (c .before .before .before .before .before .before .before .before .before .before .before) in
     let loop = c .before .loop in
     let count = counted (c .before .before .before .before .before .before) in
-    count ∙ ends-all (s .args .leaves .now) (s .args .words .now) (elementCount (s .args .inputs .now)) (s .pre .1) (well s) (s .args .upper) (s .pre .3) (s .args .base) (s .args .inputs .now) (inAlphabet (s .args .alphabet .now)) (loop .lower) (omega (arith, count, c .loop-test .left)) (loop .inv .1 (s .args .base) (c .before .before .before .before .upper-part .ensures .0))
+    count ∙ ends-all (s .args .leaves .now) (s .args .words .now) (elementCount (s .args .inputs .now)) (s .pre .0 .1) (well s) (s .args .upper) (s .pre .1 .0) (s .args .base) (s .args .inputs .now) (inAlphabet (s .args .alphabet .now)) (loop .lower) (omega (arith, count, c .loop-test .left)) (loop .inv .1 (s .args .base) (c .before .before .before .before .upper-part .ensures .0))
 
 pub bad-lower-spec : {M : Type 1} → statement M
 bad-lower-spec =

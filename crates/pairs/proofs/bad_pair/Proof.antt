@@ -25,11 +25,14 @@ abbrev μ-loop : tie.MeasureT-loop
 μ-loop base alphabet inputs leaves words matrix slots known count guess₀ upper₀ guess upper = count - upper
 
 -- the lowest lower leaf of the upper one, by the base's matrix
-lower-is : (c : tie.After-bad-lower Inv-loop μ-loop) → c .bad-lower .result .bad ≡ badLower (c .before .before .before .before .before .before .before .before .before .before .before .before .before .args .base .now) (c .before .before .before .before .before .before .before .before .before .before .before .before .before .args .alphabet .now) (c .before .before .before .before .before .before .before .before .before .before .before .before .before .args .inputs .now) (c .before .before .before .before .before .before .before .before .before .before .before .before .before .args .leaves .now) (c .before .before .before .before .before .before .before .before .before .before .before .before .before .args .words .now) (c .before .before .before .loop .upper)
+lower-is : (c : tie.After-bad-lower Inv-loop μ-loop) →
+    (let a = c .before .before .before .before .before .before .before .before .before .before .before .before .before .args in
+    c .bad-lower .result .bad ≡ badLower (a .base .now) (a .alphabet .now) (a .inputs .now) (a .leaves .now) (a .words .now) (c .before .before .before .loop .upper))
 unfolding badLower
 lower-is c =
     let s = c .before .before .before .before .before .before .before .before .before .before .before .before .before in
-    c .bad-lower .ensures ∙ ap (λ b. firstFailing (pairPasses (elements degree b) (recordAt (s .args .inputs .now)) (codeOf (s .args .leaves .now) (s .args .words .now)) (inAlphabet (s .args .alphabet .now)) (c .before .before .before .loop .upper)) 0 (leafCount (s .args .leaves .now))) (c .before .before .before .before .before .before .before .base-of .ensures)
+    let base-of = c .before .before .before .before .before .before .before .base-of in
+    c .bad-lower .ensures ∙ ap (λ b. firstFailing (pairPasses (elements degree b) (recordAt (s .args .inputs .now)) (codeOf (s .args .leaves .now) (s .args .words .now)) (inAlphabet (s .args .alphabet .now)) (c .before .before .before .loop .upper)) 0 (leafCount (s .args .leaves .now))) (base-of .ensures)
 
 base-of-requires : tie.Need-base-of-requires Inv-loop μ-loop
 base-of-requires c κs = c .before .before .before .before .before .pre .0
@@ -45,13 +48,24 @@ loop-holds c = λ j h. absurd (not-suc-le-zero h)
 
 bad-lower-requires : tie.Need-bad-lower-requires Inv-loop μ-loop
 bad-lower-requires c κs =
-    let base = c .before .before .before .before .before .before .before .before .before .before .before .before .args .base .now in
-    (subst (RowsWithin (2 ^ 24)) (sym (c .before .before .before .before .before .before .base-of .ensures)) (base-within base (c .before .before .before .before .before .before .before .before .before .before .before .before .pre .0)), c .before .before .before .before .before .before .before .before .before .before .before .before .pre .1, c .before .before .before .before .before .before .before .before .before .before .before .before .pre .2, omega (arith, c .before .before .before .leaf-count .ensures, c .before .loop-test .taken), c .before .before .before .before .slot-digits .ensures)
+    let a = c .before .before .before .before .before .before .before .before .before .before .before .before .args in
+    let pre = c .before .before .before .before .before .before .before .before .before .before .before .before .pre in
+    let base-of = c .before .before .before .before .before .before .base-of in
+    let slot-digits = c .before .before .before .before .slot-digits in
+    let base = a .base .now in (
+      (subst (RowsWithin (2 ^ 24)) (sym (base-of .ensures)) (base-within base (pre .0)), pre .1, pre .2),
+      (
+        omega (arith, c .before .before .before .leaf-count .ensures, c .before .loop-test .taken),
+        slot-digits .ensures,
+      ),
+    )
 
 returns : tie.Need-returns Inv-loop μ-loop
 returns c =
     let a = c .before .before .before .before .before .before .before .before .before .before .before .before .before .before .args in
-    pair-found (a .base .now) (a .alphabet .now) (a .inputs .now) (a .leaves .now) (a .words .now) (c .before .before .before .before .loop .upper) (c .before .bad-lower .result .bad) (omega (arith, c .before .before .before .before .before .leaf-count .ensures, c .before .before .before .loop-test .taken)) (lower-is (c .before)) (omega (arith, c .before .before .before .before .before .leaf-count .ensures, c .if1 .taken)) (c .before .before .before .before .loop .inv)
+    let leaf-count = c .before .before .before .before .before .leaf-count in
+    let loop = c .before .before .before .before .loop in
+    pair-found (a .base .now) (a .alphabet .now) (a .inputs .now) (a .leaves .now) (a .words .now) (loop .upper) (c .before .bad-lower .result .bad) (omega (arith, leaf-count .ensures, c .before .before .before .loop-test .taken)) (lower-is (c .before)) (omega (arith, leaf-count .ensures, c .if1 .taken)) (loop .inv)
 
 add-upper : tie.Need-add-upper Inv-loop μ-loop
 add-upper c = omega arith

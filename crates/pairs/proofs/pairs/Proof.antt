@@ -20,10 +20,18 @@ leaf-count-requires : tie.Need-leaf-count-requires
 leaf-count-requires c κs = search needs
 
 returns-2 : tie.Need-returns-2
-returns-2 c = let a = c .before .before .before .before .before .before .before .before .before .before .before .args in pairs-broken (a .base .now) (a .alphabet .now) (a .inputs .now) (a .leaves .now) (a .words .now) (c .before .before .before .bad-pair .result) (c .before .before .before .bad-pair .ensures) (subst (λ (n : ℕ). c .before .before .before .bad-pair .result .upper < n) (c .before .before .leaf-count .ensures) (c .if2 .taken))
+returns-2 c =
+    let a′ = c .before .before .before .before .before .before .before .before .before .before .before .args in
+    let bad-pair = c .before .before .before .bad-pair in
+    let a = a′ in pairs-broken (a .base .now) (a .alphabet .now) (a .inputs .now) (a .leaves .now) (a .words .now) (bad-pair .result) (bad-pair .ensures)
+    (subst (λ (n : ℕ). bad-pair .result .upper < n) (c .before .before .leaf-count .ensures) (c .if2 .taken))
 
 returns-3 : tie.Need-returns-3
-returns-3 c = let a = c .before .before .before .before .before .before .before .before .before .before .before .args in pairs-kept (a .base .now) (a .alphabet .now) (a .inputs .now) (a .leaves .now) (a .words .now) (c .before .before .before .bad-pair .result) (c .before .before .before .bad-pair .ensures) (subst (λ (n : ℕ). n ≤ c .before .before .before .bad-pair .result .upper) (c .before .before .leaf-count .ensures) (c .if2 .left))
+returns-3 c =
+    let a′ = c .before .before .before .before .before .before .before .before .before .before .before .args in
+    let bad-pair = c .before .before .before .bad-pair in
+    let a = a′ in pairs-kept (a .base .now) (a .alphabet .now) (a .inputs .now) (a .leaves .now) (a .words .now) (bad-pair .result) (bad-pair .ensures)
+    (subst (λ (n : ℕ). n ≤ bad-pair .result .upper) (c .before .before .leaf-count .ensures) (c .if2 .left))
 
 pub pairs-spec : {M : Type 1} → statement M
 pairs-spec =

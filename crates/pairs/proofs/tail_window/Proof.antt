@@ -1,3 +1,4 @@
+-- Each of the eight entries is the upper word's next digit, or zero behind it.
 use Rattle.lists.specs.Span.{span}
 use mathlib.Core.List.{[], _∷_}
 use borrow.Author.Needs.{needs}
@@ -30,7 +31,13 @@ byte-at-requires-8 c κs = search needs
 
 returns : tie.Need-returns
 unfolding span
-returns c = λ i. c .before .before .before .before .before .before .before .byte-at .ensures i ∷ c .before .before .before .before .before .before .byte-at2 .ensures i ∷ c .before .before .before .before .before .byte-at3 .ensures i ∷ c .before .before .before .before .byte-at4 .ensures i ∷ c .before .before .before .byte-at5 .ensures i ∷ c .before .before .byte-at6 .ensures i ∷ c .before .byte-at7 .ensures i ∷ c .byte-at8 .ensures i ∷ []
+returns c =
+    let byte-at = c .before .before .before .before .before .before .before .byte-at in
+    let byte-at2 = c .before .before .before .before .before .before .byte-at2 in
+    let byte-at3 = c .before .before .before .before .before .byte-at3 in
+    let byte-at4 = c .before .before .before .before .byte-at4 in
+    λ i. byte-at .ensures i ∷ byte-at2 .ensures i ∷ byte-at3 .ensures i ∷ byte-at4 .ensures i ∷ c .before .before .before .byte-at5 .ensures i ∷ c .before .before .byte-at6 .ensures i ∷
+    c .before .byte-at7 .ensures i ∷ c .byte-at8 .ensures i ∷ []
 
 pub tail-window-spec : {M : Type 1} → statement M
 tail-window-spec =

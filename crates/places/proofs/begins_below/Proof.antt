@@ -1,3 +1,4 @@
+-- The word's digits passed are the window's; the first of them is given.
 use mathlib.Core.Path.{refl}
 use Rattle.numeration.specs.Conversion.{window}
 use Rattle.lists.proofs.Test.{clash}
@@ -30,7 +31,14 @@ word-length-requires c κs = c .before .before .before .before .before .before .
 
 loop-holds : tie.Need-loop-holds Inv-loop μ-loop
 loop-holds c =
-    (omega arith, λ i l. let e : i ≡ 0 = omega arith in ap (λ (n : ℕ). getD (c .before .before .before .before .before .before .before .args .words .now) (c .before .before .before .word-start .result + n) 0) e ∙ ap (λ (n : ℕ). getD (c .before .before .before .before .before .before .before .args .words .now) n 0) (add-zero (c .before .before .before .word-start .result)) ∙ sym (c .before .before .byte-at .ensures) ∙ c .before .if1 .left ∙ c .before .before .before .before .before .before .before .pre .1 ∙ ap (window (c .before .before .before .before .before .before .before .args .row .now) (c .before .before .before .before .before .before .before .args .place)) (sym e))
+    let a = c .before .before .before .before .before .before .before .args in
+    let words = a .words .now in
+    let pre = c .before .before .before .before .before .before .before .pre in
+    let word-start = c .before .before .before .word-start in (
+      omega arith,
+      λ i l. let e : i ≡ 0 = omega arith in ap (λ (n : ℕ). getD words (word-start .result + n) 0) e ∙ ap (λ (n : ℕ). getD words n 0) (add-zero (word-start .result)) ∙ sym
+          (c .before .before .byte-at .ensures) ∙ c .before .if1 .left ∙ pre .1 ∙ ap (window (a .row .now) (a .place)) (sym e),
+    )
 
 add-byte-at : tie.Need-add-byte-at Inv-loop μ-loop
 add-byte-at c = omega arith

@@ -24,10 +24,16 @@ abbrev μ-loop : tie.MeasureT-loop
 μ-loop base alphabet inputs leaves words row from count out₀ size single ahead starts found₀ slots₀ below₀ k₀ out found slots below k = count - k
 
 -- the digit at this place
-at : (c : tie.After-out-index Inv-loop μ-loop) → c .out-index .result ≡ indexAt (elements degree (c .before .before .before .before .before .before .before .before .before .before .before .before .before .before .before .before .before .before .before .before .args .base)) (c .before .before .before .before .before .before .before .before .before .before .before .before .before .before .before .before .before .before .before .before .args .alphabet .now) (c .before .before .before .before .before .before .before .before .before .before .before .before .before .before .before .before .before .before .before .before .args .inputs .now) (c .before .before .before .before .before .before .before .before .before .before .before .before .before .before .before .before .before .before .before .before .args .leaves .now) (c .before .before .before .before .before .before .before .before .before .before .before .before .before .before .before .before .before .before .before .before .args .words .now) (c .before .before .before .before .before .before .before .before .before .before .before .before .before .before .before .before .before .before .before .before .args .row .now) (c .before .before .before .before .before .before .before .before .before .before .before .before .before .before .before .before .before .before .before .before .args .from + c .before .before .before .before .before .before .before .loop .k)
+at : (c : tie.After-out-index Inv-loop μ-loop) →
+    (let a = c .before .before .before .before .before .before .before .before .before .before .before .before .before .before .before .before .before .before .before .before .args in
+    c .out-index .result ≡ indexAt (elements degree (a .base)) (a .alphabet .now) (a .inputs .now) (a .leaves .now) (a .words .now) (a .row .now)
+    (a .from + c .before .before .before .before .before .before .before .loop .k))
 at c =
     let a = c .before .before .before .before .before .before .before .before .before .before .before .before .before .before .before .before .before .before .before .before .args in
-    index-from (elements degree (a .base)) (a .alphabet .now) (a .inputs .now) (a .leaves .now) (a .words .now) (a .row .now) (a .from + c .before .before .before .before .before .before .before .loop .k) (c .before .before .before .before .before .byte-at .result) (c .out-index .result) (c .before .before .before .before .before .before .before .loop .below) (c .before .before .weight-tried .result) (c .before .before .before .before .before .byte-at .ensures) (c .before .before .before .before .before .before .before .loop .inv .0 .weight) (c .before .before .weight-tried .ensures .0) (c .out-index .ensures .0)
+    let loop = c .before .before .before .before .before .before .before .loop in
+    let byte-at = c .before .before .before .before .before .byte-at in
+    let weight-tried = c .before .before .weight-tried in
+    index-from (elements degree (a .base)) (a .alphabet .now) (a .inputs .now) (a .leaves .now) (a .words .now) (a .row .now) (a .from + loop .k) (byte-at .result) (c .out-index .result) (loop .below) (weight-tried .result) (byte-at .ensures) (loop .inv .0 .weight) (weight-tried .ensures .0) (c .out-index .ensures .0)
 
 record-count-requires : tie.Need-record-count-requires Inv-loop μ-loop
 record-count-requires c κs = lit< tt
@@ -65,7 +71,11 @@ add-weight-tried-2 : tie.Need-add-weight-tried-2 Inv-loop μ-loop
 add-weight-tried-2 c = omega (arith, c .before .before .before .before .before .before .before .before .before .before .before .before .before .before .before .pre .5)
 
 weight-tried-requires : tie.Need-weight-tried-requires Inv-loop μ-loop
-weight-tried-requires c κs = (c .before .before .before .before .before .before .before .before .before .before .before .before .before .before .before .before .before .pre .4, c .before .before .byte-at .ensures ∙ window-first (c .before .before .before .before .before .before .before .before .before .before .before .before .before .before .before .before .before .args .row .now) (c .before .before .before .before .before .before .before .before .before .before .before .before .before .before .before .before .before .args .from + c .before .before .before .before .loop .k))
+weight-tried-requires c κs =
+    let a = c .before .before .before .before .before .before .before .before .before .before .before .before .before .before .before .before .before .args in
+    let pre = c .before .before .before .before .before .before .before .before .before .before .before .before .before .before .before .before .before .pre in
+    let loop = c .before .before .before .before .loop in
+    (pre .4, c .before .before .byte-at .ensures ∙ window-first (a .row .now) (a .from + loop .k))
 
 cast-input : tie.Need-cast-input Inv-loop μ-loop
 cast-input c = search needs
@@ -73,7 +83,17 @@ cast-input c = search needs
 out-index-requires : tie.Need-out-index-requires Inv-loop μ-loop
 out-index-requires c κs =
     let a = c .before .before .before .before .before .before .before .before .before .before .before .before .before .before .before .before .before .before .before .args in
-    (c .before .before .before .before .before .before .before .before .before .before .before .before .before .before .before .before .before .before .before .pre .0, subst (λ (n : ℕ). n < elementCount (a .inputs .now)) (sym (c .before .before .before .before .byte-at .ensures)) (getD-inputs (elementCount (a .inputs .now)) (a .row .now) (c .before .before .before .before .before .before .before .before .before .before .before .before .before .before .before .before .before .before .before .pre .2) (c .before .before .before .before .before .before .before .before .before .before .before .before .before .before .before .before .before .before .before .pre .3) (a .from + c .before .before .before .before .before .before .loop .k)), c .before .before .before .before .before .before .loop .inv .0 .small, c .before .weight-tried .ensures .1, c .before .before .before .before .before .before .before .before .before .before .before .before .before .before .before .before .before .before .before .pre .1, c .before .before .before .before .before .before .loop .inv .1)
+    let pre = c .before .before .before .before .before .before .before .before .before .before .before .before .before .before .before .before .before .before .before .pre in
+    let loop = c .before .before .before .before .before .before .loop in
+    let byte-at = c .before .before .before .before .byte-at in (
+      (
+        pre .0,
+        subst (λ (n : ℕ). n < elementCount (a .inputs .now)) (sym (byte-at .ensures)) (getD-inputs (elementCount (a .inputs .now)) (a .row .now) (pre .2) (pre .3) (a .from + loop .k)),
+        loop .inv .0 .small,
+        c .before .weight-tried .ensures .1,
+      ),
+      (pre .1, loop .inv .1),
+    )
 
 same-length : tie.Need-same-length Inv-loop μ-loop
 same-length c = c .before .before .before .before .before .before .before .before .loop .inv .0 .long
@@ -81,12 +101,18 @@ same-length c = c .before .before .before .before .before .before .before .befor
 returns : tie.Need-returns Inv-loop μ-loop
 returns c =
     let a = c .before .before .before .before .before .before .before .before .before .before .before .before .before .before .before .before .before .before .before .before .before .args in
-    converted-here (elements degree (a .base)) (a .alphabet .now) (a .inputs .now) (a .leaves .now) (a .words .now) (a .row .now) (a .from) (a .count) (a .out .now) (c .before .before .before .before .before .before .before .before .loop .out) (c .before .before .before .before .before .before .before .before .loop .below) (c .before .before .before .before .before .before .before .before .loop .k) (c .before .before .before .before .before .before .before .before .loop .inv .0) (c .before .out-index .result) (c .before .before .before .before .before .before .before .loop-test .taken) (at (c .before)) (subst (λ (n : ℕ). n ≤ c .before .out-index .result) (c .before .before .before .before .before .before .before .before .before .before .before .before .before .before .record-count .ensures) (c .if1 .taken))
+    let record-count = c .before .before .before .before .before .before .before .before .before .before .before .before .before .before .record-count in
+    let loop = c .before .before .before .before .before .before .before .before .loop in
+    let loop-test = c .before .before .before .before .before .before .before .loop-test in
+    converted-here (elements degree (a .base)) (a .alphabet .now) (a .inputs .now) (a .leaves .now) (a .words .now) (a .row .now) (a .from) (a .count) (a .out .now) (loop .out) (loop .below) (loop .k) (loop .inv .0) (c .before .out-index .result) (loop-test .taken) (at (c .before)) (subst (λ (n : ℕ). n ≤ c .before .out-index .result) (record-count .ensures) (c .if1 .taken))
 
 cast-out : tie.Need-cast-out Inv-loop μ-loop
 cast-out c =
-    let size : c .before .before .before .before .before .before .before .before .before .before .before .before .before .before .record-count .result ≡ elementCount (c .before .before .before .before .before .before .before .before .before .before .before .before .before .before .before .before .before .before .before .before .before .args .alphabet .now) = c .before .before .before .before .before .before .before .before .before .before .before .before .before .before .record-count .ensures in
-    omega (arith, c .before .before .before .before .before .before .before .before .before .before .before .before .before .before .before .before .before .before .before .before .before .pre .1, c .if1 .left)
+    let a = c .before .before .before .before .before .before .before .before .before .before .before .before .before .before .before .before .before .before .before .before .before .args in
+    let pre = c .before .before .before .before .before .before .before .before .before .before .before .before .before .before .before .before .before .before .before .before .before .pre in
+    let record-count = c .before .before .before .before .before .before .before .before .before .before .before .before .before .before .record-count in
+    let size : record-count .result ≡ elementCount (a .alphabet .now) = record-count .ensures in
+    omega (arith, pre .1, c .if1 .left)
 
 slice-write-out : tie.Need-slice-write-out Inv-loop μ-loop
 slice-write-out c = omega (arith, c .before .before .before .before .before .before .before .before .before .before .before .before .before .before .before .before .before .before .before .before .before .pre .6, c .before .before .before .before .before .before .before .before .loop .inv .0 .long)
@@ -100,7 +126,16 @@ loop-less c = omega arith
 loop-again : tie.Need-loop-again Inv-loop μ-loop
 loop-again c =
     let a = c .before .before .before .before .before .before .before .before .before .before .before .before .before .before .before .before .before .before .before .before .before .args in
-    (converted-next (elements degree (a .base)) (a .alphabet .now) (a .inputs .now) (a .leaves .now) (a .words .now) (a .row .now) (a .from) (a .count) (a .out .now) (c .before .before .before .before .before .before .before .before .loop .out) (c .before .before .before .before .before .before .before .before .loop .below) (c .before .before .before .before .before .before .before .before .loop .k) (c .before .before .before .before .before .before .before .before .loop .inv .0) (c .before .before .before .weight-tried .result) (c .before .out-index .result) (c .before .before .before .before .before .before .before .loop-test .taken) (c .before .before .before .before .before .before .before .before .before .before .before .before .before .before .before .before .before .before .before .before .before .pre .6) (at (c .before)) (subst (λ (n : ℕ). c .before .out-index .result < n) (c .before .before .before .before .before .before .before .before .before .before .before .before .before .before .record-count .ensures) (c .if1 .left)) (c .before .before .before .weight-tried .ensures .0) (c .before .before .before .weight-tried .ensures .1), c .before .out-index .ensures .1)
+    let pre = c .before .before .before .before .before .before .before .before .before .before .before .before .before .before .before .before .before .before .before .before .before .pre in
+    let record-count = c .before .before .before .before .before .before .before .before .before .before .before .before .before .before .record-count in
+    let loop = c .before .before .before .before .before .before .before .before .loop in
+    let loop-test = c .before .before .before .before .before .before .before .loop-test in
+    let weight-tried = c .before .before .before .weight-tried in (
+      converted-next (elements degree (a .base)) (a .alphabet .now) (a .inputs .now) (a .leaves .now) (a .words .now) (a .row .now) (a .from) (a .count) (a .out .now) (loop .out)
+          (loop .below) (loop .k) (loop .inv .0) (weight-tried .result) (c .before .out-index .result) (loop-test .taken) (pre .6) (at (c .before))
+          (subst (λ (n : ℕ). c .before .out-index .result < n) (record-count .ensures) (c .if1 .left)) (weight-tried .ensures .0) (weight-tried .ensures .1),
+      c .before .out-index .ensures .1,
+    )
 
 same-length-2 : tie.Need-same-length-2 Inv-loop μ-loop
 same-length-2 c = c .before .loop .inv .0 .long

@@ -1,3 +1,4 @@
+-- The entries are only tried, so that nothing is said of them.
 use borrow.Author.Needs.{needs}
 use native.Mathlib.Omega.{arith}
 use Prim.Native.Nat.{_≤_, _-_}

@@ -1,3 +1,4 @@
+-- A digit in the element's slot that is the element is its first index; else the search says it, and what it found may stand there.
 use native.Mathlib.Omega.{arith}
 use Prim.Native.Nat.{ℕ, _^_}
 use lib.Dec.{lit≤}
@@ -30,7 +31,16 @@ equal-requires c κs = search needs
 
 returns : tie.Need-returns
 returns c =
-    (c .before .before .before .before .wide .ensures .0 ∙ first-hit (c .before .before .before .before .before .before .before .before .before .args .alphabet .now) (c .before .before .before .before .before .before .before .before .before .args .x) (c .before .before .before .before .before .before .before .before .before .args .slots .now) (c .before .before .before .before .before .before .before .before .before .pre .2) (c .before .before .before .before .before .before .slot-of .result) (omega (arith, c .before .before .before .before .wide .ensures .0, c .before .before .before .if1 .taken, c .before .before .before .before .before .before .before .record-count .ensures)) (ap (recordAt (c .before .before .before .before .before .before .before .before .before .args .alphabet .now)) (sym (c .before .before .before .before .wide .ensures .0)) ∙ sym (c .before .before .record-at .ensures .0) ∙ same→≡ _ _ (sym (c .before .equal .ensures) ∙ c .if2 .taken)), c .before .before .before .before .before .before .before .before .before .pre .2)
+    let a = c .before .before .before .before .before .before .before .before .before .args in
+    let alphabet = a .alphabet .now in
+    let pre = c .before .before .before .before .before .before .before .before .before .pre in
+    let record-count = c .before .before .before .before .before .before .before .record-count in
+    let slot-of = c .before .before .before .before .before .before .slot-of in
+    let wide = c .before .before .before .before .wide in (
+      wide .ensures ∙ first-hit alphabet (a .x) (a .slots .now) (pre .2) (slot-of .result) (omega (arith, wide .ensures, c .before .before .before .if1 .taken, record-count .ensures))
+          (ap (recordAt alphabet) (sym (wide .ensures)) ∙ sym (c .before .before .record-at .ensures .0) ∙ same→≡ _ _ (sym (c .before .equal .ensures) ∙ c .if2 .taken)),
+      pre .2,
+    )
 
 find-requires : tie.Need-find-requires
 find-requires c κs = search needs
@@ -43,8 +53,14 @@ element-write-slots c = search needs
 
 returns-2 : tie.Need-returns-2
 returns-2 c =
-    let e = c .before .find .ensures ∙ ap (λ (n : ℕ). indexIn (c .before .before .before .before .before .before .before .before .args .alphabet .now) n (c .before .before .before .before .before .before .before .before .args .x)) (c .before .before .before .before .before .before .record-count .ensures) in
-    (e, firsts-more (c .before .before .before .before .before .before .before .before .args .alphabet .now) (c .before .before .before .before .before .before .before .before .args .x) (c .before .before .before .before .before .before .before .before .args .slots .now) (c .before .before .before .before .before .before .before .before .pre .2) (c .before .before .before .before .before .slot-of .result) (c .before .find .result) e (omega (arith, c .if3 .taken, c .before .before .before .before .before .before .record-count .ensures)))
+    let a = c .before .before .before .before .before .before .before .before .args in
+    let alphabet = a .alphabet .now in
+    let x = a .x in
+    let pre = c .before .before .before .before .before .before .before .before .pre in
+    let record-count = c .before .before .before .before .before .before .record-count in
+    let slot-of = c .before .before .before .before .before .slot-of in
+    let e = c .before .find .ensures ∙ ap (λ (n : ℕ). indexIn alphabet n x) (record-count .ensures) in
+    (e, firsts-more alphabet x (a .slots .now) (pre .2) (slot-of .result) (c .before .find .result) e (omega (arith, c .if3 .taken, record-count .ensures)))
 
 returns-3 : tie.Need-returns-3
 returns-3 c =

@@ -1,3 +1,4 @@
+-- What stands at the pair after the test is the index of the sum, looked for now or before.
 use Rattle.places.proofs.Known.{looked-for, stood-there}
 use Rattle.place_rules.proofs.Place.{sum-index-high}
 use Rattle.places.specs.Helpers.{Known}
@@ -16,11 +17,22 @@ use Rattle.digits.proofs.sum_index.Reads as sum-index-reads
 use Rattle.rows.proofs.byte_at.Reads as byte-at-reads
 
 -- after the test: what stands at the pair
-found : (c : tie.Joined1) → (getD (c .if1 .known) (16 * c .before .before .before .byte-at .result + c .before .before .byte-at2 .result) 0 ≡ sumIndex (c .before .before .before .before .before .before .before .before .before .args .alphabet .now) (c .before .before .before .before .before .before .before .before .before .args .inputs .now) (c .before .before .before .byte-at .result) (c .before .before .byte-at2 .result)) × Known (c .before .before .before .before .before .before .before .before .before .args .alphabet .now) (c .before .before .before .before .before .before .before .before .before .args .inputs .now) (c .if1 .known)
+found : (c : tie.Joined1) →
+    (let a = c .before .before .before .before .before .before .before .before .before .args in
+    (getD (c .if1 .known) (16 * c .before .before .before .byte-at .result + c .before .before .byte-at2 .result) 0 ≡ sumIndex (a .alphabet .now) (a .inputs .now)
+    (c .before .before .before .byte-at .result) (c .before .before .byte-at2 .result))
+    × Known (a .alphabet .now) (a .inputs .now) (c .if1 .known))
 found c =
-    let u : c .before .before .before .byte-at .result < 16 = omega (arith, c .before .before .before .byte-at .ensures, c .before .before .before .before .before .before .before .before .before .pre .0, c .before .before .before .before .before .before .before .before .before .pre .2) in
-    let l : c .before .before .byte-at2 .result < 16 = omega (arith, c .before .before .byte-at2 .ensures, c .before .before .before .before .before .before .before .before .before .pre .0, c .before .before .before .before .before .before .before .before .before .pre .3) in
-    ⊎-elim (λ t. looked-for (c .before .before .before .before .before .before .before .before .before .args .alphabet .now) (c .before .before .before .before .before .before .before .before .before .args .inputs .now) (c .before .before .before .before .before .before .before .before .before .args .known .now) (c .before .before .before .before .before .before .before .before .before .pre .4) (c .before .before .before .byte-at .result) (c .before .before .byte-at2 .result) u l (c .if1 .known) (t .1 .result) (t .1 .ensures) (t .2)) (λ t. stood-there (c .before .before .before .before .before .before .before .before .before .args .alphabet .now) (c .before .before .before .before .before .before .before .before .before .args .inputs .now) (c .before .before .before .before .before .before .before .before .before .args .known .now) (c .before .before .before .before .before .before .before .before .before .pre .4) (c .before .before .before .byte-at .result) (c .before .before .byte-at2 .result) u l (c .if1 .known) (t .0 .left) (t .1)) (c .if1 .came)
+    let a = c .before .before .before .before .before .before .before .before .before .args in
+    let alphabet = a .alphabet .now in
+    let inputs = a .inputs .now in
+    let known = a .known .now in
+    let pre = c .before .before .before .before .before .before .before .before .before .pre in
+    let byte-at = c .before .before .before .byte-at in
+    let byte-at2 = c .before .before .byte-at2 in
+    let u : byte-at .result < 16 = omega (arith, byte-at .ensures, pre .0 .0, pre .1 .0 .0) in
+    let l : byte-at2 .result < 16 = omega (arith, byte-at2 .ensures, pre .0 .0, pre .1 .0 .1) in
+    ⊎-elim (λ t. looked-for alphabet inputs known (pre .1 .1) (byte-at .result) (byte-at2 .result) u l (c .if1 .known) (t .1 .result) (t .1 .ensures) (t .2)) (λ t. stood-there alphabet inputs known (pre .1 .1) (byte-at .result) (byte-at2 .result) u l (c .if1 .known) (t .0 .left) (t .1)) (c .if1 .came)
 
 -- src/lib.rt:34:17
 byte-at-requires : tie.Need-byte-at-requires
@@ -56,7 +68,11 @@ sum-index-requires c κs = search needs
 
 -- src/lib.rt:38:23
 cast-known : tie.Need-cast-known
-cast-known c = omega (arith, c .sum-index .ensures, c .before .before .before .before .before .before .before .before .before .before .pre .1, sum-index-high (c .before .before .before .before .before .before .before .before .before .before .args .alphabet .now) (c .before .before .before .before .before .before .before .before .before .before .args .inputs .now) (c .before .before .before .before .byte-at .result) (c .before .before .before .byte-at2 .result))
+cast-known c =
+    let a = c .before .before .before .before .before .before .before .before .before .before .args in
+    let pre = c .before .before .before .before .before .before .before .before .before .before .pre in
+    let byte-at = c .before .before .before .before .byte-at in
+    omega (arith, c .sum-index .ensures, pre .0 .1, sum-index-high (a .alphabet .now) (a .inputs .now) (byte-at .result) (c .before .before .before .byte-at2 .result))
 
 -- src/lib.rt:38:9
 slice-write-known : tie.Need-slice-write-known
@@ -64,11 +80,14 @@ slice-write-known c = search needs
 
 -- src/lib.rt:40:5
 slice-read-result : tie.Need-slice-read-result
-slice-read-result c = omega (arith, found (c .before) .1 .long, c .before .before .before .before .byte-at .ensures, c .before .before .before .byte-at2 .ensures, c .before .before .before .before .before .before .before .before .before .before .pre .0, c .before .before .before .before .before .before .before .before .before .before .pre .2, c .before .before .before .before .before .before .before .before .before .before .pre .3)
+slice-read-result c =
+    let pre = c .before .before .before .before .before .before .before .before .before .before .pre in
+    let byte-at = c .before .before .before .before .byte-at in
+    omega (arith, found (c .before) .1 .long, byte-at .ensures, c .before .before .before .byte-at2 .ensures, pre .0 .0, pre .1 .0 .0, pre .1 .0 .1)
 
 -- src/lib.rt:22:1
 same-length : tie.Need-same-length
-same-length c = found (c .before) .1 .long ∙ sym (c .before .before .before .before .before .before .before .before .before .before .pre .4 .long)
+same-length c = found (c .before) .1 .long ∙ sym (c .before .before .before .before .before .before .before .before .before .before .pre .1 .1 .long)
 
 -- src/lib.rt:22:1
 returns : tie.Need-returns

@@ -1,3 +1,4 @@
+-- The places passed have their input indexes, and what is known stays true.
 use Rattle.place_rules.proofs.Part.{row-start, row-next}
 use Rattle.places.proofs.Known.{known-none}
 use Rattle.place_rules.specs.Place.{inputAt}
@@ -32,7 +33,15 @@ slice-aggregate-input-at c = sym (c .before .before .loop .inv .3 .long)
 
 -- src/lib.rt:60:22
 input-at-requires : tie.Need-input-at-requires Inv-loop μ-loop
-input-at-requires c κs = (c .before .before .before .before .before .before .before .pre .5, c .before .before .before .before .before .before .before .pre .2, c .before .before .before .before .before .before .before .pre .3 (c .before .before .loop .place) (c .before .loop-test .taken), c .before .before .before .before .before .before .before .pre .4 (c .before .before .loop .place) (c .before .loop-test .taken), c .before .before .loop .inv .3)
+input-at-requires c κs =
+    let pre = c .before .before .before .before .before .before .before .pre in
+    let loop = c .before .before .loop in (
+      (pre .5, pre .2),
+      (
+        (pre .3 (loop .place) (c .before .loop-test .taken), pre .4 (loop .place) (c .before .loop-test .taken)),
+        loop .inv .3,
+      ),
+    )
 
 -- src/lib.rt:60:9
 array-write-row : tie.Need-array-write-row Inv-loop μ-loop
@@ -50,7 +59,9 @@ loop-less c = omega arith
 loop-again : tie.Need-loop-again Inv-loop μ-loop
 loop-again c =
     let a = c .before .before .before .before .before .before .before .before .before .args in
-    (omega arith, omega arith, row-next (inputAt (a .alphabet .now) (a .inputs .now) (changed (a .change) 0 (a .first .now)) (changed (a .change) 1 (a .second .now))) (a .from) (c .before .before .before .before .loop .place) (c .before .before .before .before .loop .row) (c .before .input-at .result) (c .before .before .before .before .loop .inv .0) (omega (arith, c .before .before .before .before .before .before .before .before .before .pre .1, c .before .before .before .loop-test .taken)) (c .before .before .before .before .loop .inv .2) (c .before .input-at .ensures .0), c .before .input-at .ensures .1)
+    let pre = c .before .before .before .before .before .before .before .before .before .pre in
+    let loop = c .before .before .before .before .loop in
+    (omega arith, omega arith, row-next (inputAt (a .alphabet .now) (a .inputs .now) (changed (a .change) 0 (a .first .now)) (changed (a .change) 1 (a .second .now))) (a .from) (loop .place) (loop .row) (c .before .input-at .result) (loop .inv .0) (omega (arith, pre .1, c .before .before .before .loop-test .taken)) (loop .inv .2) (c .before .input-at .ensures .0), c .before .input-at .ensures .1)
 
 -- src/lib.rt:44:1
 returns : tie.Need-returns Inv-loop μ-loop

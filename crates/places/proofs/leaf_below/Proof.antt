@@ -1,3 +1,4 @@
+-- The guessed leaf where it begins the window, else the one that the search finds: either has the weight into the place.
 use Rattle.places.proofs.Tried.{weight-begun}
 use Rattle.place_rules.proofs.Place.{weight-found}
 use Rattle.leaf_rules.specs.Window.{LookedUp}
@@ -18,7 +19,11 @@ begins-below-requires c κs = search needs
 
 -- src/lib.rt:160:13
 returns : tie.Need-returns
-returns c = weight-begun (c .before .before .before .before .before .before .before .args .leaves .now) (c .before .before .before .before .before .before .before .args .words .now) (c .before .before .before .before .before .before .before .args .row .now) (c .before .before .before .before .before .before .before .pre .0) (c .before .before .before .before .before .before .before .args .place) (c .before .before .before .before .before .before .before .args .guess) (omega (arith, c .before .before .before .leaf-count .ensures, c .before .before .if1 .taken)) (c .before .begins-below .ensures (c .if2 .taken))
+returns c =
+    let a = c .before .before .before .before .before .before .before .args in
+    let pre = c .before .before .before .before .before .before .before .pre in
+    weight-begun (a .leaves .now) (a .words .now) (a .row .now) (pre .0) (a .place) (a .guess) (omega (arith, c .before .before .before .leaf-count .ensures, c .before .before .if1 .taken))
+    (c .before .begins-below .ensures (c .if2 .taken))
 
 -- src/lib.rt:166:9
 window-below-requires : tie.Need-window-below-requires
@@ -30,7 +35,13 @@ look-up-within-requires c κs = search needs
 
 -- src/lib.rt:144:1
 returns-2 : tie.Need-returns-2
-returns-2 c = weight-found (c .before .before .before .before .before .before .before .args .leaves .now) (c .before .before .before .before .before .before .before .args .words .now) (c .before .before .before .before .before .before .before .args .row .now) (c .before .before .before .before .before .before .before .pre .0) (c .before .before .before .before .before .before .before .args .place) (c .look-up-within .result) (subst (λ w. LookedUp (codeOf (c .before .before .before .before .before .before .before .args .leaves .now) (c .before .before .before .before .before .before .before .args .words .now)) w (c .look-up-within .result)) (c .before .window-below .ensures) (c .look-up-within .ensures))
+returns-2 c =
+    let a = c .before .before .before .before .before .before .before .args in
+    let leaves = a .leaves .now in
+    let words = a .words .now in
+    let pre = c .before .before .before .before .before .before .before .pre in
+    weight-found leaves words (a .row .now) (pre .0) (a .place) (c .look-up-within .result)
+    (subst (λ w. LookedUp (codeOf leaves words) w (c .look-up-within .result)) (c .before .window-below .ensures) (c .look-up-within .ensures))
 
 pub leaf-below-spec : {M : Type 1} → statement M
 leaf-below-spec =

@@ -1,3 +1,4 @@
+-- The index of the digit that the input digit and the two weights give.
 use Prim.Native.Nat.{_^_}
 use mathlib.Core.Path.{sym, ap, subst, _∙_}
 use Rattle.place_rules.specs.Place.{alphabetIndex}
@@ -18,11 +19,21 @@ out-digit-requires c κs = search needs
 
 index-of-requires : tie.Need-index-of-requires
 index-of-requires c κs =
-    (subst (Within (2 ^ 42)) (sym (c .before .out-digit .ensures)) (out-size (c .before .before .before .before .before .args .base) (c .before .before .record-at .result) (c .before .before .before .before .before .args .below) (c .before .before .before .before .before .args .own) (c .before .before .before .before .before .pre .0) (search needs) (c .before .before .record-at .ensures .1) (c .before .before .before .before .before .pre .2) (c .before .before .before .before .before .pre .3)), c .before .before .before .before .before .pre .4, c .before .before .before .before .before .pre .5)
+    let a = c .before .before .before .before .before .args in
+    let pre = c .before .before .before .before .before .pre in
+    let record-at = c .before .before .record-at in (
+      subst (Within (2 ^ 42)) (sym (c .before .out-digit .ensures)) (out-size (a .base) (record-at .result) (a .below) (a .own) (pre .0 .0) (search needs) (record-at .ensures .1) (pre .0 .2) (pre .0 .3)),
+      pre .1 .0,
+      pre .1 .1,
+    )
 
 returns : tie.Need-returns
 returns c =
-    (c .index-of .ensures .0 ∙ ap (alphabetIndex (c .before .before .before .before .before .before .args .alphabet .now)) (c .before .before .out-digit .ensures ∙ ap (λ d. outDigit (elements degree (c .before .before .before .before .before .before .args .base)) d (c .before .before .before .before .before .before .args .below) (c .before .before .before .before .before .before .args .own)) (c .before .before .before .record-at .ensures .0)), c .index-of .ensures .1)
+    let a = c .before .before .before .before .before .before .args in (
+      c .index-of .ensures .0 ∙ ap (alphabetIndex (a .alphabet .now))
+          (c .before .before .out-digit .ensures ∙ ap (λ d. outDigit (elements degree (a .base)) d (a .below) (a .own)) (c .before .before .before .record-at .ensures .0)),
+      c .index-of .ensures .1,
+    )
 
 pub out-index-spec : {M : Type 1} → statement M
 out-index-spec =

@@ -1,3 +1,4 @@
+-- The weight of a leaf that begins the window is the weight into the place.
 use mathlib.Core.Path.{_∙_}
 use borrow.Author.Needs.{needs}
 use Rattle.places.proofs.weight_tried.Statement.{statement}

@@ -1,3 +1,4 @@
+-- Each of the eight entries is the window's digit.
 use mathlib.Core.List.{[], _∷_}
 use Rattle.lists.specs.Span.{span}
 use borrow.Author.Needs.{needs}
@@ -30,7 +31,13 @@ digit-below-requires-8 c κs = search needs
 
 returns : tie.Need-returns
 unfolding span
-returns c = λ i. c .before .before .before .before .before .before .before .digit-below .ensures i ∷ c .before .before .before .before .before .before .digit-below2 .ensures i ∷ c .before .before .before .before .before .digit-below3 .ensures i ∷ c .before .before .before .before .digit-below4 .ensures i ∷ c .before .before .before .digit-below5 .ensures i ∷ c .before .before .digit-below6 .ensures i ∷ c .before .digit-below7 .ensures i ∷ c .digit-below8 .ensures i ∷ []
+returns c =
+    let digit-below = c .before .before .before .before .before .before .before .digit-below in
+    let digit-below2 = c .before .before .before .before .before .before .digit-below2 in
+    let digit-below3 = c .before .before .before .before .before .digit-below3 in
+    let digit-below4 = c .before .before .before .before .digit-below4 in
+    λ i. digit-below .ensures i ∷ digit-below2 .ensures i ∷ digit-below3 .ensures i ∷ digit-below4 .ensures i ∷ c .before .before .before .digit-below5 .ensures i ∷
+    c .before .before .digit-below6 .ensures i ∷ c .before .digit-below7 .ensures i ∷ c .digit-below8 .ensures i ∷ []
 
 pub window-below-spec : {M : Type 1} → statement M
 window-below-spec =

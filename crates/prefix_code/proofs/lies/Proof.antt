@@ -1,3 +1,4 @@
+-- Each test that fails says no; past all of them the word lies as it is to.
 use mathlib.Core.Path.{refl}
 use Rattle.lists.proofs.Test.{clash}
 use borrow.Author.Needs.{needs}

@@ -1,3 +1,4 @@
+-- The words passed lie one after the other and rise, and their strings are counted; at the end all strings are.
 use mathlib.Core.Path.{refl}
 use lib.ListN.{getD}
 use native.Mathlib.Omega.{arith}
@@ -80,8 +81,22 @@ array-read-floor c = omega (arith, c .before .before .before .lies .ensures (not
 -- src/lib.rt:72:17
 add-floor : tie.Need-add-floor Inv-loop μ-loop
 add-floor c =
+    let a = c .before .before .before .before .before .before .before .before .before .before .before .before .before .args in
+    let pre = c .before .before .before .before .before .before .before .before .before .before .before .before .before .pre in
+    let powers = c .before .before .before .before .before .before .before .before .before .before .powers in
+    let powers2 = c .before .before .before .before .before .before .before .before .before .powers2 in
+    let leaf-count = c .before .before .before .before .before .before .before .before .leaf-count in
+    let loop = c .before .before .before .before .before .before .before .loop in
+    let word-start = c .before .before .before .before .before .word-start in
+    let word-length = c .before .before .before .before .word-length in
     let l = c .before .before .before .lies .ensures (not-false _ (c .before .before .if1 .left)) in
-    omega (arith, floor-room (c .before .before .before .before .before .before .before .before .before .before .before .before .before .args .leaves .now) (c .before .before .before .before .before .before .before .before .before .before .before .before .before .args .words .now) (c .before .before .before .before .before .before .before .before .before .before .before .before .before .args .inputs) (c .before .before .before .before .before .before .before .loop .leaf) (c .before .before .before .before .before .before .before .loop .end) (c .before .before .before .before .before .before .before .loop .floor) (c .before .before .before .before .before .before .before .loop .strings) (c .before .before .before .before .before .word-start .result) (c .before .before .before .before .word-length .result) (c .before .word-number-by .result) (getD (c .before .before .before .before .before .before .before .before .before .before .powers .result) (c .before .before .before .before .word-length .result) 0) (getD (c .before .before .before .before .before .before .before .before .before .powers2 .result) (c .before .before .before .before .word-length .result) 0) (c .before .before .before .before .before .before .before .loop .inv) (omega (arith, c .before .before .before .before .before .before .before .before .leaf-count .ensures)) (c .before .before .before .before .before .word-start .ensures .0) (c .before .before .before .before .word-length .ensures .0) l (c .before .word-number-by .ensures) (c .before .before .before .before .before .before .before .before .before .before .powers .ensures (c .before .before .before .before .word-length .result) (l .1) (l .2)) (c .before .before .before .before .before .before .before .before .before .powers2 .ensures (c .before .before .before .before .word-length .result) (l .1) (l .2)) (c .before .before .before .before .before .before .before .before .before .before .before .before .before .pre .1) (c .before .before .before .before .before .before .before .before .before .before .before .before .before .pre .3))
+    omega (
+      arith,
+      floor-room (a .leaves .now) (a .words .now) (a .inputs) (loop .leaf) (loop .end) (loop .floor) (loop .strings) (word-start .result) (word-length .result)
+          (c .before .word-number-by .result) (getD (powers .result) (word-length .result) 0) (getD (powers2 .result) (word-length .result) 0) (loop .inv)
+          (omega (arith, leaf-count .ensures)) (word-start .ensures .0) (word-length .ensures .0) l (c .before .word-number-by .ensures) (powers .ensures (word-length .result) (l .1) (l .2))
+          (powers2 .ensures (word-length .result) (l .1) (l .2)) (pre .0 .1) (pre .1),
+    )
 
 -- src/lib.rt:73:20
 mul-strings : tie.Need-mul-strings Inv-loop μ-loop
@@ -94,12 +109,19 @@ array-read-strings c = omega (arith, c .before .before .before .lies .ensures (n
 -- src/lib.rt:73:9
 add-strings : tie.Need-add-strings Inv-loop μ-loop
 add-strings c =
+    let a = c .before .before .before .before .before .before .before .before .before .before .before .before .before .args in
+    let pre = c .before .before .before .before .before .before .before .before .before .before .before .before .before .pre in
+    let powers2 = c .before .before .before .before .before .before .before .before .before .powers2 in
+    let leaf-count = c .before .before .before .before .before .before .before .before .leaf-count in
+    let loop = c .before .before .before .before .before .before .before .loop in
+    let loop-test = c .before .before .before .before .before .before .loop-test in
+    let word-length = c .before .before .before .before .word-length in
     let l = c .before .before .before .lies .ensures (not-false _ (c .before .before .if1 .left)) in
-    omega (arith, c .before .before .before .before .before .before .before .before .leaf-count .ensures, c .before .before .before .before .before .before .before .before .before .before .before .before .before .pre .2, c .before .before .before .before .before .before .loop-test .taken, c .before .before .before .before .before .before .before .loop .inv .small, share-small (c .before .before .before .before .before .before .before .before .before .before .before .before .before .args .inputs) (c .before .before .before .before .word-length .result) (getD (c .before .before .before .before .before .before .before .before .before .powers2 .result) (c .before .before .before .before .word-length .result) 0) (c .before .before .before .before .before .before .before .before .before .before .before .before .before .pre .1) (l .1) (c .before .before .before .before .before .before .before .before .before .powers2 .ensures (c .before .before .before .before .word-length .result) (l .1) (l .2)))
+    omega (arith, leaf-count .ensures, pre .0 .2, loop-test .taken, loop .inv .small, share-small (a .inputs) (word-length .result) (getD (powers2 .result) (word-length .result) 0) (pre .0 .1) (l .1) (powers2 .ensures (word-length .result) (l .1) (l .2)))
 
 -- src/lib.rt:74:9
 add-leaf : tie.Need-add-leaf Inv-loop μ-loop
-add-leaf c = omega (arith, c .before .before .before .before .before .before .before .before .leaf-count .ensures, c .before .before .before .before .before .before .before .before .before .before .before .before .before .pre .2, c .before .before .before .before .before .before .loop-test .taken)
+add-leaf c = omega (arith, c .before .before .before .before .before .before .before .before .leaf-count .ensures, c .before .before .before .before .before .before .before .before .before .before .before .before .before .pre .0 .2, c .before .before .before .before .before .before .loop-test .taken)
 
 -- src/lib.rt:61:5
 loop-less : tie.Need-loop-less Inv-loop μ-loop
@@ -108,8 +130,19 @@ loop-less c = omega (arith, c .before .before .before .before .before .before .l
 -- src/lib.rt:61:5
 loop-again : tie.Need-loop-again Inv-loop μ-loop
 loop-again c =
+    let a = c .before .before .before .before .before .before .before .before .before .before .before .before .before .args in
+    let pre = c .before .before .before .before .before .before .before .before .before .before .before .before .before .pre in
+    let powers = c .before .before .before .before .before .before .before .before .before .before .powers in
+    let powers2 = c .before .before .before .before .before .before .before .before .before .powers2 in
+    let leaf-count = c .before .before .before .before .before .before .before .before .leaf-count in
+    let loop = c .before .before .before .before .before .before .before .loop in
+    let word-start = c .before .before .before .before .before .word-start in
+    let word-length = c .before .before .before .before .word-length in
     let l = c .before .before .before .lies .ensures (not-false _ (c .before .before .if1 .left)) in
-    so-far-next (c .before .before .before .before .before .before .before .before .before .before .before .before .before .args .leaves .now) (c .before .before .before .before .before .before .before .before .before .before .before .before .before .args .words .now) (c .before .before .before .before .before .before .before .before .before .before .before .before .before .args .inputs) (c .before .before .before .before .before .before .before .loop .leaf) (c .before .before .before .before .before .before .before .loop .end) (c .before .before .before .before .before .before .before .loop .floor) (c .before .before .before .before .before .before .before .loop .strings) (c .before .before .before .before .before .word-start .result) (c .before .before .before .before .word-length .result) (c .before .word-number-by .result) (getD (c .before .before .before .before .before .before .before .before .before .before .powers .result) (c .before .before .before .before .word-length .result) 0) (getD (c .before .before .before .before .before .before .before .before .before .powers2 .result) (c .before .before .before .before .word-length .result) 0) (c .before .before .before .before .before .before .before .loop .inv) (omega (arith, c .before .before .before .before .before .before .before .before .leaf-count .ensures)) (c .before .before .before .before .before .word-start .ensures .0) (c .before .before .before .before .word-length .ensures .0) l (c .before .word-number-by .ensures) (c .before .before .before .before .before .before .before .before .before .before .powers .ensures (c .before .before .before .before .word-length .result) (l .1) (l .2)) (c .before .before .before .before .before .before .before .before .before .powers2 .ensures (c .before .before .before .before .word-length .result) (l .1) (l .2)) (c .before .before .before .before .before .before .before .before .before .before .before .before .before .pre .1) (omega (arith, c .if2 .left))
+    so-far-next (a .leaves .now) (a .words .now) (a .inputs) (loop .leaf) (loop .end) (loop .floor) (loop .strings) (word-start .result) (word-length .result)
+    (c .before .word-number-by .result) (getD (powers .result) (word-length .result) 0) (getD (powers2 .result) (word-length .result) 0) (loop .inv)
+    (omega (arith, leaf-count .ensures)) (word-start .ensures .0) (word-length .ensures .0) l (c .before .word-number-by .ensures) (powers .ensures (word-length .result) (l .1) (l .2))
+    (powers2 .ensures (word-length .result) (l .1) (l .2)) (pre .0 .1) (omega (arith, c .if2 .left))
 
 -- src/lib.rt:77:9
 returns-3 : tie.Need-returns-3 Inv-loop μ-loop
@@ -121,11 +154,18 @@ array-read-result c = omega arith
 
 -- src/lib.rt:79:16
 mul-result : tie.Need-mul-result Inv-loop μ-loop
-mul-result c = omega (arith, strings-room (c .before .before .before .before .before .before .before .before .args .inputs) (getD (c .before .before .before .before .powers2 .result) 1 0) (c .before .before .before .before .before .before .before .before .pre .1) (c .before .before .before .before .powers2 .ensures 1 (omega arith) (omega arith)))
+mul-result c = omega (arith, strings-room (c .before .before .before .before .before .before .before .before .args .inputs) (getD (c .before .before .before .before .powers2 .result) 1 0) (c .before .before .before .before .before .before .before .before .pre .0 .1) (c .before .before .before .before .powers2 .ensures 1 (omega arith) (omega arith)))
 
 -- src/lib.rt:50:1
 returns-4 : tie.Need-returns-4 Inv-loop μ-loop
-returns-4 c = λ t. all-kept (c .before .before .before .before .before .before .before .before .args .leaves .now) (c .before .before .before .before .before .before .before .before .args .words .now) (c .before .before .before .before .before .before .before .before .args .inputs) (c .before .before .loop .leaf) (c .before .before .loop .end) (c .before .before .loop .floor) (c .before .before .loop .strings) (c .before .before .loop .inv) (omega (arith, c .before .before .before .leaf-count .ensures, c .before .loop-test .left)) (omega (arith, c .if3 .left)) (strings-all (c .before .before .before .before .before .before .before .before .args .inputs) (getD (c .before .before .before .before .powers2 .result) 1 0) (c .before .before .loop .strings) (c .before .before .before .before .powers2 .ensures 1 (omega arith) (omega arith)) (eqb-true _ _ t))
+returns-4 c =
+    let a = c .before .before .before .before .before .before .before .before .args in
+    let inputs = a .inputs in
+    let powers2 = c .before .before .before .before .powers2 in
+    let loop = c .before .before .loop in
+    λ t. all-kept (a .leaves .now) (a .words .now) inputs (loop .leaf) (loop .end) (loop .floor) (loop .strings) (loop .inv)
+    (omega (arith, c .before .before .before .leaf-count .ensures, c .before .loop-test .left)) (omega (arith, c .if3 .left))
+    (strings-all inputs (getD (powers2 .result) 1 0) (loop .strings) (powers2 .ensures 1 (omega arith) (omega arith)) (eqb-true _ _ t))
 
 pub numbered-spec : {M : Type 1} → statement M
 numbered-spec =

@@ -1,3 +1,4 @@
+-- Where the quick look says yes rules 9 to 12 are kept and rule 13 is left; else the scans say it.
 use Rattle.prefix_code.proofs.Quick.{kept-last}
 use mathlib.Core.Path.{_∙_}
 use borrow.Author.Needs.{needs}

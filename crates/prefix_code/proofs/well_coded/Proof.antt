@@ -1,3 +1,4 @@
+-- Yes is said only where the counts, the word bytes and the numbers of the words all allow it.
 use mathlib.Core.Path.{refl}
 use native.Mathlib.Omega.{arith}
 use Rattle.lists.proofs.Test.{clash}
@@ -36,13 +37,23 @@ returns-4 c = λ t. clash t refl
 
 -- src/lib.rt:98:5
 numbered-requires : tie.Need-numbered-requires
-numbered-requires c κs = (omega (arith, c .before .before .before .before .before .before .if1 .left), omega (arith, c .before .before .before .before .before .if2 .left), omega (arith, c .before .before .before .before .leaf-count .ensures, c .before .before .before .if3 .left), λ k h. omega (arith, c .before .before .highest .ensures k h, c .before .wide .ensures .0, c .if4 .left))
+numbered-requires c κs = (
+  (
+    omega (arith, c .before .before .before .before .before .before .if1 .left),
+    omega (arith, c .before .before .before .before .before .if2 .left),
+    omega (arith, c .before .before .before .before .leaf-count .ensures, c .before .before .before .if3 .left),
+  ),
+  λ k h. omega (arith, c .before .before .highest .ensures k h, c .before .wide .ensures .0, c .if4 .left),
+)
 
 -- src/lib.rt:83:1
 returns-5 : tie.Need-returns-5
 returns-5 c =
+    let a = c .before .before .before .before .before .before .before .before .before .before .args in
+    let if1 = c .before .before .before .before .before .before .before .if1 in
+    let if2 = c .before .before .before .before .before .before .if2 in
     λ t. let n = c .numbered .ensures t in
-    code-kept (c .before .before .before .before .before .before .before .before .before .before .args .leaves .now) (c .before .before .before .before .before .before .before .before .before .before .args .words .now) (c .before .before .before .before .before .before .before .before .before .before .args .inputs) (omega (arith, c .before .before .before .before .before .before .before .if1 .left)) (omega (arith, c .before .before .before .before .before .before .if2 .left)) (n .0) (λ k h. omega (arith, c .before .before .before .highest .ensures k h, c .before .before .wide .ensures .0, c .before .if4 .left)) (n .1)
+    code-kept (a .leaves .now) (a .words .now) (a .inputs) (omega (arith, if1 .left)) (omega (arith, if2 .left)) (n .0) (λ k h. omega (arith, c .before .before .before .highest .ensures k h, c .before .before .wide .ensures .0, c .before .if4 .left)) (n .1)
 
 pub well-coded-spec : {M : Type 1} → statement M
 well-coded-spec =

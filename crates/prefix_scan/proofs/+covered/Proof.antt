@@ -1,3 +1,4 @@
+-- By induction on the digits left: the runs passed are covered, each by the same function one digit deeper.
 use mathlib.Core.Path.{_≡_, sym, _∙_}
 use Prim.Native.Nat.{ℕ, _-_, _<_, _≤_}
 use native.Mathlib.Omega.{arith}
@@ -120,7 +121,10 @@ covered-covered-requires : (t : ℕ) → covered-lts.Need-covered-requires (
   covered-below t,
   covered.Post,
 ) (covered-at t) covered.Post covered-Inv-loop covered-μ-loop
-covered-covered-requires t c κs = omega (arith, c .run-end .ensures, run-high (codeOf (c .before .before .before .before .before .before .before .before .before .args .leaves .now) (c .before .before .before .before .before .before .before .before .before .args .words .now)) (8 - c .before .before .before .before .before .before .before .before .before .args .left) (c .before .before .loop .digit) (c .before .before .loop .from) (c .before .before .before .before .before .before .before .before .before .args .high) (omega arith))
+covered-covered-requires t c κs =
+    let a = c .before .before .before .before .before .before .before .before .before .args in
+    let loop = c .before .before .loop in
+    omega (arith, c .run-end .ensures, run-high (codeOf (a .leaves .now) (a .words .now)) (8 - a .left) (loop .digit) (loop .from) (a .high) (omega arith))
 
 covered-returns-4 : (t : ℕ) → covered-lts.Need-returns-4 (
   word-length-reads.Asked,
@@ -130,7 +134,13 @@ covered-returns-4 : (t : ℕ) → covered-lts.Need-returns-4 (
   covered-below t,
   covered.Post,
 ) (covered-at t) covered.Post covered-Inv-loop covered-μ-loop
-covered-returns-4 t c = sym (runs-here (codeOf (c .before .before .before .before .before .before .before .before .before .before .before .args .leaves .now) (c .before .before .before .before .before .before .before .before .before .before .before .args .words .now)) _ _ _ _ _ _ _ (c .before .before .run-end .ensures) (c .before .before .before .loop-test .taken) (sym (c .before .covered .ensures) ∙ not-true _ (c .if4 .taken))) ∙ c .before .before .before .before .loop .inv .1
+covered-returns-4 t c =
+    let a = c .before .before .before .before .before .before .before .before .before .before .before .args in
+    let loop = c .before .before .before .before .loop in
+    sym
+    (runs-here (codeOf (a .leaves .now) (a .words .now)) _ _ _ _ _ _ _ (c .before .before .run-end .ensures) (c .before .before .before .loop-test .taken)
+    (sym (c .before .covered .ensures) ∙ not-true _ (c .if4 .taken)))
+    ∙ loop .inv .1
 
 covered-add-digit : (t : ℕ) → covered-lts.Need-add-digit (
   word-length-reads.Asked,
@@ -160,7 +170,16 @@ covered-loop-again : (t : ℕ) → covered-lts.Need-loop-again (
   covered-below t,
   covered.Post,
 ) (covered-at t) covered.Post covered-Inv-loop covered-μ-loop
-covered-loop-again t c = (omega (arith, c .before .before .run-end .ensures, run-high (codeOf (c .before .before .before .before .before .before .before .before .before .before .before .args .leaves .now) (c .before .before .before .before .before .before .before .before .before .before .before .args .words .now)) (8 - c .before .before .before .before .before .before .before .before .before .before .before .args .left) (c .before .before .before .before .loop .digit) (c .before .before .before .before .loop .from) (c .before .before .before .before .before .before .before .before .before .before .before .args .high) (omega arith)), sym (runs-on (codeOf (c .before .before .before .before .before .before .before .before .before .before .before .args .leaves .now) (c .before .before .before .before .before .before .before .before .before .before .before .args .words .now)) _ _ _ _ _ _ _ (c .before .before .run-end .ensures) (c .before .before .before .loop-test .taken) (sym (c .before .covered .ensures) ∙ not-false _ (c .if4 .left))) ∙ c .before .before .before .before .loop .inv .1)
+covered-loop-again t c =
+    let a = c .before .before .before .before .before .before .before .before .before .before .before .args in
+    let loop = c .before .before .before .before .loop in
+    let run-end = c .before .before .run-end in (
+      omega (arith, run-end .ensures, run-high (codeOf (a .leaves .now) (a .words .now)) (8 - a .left) (loop .digit) (loop .from) (a .high) (omega arith)),
+      sym
+          (runs-on (codeOf (a .leaves .now) (a .words .now)) _ _ _ _ _ _ _ (run-end .ensures) (c .before .before .before .loop-test .taken)
+          (sym (c .before .covered .ensures) ∙ not-false _ (c .if4 .left)))
+          ∙ loop .inv .1,
+    )
 
 covered-returns-5 : (t : ℕ) → covered-lts.Need-returns-5 (
   word-length-reads.Asked,

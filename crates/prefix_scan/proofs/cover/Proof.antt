@@ -1,3 +1,4 @@
+-- What the function for all leaves and eight digits says, as rule 12.
 use mathlib.Core.Path.{sym, ap, _∙_}
 use borrow.Author.Needs.{needs}
 use Rattle.faults.proofs.Check.{once-kept, once-broken}

@@ -1,3 +1,4 @@
+-- The first leaf is apart; any other starts where the one before ends.
 use native.Mathlib.Omega.{arith}
 use borrow.Author.Needs.{needs}
 use Rattle.prefix_rules.proofs.Place.{expected-first, expected-next}

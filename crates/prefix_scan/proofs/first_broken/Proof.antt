@@ -1,3 +1,4 @@
+-- The first of the five rules that finds a fault; those before it found none.
 use borrow.Author.Needs.{needs}
 use Rattle.faults.proofs.Check.{found-first, found-next}
 use Rattle.prefix_rules.specs.Check.{leafCheck}
@@ -31,14 +32,30 @@ cover-requires c κs = search needs
 
 returns-4 : tie.Need-returns-4
 unfolding leafCheck
-returns-4 c = found-next _ _ _ _ (c .before .before .before .before .before .before .before .before .before .before .before .places .ensures) (c .before .before .before .before .before .before .before .before .before .if1 .left) (found-next _ _ _ _ (c .before .before .before .before .before .before .before .before .indexes .ensures) (c .before .before .before .before .before .before .if2 .left) (found-next _ _ _ _ (c .before .before .before .before .before .order .ensures) (c .before .before .before .if3 .left) (found-first _ _ _ (c .before .before .cover .ensures) (c .if4 .taken))))
+returns-4 c =
+    let places = c .before .before .before .before .before .before .before .before .before .before .before .places in
+    let if1 = c .before .before .before .before .before .before .before .before .before .if1 in
+    let indexes = c .before .before .before .before .before .before .before .before .indexes in
+    let if2 = c .before .before .before .before .before .before .if2 in
+    let order = c .before .before .before .before .before .order in
+    found-next _ _ _ _ (places .ensures) (if1 .left)
+    (found-next _ _ _ _ (indexes .ensures) (if2 .left) (found-next _ _ _ _ (order .ensures) (c .before .before .before .if3 .left) (found-first _ _ _ (c .before .before .cover .ensures) (c .if4 .taken))))
 
 zero-weight-requires : tie.Need-zero-weight-requires
 zero-weight-requires c κs = cover-some _ _ _ _ (c .before .before .cover .ensures) (c .if4 .left)
 
 returns-5 : tie.Need-returns-5
 unfolding leafCheck
-returns-5 c = found-next _ _ _ _ (c .before .before .before .before .before .before .before .before .before .before .before .before .places .ensures) (c .before .before .before .before .before .before .before .before .before .before .if1 .left) (found-next _ _ _ _ (c .before .before .before .before .before .before .before .before .before .indexes .ensures) (c .before .before .before .before .before .before .before .if2 .left) (found-next _ _ _ _ (c .before .before .before .before .before .before .order .ensures) (c .before .before .before .before .if3 .left) (found-next _ _ _ _ (c .before .before .before .cover .ensures) (c .before .if4 .left) (c .zero-weight .ensures))))
+returns-5 c =
+    let places = c .before .before .before .before .before .before .before .before .before .before .before .before .places in
+    let if1 = c .before .before .before .before .before .before .before .before .before .before .if1 in
+    let indexes = c .before .before .before .before .before .before .before .before .before .indexes in
+    let if2 = c .before .before .before .before .before .before .before .if2 in
+    let order = c .before .before .before .before .before .before .order in
+    let if3 = c .before .before .before .before .if3 in
+    found-next _ _ _ _ (places .ensures) (if1 .left)
+    (found-next _ _ _ _ (indexes .ensures) (if2 .left)
+    (found-next _ _ _ _ (order .ensures) (if3 .left) (found-next _ _ _ _ (c .before .before .before .cover .ensures) (c .before .if4 .left) (c .zero-weight .ensures))))
 
 pub first-broken-spec : {M : Type 1} → statement M
 first-broken-spec =

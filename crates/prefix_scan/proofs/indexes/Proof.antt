@@ -1,3 +1,4 @@
+-- The word bytes passed are input indexes.
 use mathlib.Core.Path.{_≡_, sym, _∙_}
 use Prim.Native.Nat.{_-_}
 use native.Mathlib.Omega.{arith}
@@ -29,7 +30,11 @@ wide-requires c κs = search needs
 
 returns : tie.Need-returns Inv-loop μ-loop
 unfolding wordIndexCheck
-returns c = judge-here 10 (λ i. i) _ (length (c .before .before .before .before .before .before .args .words .now)) (c .before .before .before .before .loop .i) (c .before .before .before .before .loop .inv) (c .before .before .before .loop-test .taken) (le-ltb (getD (c .before .before .before .before .before .before .args .words .now) (c .before .before .before .before .loop .i) 0) (c .before .before .before .before .before .before .args .inputs) (omega arith))
+returns c =
+    let a = c .before .before .before .before .before .before .args in
+    let words = a .words .now in
+    let loop = c .before .before .before .before .loop in
+    judge-here 10 (λ i. i) _ (length words) (loop .i) (loop .inv) (c .before .before .before .loop-test .taken) (le-ltb (getD words (loop .i) 0) (a .inputs) (omega arith))
 
 add-i : tie.Need-add-i Inv-loop μ-loop
 add-i c = search needs
@@ -38,7 +43,11 @@ loop-less : tie.Need-loop-less Inv-loop μ-loop
 loop-less c = search needs
 
 loop-again : tie.Need-loop-again Inv-loop μ-loop
-loop-again c = sym (scan-on _ _ (length (c .before .before .before .before .before .before .args .words .now)) (c .before .before .before .loop-test .taken) (lt-ltb (getD (c .before .before .before .before .before .before .args .words .now) (c .before .before .before .before .loop .i) 0) (c .before .before .before .before .before .before .args .inputs) (omega arith))) ∙ c .before .before .before .before .loop .inv
+loop-again c =
+    let a = c .before .before .before .before .before .before .args in
+    let words = a .words .now in
+    let loop = c .before .before .before .before .loop in
+    sym (scan-on _ _ (length words) (c .before .before .before .loop-test .taken) (lt-ltb (getD words (loop .i) 0) (a .inputs) (omega arith))) ∙ loop .inv
 
 returns-2 : tie.Need-returns-2 Inv-loop μ-loop
 unfolding wordIndexCheck

@@ -1,3 +1,4 @@
+-- Each test of rule 9 in turn; a leaf that passes all is inside, or is the last and ends the section.
 use native.Mathlib.Omega.{arith}
 use borrow.Author.Needs.{needs}
 use Rattle.prefix_rules.proofs.Place.{leaf-empty, leaf-long, leaf-elsewhere, leaf-past, leaf-inner, leaf-last}
@@ -35,13 +36,27 @@ leaf-count-requires : tie.Need-leaf-count-requires
 leaf-count-requires c κs = search needs
 
 returns-5 : tie.Need-returns-5
-returns-5 c = leaf-inner _ _ _ _ _ (c .before .before .before .before .before .before .before .before .word-start .ensures .0) (c .before .before .before .before .before .before .before .word-length .ensures .0) (c .before .before .before .before .before .before .if1 .left) (c .before .before .before .before .before .if2 .left) _ (c .before .before .before .before .expected-start .ensures) (c .before .before .before .if3 .left) (c .before .before .if4 .left) (omega arith)
+returns-5 c =
+    let word-start = c .before .before .before .before .before .before .before .before .word-start in
+    let word-length = c .before .before .before .before .before .before .before .word-length in
+    let if1 = c .before .before .before .before .before .before .if1 in
+    let if2 = c .before .before .before .before .before .if2 in
+    let expected-start = c .before .before .before .before .expected-start in
+    leaf-inner _ _ _ _ _ (word-start .ensures .0) (word-length .ensures .0) (if1 .left) (if2 .left) _ (expected-start .ensures) (c .before .before .before .if3 .left) (c .before .before .if4 .left)
+    (omega arith)
 
 add-result : tie.Need-add-result
 add-result c = search needs
 
 returns-6 : tie.Need-returns-6
-returns-6 c = leaf-last _ _ _ _ _ (c .before .before .before .before .before .before .before .before .word-start .ensures .0) (c .before .before .before .before .before .before .before .word-length .ensures .0) (c .before .before .before .before .before .before .if1 .left) (c .before .before .before .before .before .if2 .left) _ (c .before .before .before .before .expected-start .ensures) (c .before .before .before .if3 .left) (c .before .before .if4 .left) (omega arith)
+returns-6 c =
+    let word-start = c .before .before .before .before .before .before .before .before .word-start in
+    let word-length = c .before .before .before .before .before .before .before .word-length in
+    let if1 = c .before .before .before .before .before .before .if1 in
+    let if2 = c .before .before .before .before .before .if2 in
+    let expected-start = c .before .before .before .before .expected-start in
+    leaf-last _ _ _ _ _ (word-start .ensures .0) (word-length .ensures .0) (if1 .left) (if2 .left) _ (expected-start .ensures) (c .before .before .before .if3 .left) (c .before .before .if4 .left)
+    (omega arith)
 
 pub leaf-allowed-spec : {M : Type 1} → statement M
 leaf-allowed-spec =

@@ -1,3 +1,4 @@
+-- The leaves passed keep rule 9.
 use mathlib.Core.Path.{_≡_, sym, _∙_}
 use Prim.Native.Nat.{_-_}
 use native.Mathlib.Omega.{arith}

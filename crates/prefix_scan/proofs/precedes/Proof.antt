@@ -1,3 +1,4 @@
+-- The comparison of the two words as they are read from their places.
 use mathlib.Core.Path.{_∙_, ap₂}
 use Prim.Native.Nat.{min}
 use borrow.Author.Needs.{needs}
@@ -30,7 +31,12 @@ lower-requires : tie.Need-lower-requires
 lower-requires c κs = search needs
 
 returns : tie.Need-returns
-returns c = c .lower .ensures ∙ words-read (c .before .before .before .before .before .before .before .before .args .leaves .now) (c .before .before .before .before .before .before .before .before .args .words .now) _ _ _ _ _ (c .before .before .before .before .before .word-start .ensures .0) (c .before .before .before .before .word-start2 .ensures .0) (c .before .least .ensures ∙ ap₂ min (c .before .before .before .word-length .ensures .0) (c .before .before .word-length2 .ensures .0))
+returns c =
+    let a = c .before .before .before .before .before .before .before .before .args in
+    let word-start = c .before .before .before .before .before .word-start in
+    let word-start2 = c .before .before .before .before .word-start2 in
+    c .lower .ensures ∙ words-read (a .leaves .now) (a .words .now) _ _ _ _ _ (word-start .ensures .0) (word-start2 .ensures .0)
+    (c .before .least .ensures ∙ ap₂ min (c .before .before .before .word-length .ensures .0) (c .before .before .word-length2 .ensures .0))
 
 pub precedes-spec : {M : Type 1} → statement M
 precedes-spec =

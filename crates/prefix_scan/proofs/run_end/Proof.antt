@@ -1,3 +1,4 @@
+-- The leaves passed have the digit.
 use mathlib.Core.Path.{_≡_, refl, sym, _∙_}
 use Prim.Native.Nat.{_-_, _≤_}
 use lib.Dec.{eqb}
@@ -34,7 +35,12 @@ wide-requires c κs = search needs
 
 returns : tie.Need-returns Inv-loop μ-loop
 unfolding runEnd
-returns c = sym (scan-here _ _ (c .before .before .before .before .before .before .before .before .args .high) (c .before .before .before .before .loop-test .taken) (ne-eqb _ _ (λ q. c .if1 .taken (c .before .wide .ensures .0 ∙ digit-read (c .before .before .before .before .before .before .before .before .args .leaves .now) (c .before .before .before .before .before .before .before .before .args .words .now) (c .before .before .before .before .before .loop .leaf) (c .before .before .before .before .before .before .before .before .args .place) _ _ (c .before .before .before .word-start .ensures .0) (c .before .before .byte-at .ensures) ∙ q)))) ∙ c .before .before .before .before .before .loop .inv .1
+returns c =
+    let a = c .before .before .before .before .before .before .before .before .args in
+    let loop = c .before .before .before .before .before .loop in
+    let loop-test = c .before .before .before .before .loop-test in
+    let read = c .before .wide .ensures .0 ∙ digit-read (a .leaves .now) (a .words .now) (loop .leaf) (a .place) _ _ (c .before .before .before .word-start .ensures .0) (c .before .before .byte-at .ensures) in
+    sym (scan-here _ _ (a .high) (loop-test .taken) (ne-eqb _ _ (λ q. c .if1 .taken (read ∙ q)))) ∙ loop .inv .1
 
 add-leaf : tie.Need-add-leaf Inv-loop μ-loop
 add-leaf c = search needs
@@ -43,7 +49,12 @@ loop-less : tie.Need-loop-less Inv-loop μ-loop
 loop-less c = search needs
 
 loop-again : tie.Need-loop-again Inv-loop μ-loop
-loop-again c = (search needs, sym (scan-on _ _ (c .before .before .before .before .before .before .before .before .args .high) (c .before .before .before .before .loop-test .taken) (eq-eqb _ _ (sym (c .before .wide .ensures .0 ∙ digit-read (c .before .before .before .before .before .before .before .before .args .leaves .now) (c .before .before .before .before .before .before .before .before .args .words .now) (c .before .before .before .before .before .loop .leaf) (c .before .before .before .before .before .before .before .before .args .place) _ _ (c .before .before .before .word-start .ensures .0) (c .before .before .byte-at .ensures)) ∙ c .if1 .left))) ∙ c .before .before .before .before .before .loop .inv .1)
+loop-again c =
+    let a = c .before .before .before .before .before .before .before .before .args in
+    let loop = c .before .before .before .before .before .loop in
+    let loop-test = c .before .before .before .before .loop-test in
+    let read = c .before .wide .ensures .0 ∙ digit-read (a .leaves .now) (a .words .now) (loop .leaf) (a .place) _ _ (c .before .before .before .word-start .ensures .0) (c .before .before .byte-at .ensures) in
+    (search needs, sym (scan-on _ _ (a .high) (loop-test .taken) (eq-eqb _ _ (sym read ∙ c .if1 .left))) ∙ loop .inv .1)
 
 returns-2 : tie.Need-returns-2 Inv-loop μ-loop
 unfolding runEnd

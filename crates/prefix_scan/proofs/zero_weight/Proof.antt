@@ -1,3 +1,4 @@
+-- The weight of leaf 0 is compared with zero.
 use mathlib.Core.List.{List}
 use mathlib.Core.Path.{sym, ap, _∙_}
 use lib.IntN.{ℤ}

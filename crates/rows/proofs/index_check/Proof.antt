@@ -1,3 +1,4 @@
+-- Where the highest byte is below the count all are; else the first that is not is looked for.
 use lib.ListN.{length, getD}
 use Rattle.row_rules.specs.Check.{indexAllowed, indexCheck}
 use Rattle.faults.proofs.Check.{judge-broken, judge-kept}
@@ -20,8 +21,10 @@ cast-if1 c = search needs
 returns : tie.Need-returns
 unfolding indexCheck indexAllowed
 returns c =
-    let row = c .before .before .before .args .row .now in
-    sym (judge-kept _ (λ k. k) (indexAllowed (c .before .before .before .args .digits) row) (length row) (length row) (sym (scan-all (indexAllowed (c .before .before .before .args .digits) row) 0 (length row) (λ j _ h. lt-ltb (getD row j 0) (c .before .before .before .args .digits) (omega (arith, c .before .highest .ensures j (omega arith), c .if1 .taken))) ∙ zero-add (length row))) (omega arith))
+    let a = c .before .before .before .args in
+    let row = a .row .now in
+    let all = scan-all (indexAllowed (a .digits) row) 0 (length row) (λ j _ h. lt-ltb (getD row j 0) (a .digits) (omega (arith, c .before .highest .ensures j (omega arith), c .if1 .taken))) in
+    sym (judge-kept _ (λ k. k) (indexAllowed (a .digits) row) (length row) (length row) (sym (all ∙ zero-add (length row))) (omega arith))
 
 first-outside-requires : tie.Need-first-outside-requires
 first-outside-requires c κs = search needs

@@ -1,3 +1,4 @@
+-- A test of one thing is a scan over one place.
 use mathlib.Core.Path.{sym}
 use Rattle.faults.proofs.Check.{once-broken, once-kept}
 use Rattle.rows.proofs.judge_one.Statement.{statement}

@@ -1,3 +1,4 @@
+-- More than 256 is no; else the two lengths are compared.
 use Rattle.row_rules.proofs.Allowed.{over, not-over}
 use Rattle.rows.proofs.lengths_allowed.Statement.{statement}
 use Rattle.rows.proofs.lengths_allowed.Tie as tie

@@ -43,7 +43,14 @@ judge-one-requires-2 c κs = search needs
 
 returns-4 : tie.Need-returns-4
 unfolding rowCheck
-returns-4 c = found-next _ _ _ _ (by-length (c .before .before .before .before .before .before .before .before .before .before)) (c .before .before .before .before .before .before .before .before .if1 .left) (found-next _ _ _ _ (c .before .before .before .before .before .before .before .index-check .ensures) (c .before .before .before .before .before .if2 .left) (found-next _ _ _ _ (c .before .before .before .before .index-check2 .ensures) (c .before .before .if3 .left) (c .judge-one2 .ensures ∙ ap (judgeOne 23) (c .before .has-room .ensures))))
+returns-4 c =
+    let if1 = c .before .before .before .before .before .before .before .before .if1 in
+    let index-check = c .before .before .before .before .before .before .before .index-check in
+    let if2 = c .before .before .before .before .before .if2 in
+    let index-check2 = c .before .before .before .before .index-check2 in
+    found-next _ _ _ _ (by-length (c .before .before .before .before .before .before .before .before .before .before)) (if1 .left)
+    (found-next _ _ _ _ (index-check .ensures) (if2 .left)
+    (found-next _ _ _ _ (index-check2 .ensures) (c .before .before .if3 .left) (c .judge-one2 .ensures ∙ ap (judgeOne 23) (c .before .has-room .ensures))))
 
 pub row-check-spec : {M : Type 1} → statement M
 row-check-spec =

@@ -1,3 +1,4 @@
+-- Digits below ten and from ten on are apart.
 use mathlib.Core.Path.{sym}
 use Rattle.text.proofs.Hex.{hex-low, hex-high}
 use borrow.Author.Needs.{needs}

@@ -49,7 +49,16 @@ loop-less : tie.Need-loop-less Inv-loop μ-loop
 loop-less c = omega arith
 
 loop-again : tie.Need-loop-again Inv-loop μ-loop
-loop-again c = (omega arith, omega arith, hex-step (c .before .before .before .before .before .before .before .args .out .now) (c .before .before .before .before .loop .out) (c .before .before .before .before .before .before .before .args .bytes .now) (c .before .before .before .before .before .before .before .args .at) (c .before .before .before .before .loop .end) (c .before .before .before .before .loop .i) _ _ (c .before .before .before .before .before .before .before .pre) (c .before .before .before .loop-test .taken) (c .before .before .before .before .loop .inv .1) (c .before .before .before .before .loop .inv .2) (c .before .hex-byte .ensures) (c .hex-byte2 .ensures), simp length-set (c .before .before .before .before .loop .inv .3))
+loop-again c =
+    let a = c .before .before .before .before .before .before .before .args in
+    let pre = c .before .before .before .before .before .before .before .pre in
+    let loop = c .before .before .before .before .loop in (
+      omega arith,
+      omega arith,
+      hex-step (a .out .now) (loop .out) (a .bytes .now) (a .at) (loop .end) (loop .i) _ _ pre (c .before .before .before .loop-test .taken) (loop .inv .1) (loop .inv .2) (c .before .hex-byte .ensures)
+          (c .hex-byte2 .ensures),
+      simp length-set (loop .inv .3),
+    )
 
 same-length : tie.Need-same-length Inv-loop μ-loop
 same-length c = c .before .loop .inv .3

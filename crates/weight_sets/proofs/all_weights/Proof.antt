@@ -1,3 +1,4 @@
+-- The numbers passed are in the set.
 use Rattle.weight_sets.proofs.Bits.{has-left, has-right, has-single}
 use borrow.Author.Count.{below-more}
 use mathlib.Core.Path.{sym, subst}

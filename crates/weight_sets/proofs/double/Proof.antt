@@ -1,3 +1,4 @@
+-- The sets passed have the weights of twice as many neighbours; the others are as they were.
 use Rattle.weight_sets.proofs.Weights.{double-next, double-end, same-next}
 use mathlib.Core.Path.{_≡_, refl, _∙_}
 use Prim.Native.Nat.{ℕ, _+_, _-_, _<_, _≤_}
@@ -49,7 +50,16 @@ loop-less : tie.Need-loop-less Inv-loop μ-loop
 loop-less c = omega arith
 
 loop-again : tie.Need-loop-again Inv-loop μ-loop
-loop-again c = (omega arith, length-set (c .before .before .before .loop .sets) _ _ ∙ c .before .before .before .loop .inv .1, λ numbers covers. double-next numbers (c .before .before .before .before .args .count) (c .before .before .before .before .args .sets .now) (c .before .before .before .loop .sets) (c .before .before .before .before .args .step) (c .before .before .before .loop .leaf) covers (c .before .before .before .loop .inv .3) (omega (arith, c .before .before .before .loop .inv .1)) (c .before .before .before .loop .inv .2 numbers covers), same-next (c .before .before .before .before .args .sets .now) (c .before .before .before .before .args .count) (c .before .before .before .before .args .sets .now) (c .before .before .before .loop .sets) (c .before .before .before .loop .leaf) _ (c .before .before .before .loop .inv .3))
+loop-again c =
+    let a = c .before .before .before .before .args in
+    let sets = a .sets .now in
+    let count = a .count in
+    let loop = c .before .before .before .loop in (
+      omega arith,
+      length-set (loop .sets) _ _ ∙ loop .inv .1,
+      λ numbers covers. double-next numbers count sets (loop .sets) (a .step) (loop .leaf) covers (loop .inv .3) (omega (arith, loop .inv .1)) (loop .inv .2 numbers covers),
+      same-next sets count sets (loop .sets) (loop .leaf) _ (loop .inv .3),
+    )
 
 same-length : tie.Need-same-length Inv-loop μ-loop
 same-length c = omega arith

@@ -1,3 +1,4 @@
+-- Sets of one leaf, doubled three times, are sets of eight.
 use Prim.Native.Nat.{_-_}
 use lib.ListN.{length}
 use borrow.Author.Needs.{needs}
@@ -21,7 +22,13 @@ same-length : tie.Need-same-length
 same-length c = search needs
 
 returns : tie.Need-returns
-returns c = c .before .before .double3 .ensures (c .before .before .before .before .before .before .before .before .before .before .before .before .before .before .before .before .before .before .args .numbers .now) (c .before .before .before .before .before .before .double2 .ensures (c .before .before .before .before .before .before .before .before .before .before .before .before .before .before .before .before .before .before .args .numbers .now) (c .before .before .before .before .before .before .before .before .before .before .double .ensures (c .before .before .before .before .before .before .before .before .before .before .before .before .before .before .before .before .before .before .args .numbers .now) (c .before .before .before .before .before .before .before .before .before .before .before .before .before .before .singles .ensures)))
+returns c =
+    let a = c .before .before .before .before .before .before .before .before .before .before .before .before .before .before .before .before .before .before .args in
+    let numbers = a .numbers .now in
+    let singles = c .before .before .before .before .before .before .before .before .before .before .before .before .before .before .singles in
+    let double = c .before .before .before .before .before .before .before .before .before .before .double in
+    let double2 = c .before .before .before .before .before .before .double2 in
+    c .before .before .double3 .ensures numbers (double2 .ensures numbers (double .ensures numbers (singles .ensures)))
 
 pub eights-spec : {M : Type 1} → statement M
 eights-spec =

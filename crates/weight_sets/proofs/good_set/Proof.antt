@@ -1,3 +1,4 @@
+-- Each weight in the set gives an alphabet digit with the part.
 use Rattle.weight_sets.proofs.Bits.{has-none}
 use Rattle.weight_sets.proofs.Weights.{good-next}
 use Prim.Native.Nat.{_-_}
@@ -36,7 +37,11 @@ loop-less : tie.Need-loop-less Inv-loop μ-loop
 loop-less c = omega arith
 
 loop-again : tie.Need-loop-again Inv-loop μ-loop
-loop-again c = good-next (c .before .before .before .before .before .before .before .before .args .alphabet .now) (c .before .before .before .before .before .before .before .before .args .leaves .now) (c .before .before .before .before .before .before .before .before .args .first .now) (c .before .before .before .before .before .before .before .before .args .part) (c .before .before .before .before .loop .good) (c .single-if .result) (c .before .before .before .before .loop .number) (c .before .gives-digit .result) (c .before .gives-digit .ensures) (c .single-if .ensures) (c .before .before .before .before .loop .inv)
+loop-again c =
+    let a = c .before .before .before .before .before .before .before .before .args in
+    let loop = c .before .before .before .before .loop in
+    good-next (a .alphabet .now) (a .leaves .now) (a .first .now) (a .part) (loop .good) (c .single-if .result) (loop .number) (c .before .gives-digit .result) (c .before .gives-digit .ensures)
+    (c .single-if .ensures) (loop .inv)
 
 returns : tie.Need-returns Inv-loop μ-loop
 returns c = c .before .loop .inv

@@ -1,3 +1,4 @@
+-- What is kept was judged for the same first digit and weight, so for the same part; else it is judged now and kept.
 use Rattle.leaf_rules.specs.Leaf.{wordGiven}
 use Rattle.weight_sets.proofs.Weights.{judged-next}
 use Rattle.weight_sets.specs.Weights.{Good}
@@ -37,7 +38,20 @@ element-copy-out-result : tie.Need-element-copy-out-result
 element-copy-out-result c = search needs
 
 returns : tie.Need-returns
-returns c = (subst (λ w. Good (c .before .before .before .before .before .before .before .before .before .before .before .args .alphabet .now) (c .before .before .before .before .before .before .before .before .before .before .before .args .leaves .now) (c .before .before .before .before .before .before .before .before .before .before .before .args .first .now) (minus (recordAt (c .before .before .before .before .before .before .before .before .before .before .before .args .inputs .now) (getD (wordGiven (c .before .before .before .before .before .before .before .before .before .before .before .args .leaves .now) (c .before .before .before .before .before .before .before .before .before .before .before .args .words .now) (c .before .before .before .before .before .before .before .before .before .before .before .args .upper)) 0 0)) (times (c .before .before .before .before .before .before .before .before .before .before .before .args .base) w)) (getD (c .before .before .before .before .before .before .before .before .before .before .before .args .good .now) (c .before .before .before .before .before .before .before .before .before .before .before .args .number) 0)) (c .before .before .before .before .before .before .before .before .before .before .before .pre .6) (c .before .before .before .before .before .before .before .before .before .before .before .pre .7 (c .before .before .before .before .before .before .before .before .before .before .before .args .number) (getD (wordGiven (c .before .before .before .before .before .before .before .before .before .before .before .args .leaves .now) (c .before .before .before .before .before .before .before .before .before .before .before .args .words .now) (c .before .before .before .before .before .before .before .before .before .before .before .args .upper)) 0 0) (c .before .if1 .taken ∙ ap (λ (x : ℕ). x + 1) (c .before .before .before .wide .ensures .0 ∙ c .before .before .before .before .byte-at .ensures ∙ ap (λ w. getD w 0 0) (c .before .before .before .before .before .word .ensures)))), c .before .before .before .before .before .before .before .before .before .before .before .pre .7)
+returns c =
+    let a = c .before .before .before .before .before .before .before .before .before .before .before .args in
+    let leaves = a .leaves .now in
+    let words = a .words .now in
+    let number = a .number in
+    let upper = a .upper in
+    let pre = c .before .before .before .before .before .before .before .before .before .before .before .pre in
+    let word = c .before .before .before .before .before .word in
+    let byte-at = c .before .before .before .before .byte-at in (
+      subst (λ w. Good (a .alphabet .now) leaves (a .first .now) (minus (recordAt (a .inputs .now) (getD (wordGiven leaves words upper) 0 0)) (times (a .base) w)) (getD (a .good .now) number 0)) (pre .1 .0 .3)
+          (pre .1 .1 number (getD (wordGiven leaves words upper) 0 0)
+          (c .before .if1 .taken ∙ ap (λ (x : ℕ). x + 1) (c .before .before .before .wide .ensures .0 ∙ byte-at .ensures ∙ ap (λ w. getD w 0 0) (word .ensures)))),
+      pre .1 .1,
+    )
 
 upper-part-requires : tie.Need-upper-part-requires
 upper-part-requires c κs = search needs
@@ -58,7 +72,24 @@ element-write-made : tie.Need-element-write-made
 element-write-made c = search needs
 
 returns-2 : tie.Need-returns-2
-returns-2 c = (subst (λ p. Good (c .before .before .before .before .before .before .before .before .before .before .before .before .args .alphabet .now) (c .before .before .before .before .before .before .before .before .before .before .before .before .args .leaves .now) (c .before .before .before .before .before .before .before .before .before .before .before .before .args .first .now) p (c .good-set .result)) (c .before .upper-part .ensures .0) (c .good-set .ensures), judged-next (c .before .before .before .before .before .before .before .before .before .before .before .before .args .base) (c .before .before .before .before .before .before .before .before .before .before .before .before .args .alphabet .now) (c .before .before .before .before .before .before .before .before .before .before .before .before .args .inputs .now) (c .before .before .before .before .before .before .before .before .before .before .before .before .args .leaves .now) (c .before .before .before .before .before .before .before .before .before .before .before .before .args .first .now) (c .before .before .before .before .before .before .before .before .before .before .before .before .args .made .now) (c .before .before .before .before .before .before .before .before .before .before .before .before .args .good .now) (c .before .before .before .before .before .before .before .before .before .before .before .before .args .number) (c .before .before .before .before .wide .result) (c .good-set .result) (subst (λ p. Good (c .before .before .before .before .before .before .before .before .before .before .before .before .args .alphabet .now) (c .before .before .before .before .before .before .before .before .before .before .before .before .args .leaves .now) (c .before .before .before .before .before .before .before .before .before .before .before .before .args .first .now) p (c .good-set .result)) (c .before .upper-part .ensures .0 ∙ (λ i. minus (recordAt (c .before .before .before .before .before .before .before .before .before .before .before .before .args .inputs .now) (sym (c .before .before .before .before .wide .ensures .0 ∙ c .before .before .before .before .before .byte-at .ensures ∙ ap (λ w. getD w 0 0) (c .before .before .before .before .before .before .word .ensures)) i)) (times (c .before .before .before .before .before .before .before .before .before .before .before .before .args .base) (sym (c .before .before .before .before .before .before .before .before .before .before .before .before .pre .6) i)))) (c .good-set .ensures)) (c .before .before .before .before .before .before .before .before .before .before .before .before .pre .7))
+returns-2 c =
+    let a = c .before .before .before .before .before .before .before .before .before .before .before .before .args in
+    let alphabet = a .alphabet .now in
+    let leaves = a .leaves .now in
+    let inputs = a .inputs .now in
+    let first = a .first .now in
+    let base = a .base in
+    let pre = c .before .before .before .before .before .before .before .before .before .before .before .before .pre in
+    let word = c .before .before .before .before .before .before .word in
+    let byte-at = c .before .before .before .before .before .byte-at in
+    let wide = c .before .before .before .before .wide in (
+      subst (λ p. Good alphabet leaves first p (c .good-set .result)) (c .before .upper-part .ensures .0) (c .good-set .ensures),
+      judged-next base alphabet inputs leaves first (a .made .now) (a .good .now) (a .number) (wide .result) (c .good-set .result)
+          (subst (λ p. Good alphabet leaves first p (c .good-set .result))
+          (c .before .upper-part .ensures .0 ∙ (λ i. minus (recordAt inputs (sym (wide .ensures .0 ∙ byte-at .ensures ∙ ap (λ w. getD w 0 0) (word .ensures)) i)) (times base (sym (pre .1 .0 .3) i))))
+          (c .good-set .ensures))
+          (pre .1 .1),
+    )
 
 pub judged-spec : {M : Type 1} → statement M
 judged-spec =

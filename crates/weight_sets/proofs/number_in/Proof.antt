@@ -1,3 +1,4 @@
+-- A number below the count is told only where its leaf was found to have the same weight.
 use Rattle.ring.proofs.Element.{same→≡}
 use mathlib.Core.Path.{_≡_, sym, _∙_}
 use Prim.Native.Nat.{_-_}

@@ -1,3 +1,4 @@
+-- The leaves passed have the number of a leaf with their weight.
 use Rattle.weight_sets.proofs.Weights.{numbered-old, numbered-new}
 use mathlib.Core.Logic.{⊎-elim}
 use lib.Dec.{lit≤}
@@ -78,7 +79,28 @@ loop-less : tie.Need-loop-less Inv-loop μ-loop
 loop-less c = omega arith
 
 loop-again : tie.Need-loop-again Inv-loop μ-loop
-loop-again c = (length-set (c .before .before .before .before .before .before .before .before .loop .numbers) _ _ ∙ c .before .before .before .before .before .before .before .before .loop .inv .0, ⊎-elim (λ w. ap length (w .1) ∙ length-set (c .before .before .before .before .before .before .before .before .loop .first) _ _ ∙ c .before .before .before .before .before .before .before .before .loop .inv .1) (λ w. ap length (w .1) ∙ c .before .before .before .before .before .before .before .before .loop .inv .1) (c .if2 .came), ⊎-elim (λ w. omega (arith, w .3, w .0 .taken, c .before .before .before .before .before .before .before .before .loop .inv .2, c .before .if1 .left)) (λ w. omega (arith, w .3, c .before .before .before .before .before .before .before .before .loop .inv .2)) (c .if2 .came), ⊎-elim (λ w. subst (λ f. WeightsNumbered (c .before .before .before .before .before .before .before .before .before .before .before .before .before .args .leaves .now) (set (c .before .before .before .before .before .before .before .before .loop .numbers) (c .before .before .before .before .before .before .before .before .loop .leaf) (c .before .before .number-in .result)) f (c .if2 .count) (c .before .before .before .before .before .before .before .before .loop .leaf + 1)) (sym (w .1)) (subst (λ (n : ℕ). WeightsNumbered (c .before .before .before .before .before .before .before .before .before .before .before .before .before .args .leaves .now) (set (c .before .before .before .before .before .before .before .before .loop .numbers) (c .before .before .before .before .before .before .before .before .loop .leaf) (c .before .before .number-in .result)) (set (c .before .before .before .before .before .before .before .before .loop .first) (c .before .before .number-in .result) (c .before .before .before .before .before .before .before .before .loop .leaf)) n (c .before .before .before .before .before .before .before .before .loop .leaf + 1)) (sym (w .3)) (subst (λ (n : ℕ). WeightsNumbered (c .before .before .before .before .before .before .before .before .before .before .before .before .before .args .leaves .now) (set (c .before .before .before .before .before .before .before .before .loop .numbers) (c .before .before .before .before .before .before .before .before .loop .leaf) n) (set (c .before .before .before .before .before .before .before .before .loop .first) n (c .before .before .before .before .before .before .before .before .loop .leaf)) (c .before .before .before .before .before .before .before .before .loop .count + 1) (c .before .before .before .before .before .before .before .before .loop .leaf + 1)) (sym (w .0 .taken)) (numbered-new (c .before .before .before .before .before .before .before .before .before .before .before .before .before .args .leaves .now) (c .before .before .before .before .before .before .before .before .loop .numbers) (c .before .before .before .before .before .before .before .before .loop .first) (c .before .before .before .before .before .before .before .before .loop .count) (c .before .before .before .before .before .before .before .before .loop .leaf) (c .before .before .before .before .before .before .before .before .loop .inv .3) (omega (arith, c .before .before .before .before .before .before .before .before .before .leaf-count .ensures, c .before .before .before .before .before .before .before .before .loop .inv .0)) (omega (arith, c .before .before .before .before .before .before .before .before .loop .inv .1, w .0 .taken, c .before .if1 .left)))))) (λ w. subst (λ f. WeightsNumbered (c .before .before .before .before .before .before .before .before .before .before .before .before .before .args .leaves .now) (set (c .before .before .before .before .before .before .before .before .loop .numbers) (c .before .before .before .before .before .before .before .before .loop .leaf) (c .before .before .number-in .result)) f (c .if2 .count) (c .before .before .before .before .before .before .before .before .loop .leaf + 1)) (sym (w .1)) (subst (λ (n : ℕ). WeightsNumbered (c .before .before .before .before .before .before .before .before .before .before .before .before .before .args .leaves .now) (set (c .before .before .before .before .before .before .before .before .loop .numbers) (c .before .before .before .before .before .before .before .before .loop .leaf) (c .before .before .number-in .result)) (c .before .before .before .before .before .before .before .before .loop .first) n (c .before .before .before .before .before .before .before .before .loop .leaf + 1)) (sym (w .3)) (numbered-old (c .before .before .before .before .before .before .before .before .before .before .before .before .before .args .leaves .now) (c .before .before .before .before .before .before .before .before .loop .numbers) (c .before .before .before .before .before .before .before .before .loop .first) (c .before .before .before .before .before .before .before .before .loop .count) (c .before .before .before .before .before .before .before .before .loop .leaf) (c .before .before .before .before .before .before .before .before .loop .inv .3) (omega (arith, c .before .before .before .before .before .before .before .before .before .leaf-count .ensures, c .before .before .before .before .before .before .before .before .loop .inv .0)) (c .before .before .number-in .result) (omega (arith, w .0 .left, c .before .before .number-in .ensures .0 (omega (arith, c .before .if1 .left)))) (c .before .before .number-in .ensures .1 (omega (arith, w .0 .left, c .before .before .number-in .ensures .0 (omega (arith, c .before .if1 .left)))))))) (c .if2 .came))
+loop-again c =
+    let a = c .before .before .before .before .before .before .before .before .before .before .before .before .before .args in
+    let leaves = a .leaves .now in
+    let leaf-count = c .before .before .before .before .before .before .before .before .before .leaf-count in
+    let loop = c .before .before .before .before .before .before .before .before .loop in
+    let number-in = c .before .before .number-in in (
+      length-set (loop .numbers) _ _ ∙ loop .inv .0,
+      ⊎-elim (λ w. ap length (w .1) ∙ length-set (loop .first) _ _ ∙ loop .inv .1) (λ w. ap length (w .1) ∙ loop .inv .1) (c .if2 .came),
+      ⊎-elim (λ w. omega (arith, w .3, w .0 .taken, loop .inv .2, c .before .if1 .left)) (λ w. omega (arith, w .3, loop .inv .2)) (c .if2 .came),
+      ⊎-elim
+          (λ w. subst (λ f. WeightsNumbered leaves (set (loop .numbers) (loop .leaf) (number-in .result)) f (c .if2 .count) (loop .leaf + 1)) (sym (w .1))
+          (subst (λ (n : ℕ). WeightsNumbered leaves (set (loop .numbers) (loop .leaf) (number-in .result)) (set (loop .first) (number-in .result) (loop .leaf)) n (loop .leaf + 1)) (sym (w .3))
+          (subst (λ (n : ℕ). WeightsNumbered leaves (set (loop .numbers) (loop .leaf) n) (set (loop .first) n (loop .leaf)) (loop .count + 1) (loop .leaf + 1)) (sym (w .0 .taken))
+          (numbered-new leaves (loop .numbers) (loop .first) (loop .count) (loop .leaf) (loop .inv .3) (omega (arith, leaf-count .ensures, loop .inv .0))
+          (omega (arith, loop .inv .1, w .0 .taken, c .before .if1 .left))))))
+          (λ w. subst (λ f. WeightsNumbered leaves (set (loop .numbers) (loop .leaf) (number-in .result)) f (c .if2 .count) (loop .leaf + 1)) (sym (w .1))
+          (subst (λ (n : ℕ). WeightsNumbered leaves (set (loop .numbers) (loop .leaf) (number-in .result)) (loop .first) n (loop .leaf + 1)) (sym (w .3))
+          (numbered-old leaves (loop .numbers) (loop .first) (loop .count) (loop .leaf) (loop .inv .3) (omega (arith, leaf-count .ensures, loop .inv .0)) (number-in .result)
+          (omega (arith, w .0 .left, number-in .ensures .0 (omega (arith, c .before .if1 .left))))
+          (number-in .ensures .1 (omega (arith, w .0 .left, number-in .ensures .0 (omega (arith, c .before .if1 .left))))))))
+          (c .if2 .came),
+    )
 
 same-length-3 : tie.Need-same-length-3 Inv-loop μ-loop
 same-length-3 c = omega arith

@@ -1,3 +1,4 @@
+-- A shifted one is the power of two, which fits 64 bits.
 use lib.Pow.{pow-lt}
 use native.Mathlib.Nat.{one-mul, mod-eq-of-lt}
 use mathlib.Core.Path.{ap, _∙_}

@@ -1,3 +1,4 @@
+-- What the set has is the number, and only where the test says so.
 use Rattle.weight_sets.specs.Bits.{Has}
 use Rattle.weight_sets.proofs.Bits.{single-has, has-none}
 use mathlib.Core.Path.{subst}

@@ -1,3 +1,4 @@
+-- The sets passed have their leaf's weight.
 use Rattle.weight_sets.proofs.Bits.{has-single}
 use Rattle.weight_sets.proofs.Weights.{entry-next}
 use mathlib.Core.Path.{_≡_, refl, sym, ap, subst, _∙_}
@@ -25,7 +26,7 @@ wide-requires : tie.Need-wide-requires Inv-loop μ-loop
 wide-requires c κs = search needs
 
 single-requires : tie.Need-single-requires Inv-loop μ-loop
-single-requires c κs = omega (arith, c .wide .ensures .0, c .before .before .before .before .before .before .pre .2 (c .before .before .before .loop .leaf) (c .before .before .loop-test .taken))
+single-requires c κs = omega (arith, c .wide .ensures .0, c .before .before .before .before .before .before .pre .1 (c .before .before .before .loop .leaf) (c .before .before .loop-test .taken))
 
 mul-sets : tie.Need-mul-sets Inv-loop μ-loop
 mul-sets c = omega arith
@@ -40,7 +41,14 @@ loop-less : tie.Need-loop-less Inv-loop μ-loop
 loop-less c = omega arith
 
 loop-again : tie.Need-loop-again Inv-loop μ-loop
-loop-again c = (length-set (c .before .before .before .before .loop .sets) _ _ ∙ c .before .before .before .before .loop .inv .0, entry-next (λ k x. Has x (getD (c .before .before .before .before .before .before .before .args .numbers .now) k 0)) (c .before .before .before .before .loop .sets) (c .before .before .before .before .loop .leaf) (c .single .result) (omega (arith, c .before .before .before .before .loop .inv .0)) (c .before .before .before .before .loop .inv .1) (subst (λ (x : ℕ). Has x (getD (c .before .before .before .before .before .before .before .args .numbers .now) (c .before .before .before .before .loop .leaf) 0)) (sym (c .single .ensures ∙ ap (λ (n : ℕ). 2 ^ n) (c .before .wide .ensures .0))) (has-single (getD (c .before .before .before .before .before .before .before .args .numbers .now) (c .before .before .before .before .loop .leaf) 0))))
+loop-again c =
+    let a = c .before .before .before .before .before .before .before .args in
+    let numbers = a .numbers .now in
+    let loop = c .before .before .before .before .loop in (
+      length-set (loop .sets) _ _ ∙ loop .inv .0,
+      entry-next (λ k x. Has x (getD numbers k 0)) (loop .sets) (loop .leaf) (c .single .result) (omega (arith, loop .inv .0)) (loop .inv .1)
+          (subst (λ (x : ℕ). Has x (getD numbers (loop .leaf) 0)) (sym (c .single .ensures ∙ ap (λ (n : ℕ). 2 ^ n) (c .before .wide .ensures .0))) (has-single (getD numbers (loop .leaf) 0))),
+    )
 
 same-length : tie.Need-same-length Inv-loop μ-loop
 same-length c = omega arith

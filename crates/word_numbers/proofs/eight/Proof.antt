@@ -1,3 +1,4 @@
+-- Two numbers of four bytes are one of eight.
 use native.Mathlib.Omega.{arith}
 use Rattle.word_numbers.proofs.Shift.{eight-bytes}
 use borrow.Author.Needs.{needs}

@@ -1,3 +1,4 @@
+-- The bytes passed are a number below the power of 256.
 use Prim.Native.Nat.{_*_, _+_}
 use native.Mathlib.Nat.{pow-zero}
 use Rattle.radix.proofs.Order.{number-zero}
@@ -49,7 +50,13 @@ loop-less c = omega arith
 
 -- src/lib.rt:39:5
 loop-again : tie.Need-loop-again Inv-loop μ-loop
-loop-again c = (omega arith, ap (λ (x : ℕ). c .before .before .before .loop .all * 256 + x) (c .wide .ensures .0) ∙ more-bytes (from (c .before .before .before .before .before .args .bytes .now) (c .before .before .before .before .before .args .at)) (c .before .before .before .loop .i) (c .before .before .before .loop .all) (c .before .before .before .loop .inv .1), more-small (c .before .before .before .loop .i) (c .before .before .before .loop .all) (c .wide .result) (c .before .before .before .loop .inv .2) (c .wide .ensures .1))
+loop-again c =
+    let a = c .before .before .before .before .before .args in
+    let loop = c .before .before .before .loop in (
+      omega arith,
+      ap (λ (x : ℕ). loop .all * 256 + x) (c .wide .ensures .0) ∙ more-bytes (from (a .bytes .now) (a .at)) (loop .i) (loop .all) (loop .inv .1),
+      more-small (loop .i) (loop .all) (c .wide .result) (loop .inv .2) (c .wide .ensures .1),
+    )
 
 -- src/lib.rt:33:1
 returns : tie.Need-returns Inv-loop μ-loop

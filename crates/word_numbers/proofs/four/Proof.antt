@@ -1,3 +1,4 @@
+-- Four bytes are a number in base 256, joined by shifts that lose nothing.
 use native.Mathlib.Omega.{arith}
 use Rattle.word_numbers.proofs.Shift.{four-bytes}
 use borrow.Author.Needs.{needs}
@@ -74,7 +75,14 @@ add-result-3 c = search needs
 
 -- src/lib.rt:17:1
 returns : tie.Need-returns
-returns c = (omega (arith, four-bytes (c .before .before .before .before .before .before .before .before .before .args .bytes .now) (c .before .before .before .before .before .before .before .before .before .args .at), c .before .before .before .before .before .before .wide .ensures, c .before .before .before .before .wide2 .ensures, c .before .before .wide3 .ensures, c .wide4 .ensures), omega (arith, c .before .before .before .before .before .before .wide .ensures, c .before .before .before .before .wide2 .ensures, c .before .before .wide3 .ensures, c .wide4 .ensures))
+returns c =
+    let a = c .before .before .before .before .before .before .before .before .before .args in
+    let wide = c .before .before .before .before .before .before .wide in
+    let wide2 = c .before .before .before .before .wide2 in
+    let wide3 = c .before .before .wide3 in (
+      omega (arith, four-bytes (a .bytes .now) (a .at), wide .ensures, wide2 .ensures, wide3 .ensures, c .wide4 .ensures),
+      omega (arith, wide .ensures, wide2 .ensures, wide3 .ensures, c .wide4 .ensures),
+    )
 
 pub four-spec : {M : Type 1} → statement M
 four-spec =

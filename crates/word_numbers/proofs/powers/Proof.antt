@@ -1,3 +1,4 @@
+-- The entries passed are powers of the base.
 use Rattle.word_numbers.proofs.Filled.{Filled, filled-first, filled-next, filled-small}
 use native.Mathlib.Omega.{arith}
 use Prim.Native.Nat.{_-_}

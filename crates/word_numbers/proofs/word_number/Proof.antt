@@ -1,3 +1,4 @@
+-- The shift puts zeros behind the word, and takes what is in front of it out.
 use mathlib.Core.Path.{ap, _∙_}
 use Prim.Native.Nat.{ℕ, _*_, _-_, _^_, _%_}
 use native.Mathlib.Omega.{arith}

@@ -1,3 +1,4 @@
+-- The mask takes what stands behind the word out; where there are few bytes they are multiplied.
 use native.Mathlib.Nat.{one-le-pow}
 use Prim.Native.Nat.{_-_}
 use native.Mathlib.Omega.{arith}

@@ -68,22 +68,37 @@ returns-4 : tie.Need-returns-4
 returns-4 c = search needs
 
 array-share-prefix-table : tie.Need-array-share-prefix-table
-array-share-prefix-table c = omega (arith, ap valueOf (c .before .before .before .before .before .before .before .before .before .before .before .before .before .before .before .before .before .before .before .table-read .given .1), c .before .before .before .before .before .before .before .before .before .before .before .before .before .before .before .before .before .before .before .before .before .before .buffer .ensures, c .before .before .before .before .before .before .before .before .before .before .before .before .before .before .before .before .before .before .before .before .before .before .buffer .kept .0)
+array-share-prefix-table c =
+    let buffer = c .before .before .before .before .before .before .before .before .before .before .before .before .before .before .before .before .before .before .before .before .before .before .buffer in
+    let table-read = c .before .before .before .before .before .before .before .before .before .before .before .before .before .before .before .before .before .before .before .table-read in
+    omega (arith, ap valueOf (table-read .given .1), buffer .ensures, buffer .kept .0)
 
 slice-aggregate-called : tie.Need-slice-aggregate-called
-slice-aggregate-called c = sym (length-take-le _ (c .before .before .before .before .before .before .before .before .before .before .before .before .before .before .before .before .before .before .before .before .before .before .before .buffer .last .0) (omega (arith, ap valueOf (c .before .before .before .before .before .before .before .before .before .before .before .before .before .before .before .before .before .before .before .before .table-read .given .1), c .before .before .before .before .before .before .before .before .before .before .before .before .before .before .before .before .before .before .before .before .before .before .before .buffer .ensures, c .before .before .before .before .before .before .before .before .before .before .before .before .before .before .before .before .before .before .before .before .before .before .before .buffer .kept .0)))
+slice-aggregate-called c =
+    let buffer = c .before .before .before .before .before .before .before .before .before .before .before .before .before .before .before .before .before .before .before .before .before .before .before .buffer in
+    let table-read = c .before .before .before .before .before .before .before .before .before .before .before .before .before .before .before .before .before .before .before .before .table-read in
+    sym (length-take-le _ (buffer .last .0) (omega (arith, ap valueOf (table-read .given .1), buffer .ensures, buffer .kept .0)))
 
 array-borrow-prefix-first : tie.Need-array-borrow-prefix-first
-array-borrow-prefix-first c = omega (arith, ap valueOf (c .before .before .before .before .before .before .before .before .before .before .before .before .before .before .first-read .given .1), c .before .before .before .before .before .before .before .before .before .before .before .before .before .before .before .before .before .buffer2 .ensures, c .before .before .before .before .before .before .before .before .before .before .before .before .before .before .before .before .before .buffer2 .kept .0)
+array-borrow-prefix-first c =
+    let buffer2 = c .before .before .before .before .before .before .before .before .before .before .before .before .before .before .before .before .before .buffer2 in
+    let first-read = c .before .before .before .before .before .before .before .before .before .before .before .before .before .before .first-read in
+    omega (arith, ap valueOf (first-read .given .1), buffer2 .ensures, buffer2 .kept .0)
 
 slice-aggregate-called-2 : tie.Need-slice-aggregate-called-2
-slice-aggregate-called-2 c = sym (length-take-le _ (c .before .before .before .before .before .before .before .before .before .before .before .before .before .before .before .before .before .before .buffer2 .last .0) (omega (arith, ap valueOf (c .before .before .before .before .before .before .before .before .before .before .before .before .before .before .before .first-read .given .1), c .before .before .before .before .before .before .before .before .before .before .before .before .before .before .before .before .before .before .buffer2 .ensures, c .before .before .before .before .before .before .before .before .before .before .before .before .before .before .before .before .before .before .buffer2 .kept .0)))
+slice-aggregate-called-2 c =
+    let buffer2 = c .before .before .before .before .before .before .before .before .before .before .before .before .before .before .before .before .before .before .buffer2 in
+    let first-read = c .before .before .before .before .before .before .before .before .before .before .before .before .before .before .before .first-read in
+    sym (length-take-le _ (buffer2 .last .0) (omega (arith, ap valueOf (first-read .given .1), buffer2 .ensures, buffer2 .kept .0)))
 
 array-borrow-prefix-second : tie.Need-array-borrow-prefix-second
 array-borrow-prefix-second c = omega (arith, ap valueOf (c .before .before .before .before .before .before .before .before .before .second-read .given .1), c .before .before .before .before .before .before .before .before .before .before .before .before .buffer3 .ensures, c .before .before .before .before .before .before .before .before .before .before .before .before .buffer3 .kept .0)
 
 slice-aggregate-called-3 : tie.Need-slice-aggregate-called-3
-slice-aggregate-called-3 c = sym (length-take-le _ (c .before .before .before .before .before .before .before .before .before .before .before .before .before .buffer3 .last .0) (omega (arith, ap valueOf (c .before .before .before .before .before .before .before .before .before .before .second-read .given .1), c .before .before .before .before .before .before .before .before .before .before .before .before .before .buffer3 .ensures, c .before .before .before .before .before .before .before .before .before .before .before .before .before .buffer3 .kept .0)))
+slice-aggregate-called-3 c =
+    let buffer3 = c .before .before .before .before .before .before .before .before .before .before .before .before .before .buffer3 in
+    let second-read = c .before .before .before .before .before .before .before .before .before .before .second-read in
+    sym (length-take-le _ (buffer3 .last .0) (omega (arith, ap valueOf (second-read .given .1), buffer3 .ensures, buffer3 .kept .0)))
 
 array-borrow-prefix-sum : tie.Need-array-borrow-prefix-sum
 array-borrow-prefix-sum c = omega (arith, ap valueOf (c .before .before .before .before .sum-read .given .1), c .before .before .before .before .before .before .before .buffer4 .ensures, c .before .before .before .before .before .before .before .buffer4 .kept .0)

@@ -41,7 +41,10 @@ array-share-prefix-table : tie.Need-array-share-prefix-table
 array-share-prefix-table c = omega (arith, ap valueOf (c .before .before .before .before .before .before .before .table-read .given .1), c .before .before .before .before .before .before .before .before .before .before .buffer .ensures, c .before .before .before .before .before .before .before .before .before .before .buffer .kept .0)
 
 slice-aggregate-value : tie.Need-slice-aggregate-value
-slice-aggregate-value c = sym (length-take-le _ (c .before .before .before .before .before .before .before .before .before .before .before .buffer .last .0) (omega (arith, ap valueOf (c .before .before .before .before .before .before .before .before .table-read .given .1), c .before .before .before .before .before .before .before .before .before .before .before .buffer .ensures, c .before .before .before .before .before .before .before .before .before .before .before .buffer .kept .0)))
+slice-aggregate-value c =
+    let buffer = c .before .before .before .before .before .before .before .before .before .before .before .buffer in
+    let table-read = c .before .before .before .before .before .before .before .before .table-read in
+    sym (length-take-le _ (buffer .last .0) (omega (arith, ap valueOf (table-read .given .1), buffer .ensures, buffer .kept .0)))
 
 array-share-prefix-row : tie.Need-array-share-prefix-row
 array-share-prefix-row c = omega (arith, ap valueOf (c .before .before .row-read .given .1), c .before .before .before .before .before .buffer2 .ensures, c .before .before .before .before .before .buffer2 .kept .0)

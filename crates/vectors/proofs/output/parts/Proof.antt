@@ -43,7 +43,12 @@ add-put-signed : tie.Need-add-put-signed
 add-put-signed c = omega (arith, room (c .before .before .before .before .before .before .before .before .before .args .x .a) (search needs), c .before .before .put-signed .ensures .0, c .before .before .before .before .before .before .put .ensures .0)
 
 put-signed-requires-2 : tie.Need-put-signed-requires-2
-put-signed-requires-2 c κs = simp length-set (omega (arith, room (c .before .before .before .before .before .before .before .before .before .before .args .x .a) (search needs), room (c .before .before .before .before .before .before .before .before .before .before .args .x .b) (search needs), c .before .before .before .put-signed .ensures .0, c .before .before .before .put-signed .kept .0, c .before .before .before .before .before .before .before .put .ensures .0, c .before .before .before .before .before .before .before .put .kept .0))
+put-signed-requires-2 c κs =
+    let a = c .before .before .before .before .before .before .before .before .before .before .args in
+    let x = a .x in
+    let put = c .before .before .before .before .before .before .before .put in
+    let put-signed = c .before .before .before .put-signed in
+    simp length-set (omega (arith, room (x .a) (search needs), room (x .b) (search needs), put-signed .ensures .0, put-signed .kept .0, put .ensures .0, put .kept .0))
 
 slice-aggregate-line : tie.Need-slice-aggregate-line
 slice-aggregate-line c = search needs
