@@ -36,7 +36,7 @@ returns c =
     let pre = c .before .before .before .before .before .before .before .before .pre in
     let slot-of = c .before .before .before .before .before .before .slot-of in
     let wide = c .before .before .before .before .wide in
-    let at = wide .ensures ∙ ap (λ (i : ℕ). getD (now slots) i 0) (slot-of .ensures .0) in
+    let at = wide .ensures .0 ∙ ap (λ (i : ℕ). getD (now slots) i 0) (slot-of .ensures .0) in
     c .equal .ensures ∙ ap (λ y. same y x) (c .before .record-at .ensures .0) ∙ slot-some (a .alphabet .now) (now slots) (pre .1) x (wide .result) at (omega (arith, c .before .before .before .record-count .ensures, c .before .before .if1 .taken))
 
 returns-2 : tie.Need-returns-2

@@ -37,8 +37,8 @@ returns c =
     let record-count = c .before .before .before .before .before .before .before .record-count in
     let slot-of = c .before .before .before .before .before .before .slot-of in
     let wide = c .before .before .before .before .wide in (
-      wide .ensures ∙ first-hit alphabet (a .x) (a .slots .now) (pre .2) (slot-of .result) (omega (arith, wide .ensures, c .before .before .before .if1 .taken, record-count .ensures))
-          (ap (recordAt alphabet) (sym (wide .ensures)) ∙ sym (c .before .before .record-at .ensures .0) ∙ same→≡ _ _ (sym (c .before .equal .ensures) ∙ c .if2 .taken)),
+      wide .ensures .0 ∙ first-hit alphabet (a .x) (a .slots .now) (pre .2) (slot-of .result) (omega (arith, wide .ensures .0, c .before .before .before .if1 .taken, record-count .ensures))
+          (ap (recordAt alphabet) (sym (wide .ensures .0)) ∙ sym (c .before .before .record-at .ensures .0) ∙ same→≡ _ _ (sym (c .before .equal .ensures) ∙ c .if2 .taken)),
       pre .2,
     )
 
