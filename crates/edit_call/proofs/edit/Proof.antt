@@ -153,7 +153,9 @@ returns-5 c =
     let s = c .before .before .before .before .before .before .before .before .before .before .before .before .before .before .before .before .before .before .before .before .before .before .before .before .before .before .before in
     let file = s .args .table .now in
     let done = c .before .before .before .before .before .before .edit-rows in
-    let is = edit-passed file (edited s) (lent s) (known (c .before .before .before .before .before .before .before .before .before .before .before .before .before .before .before .before .before .before .before .before) .0) (fitting (c .before .before .before .before .before .before .before .before .before .before .before .before .before)) (taken (c .before .before .before .before .before .before .before .before .before .before)) in
+    let rows-kept = fitting (c .before .before .before .before .before .before .before .before .before .before .before .before .before) in
+    let edit-kept = taken (c .before .before .before .before .before .before .before .before .before .before) in
+    let is = edit-passed file (edited s) (lent s) (known (c .before .before .before .before .before .before .before .before .before .before .before .before .before .before .before .before .before .before .before .before) .0) rows-kept edit-kept in
     (done .ensures .0 ∙ is, done .ensures .1 ∙ state-by file (edited s) (lent s) is)
 
 pub edit-spec : {M : Type 1} → statement M

@@ -1,3 +1,4 @@
+-- After k bytes the first k are the new digits, and the count is of those that differ.
 use Rattle.edit_rules.proofs.Written.{next-written, all-written, count-more, count-on, count-start, count-end}
 use Rattle.edit_rules.specs.Count.{differing}
 use Rattle.lists.proofs.Overwrite.{overwrite-none}

@@ -1,3 +1,4 @@
+-- The row that is named is changed at the place, and the other is not.
 use Rattle.row_rules.proofs.Changed.{changed-own, changed-other}
 use native.Mathlib.Omega.{arith}
 use mathlib.Core.Path.{sym}
