@@ -135,12 +135,9 @@ pub extern "C" fn yoyomyrtle_value(table: &[u8], row: &[u8], answer: &mut [i64])
 
 #[no_mangle]
 pub extern "C" fn yoyomyrtle_midpoint(a1: i32, b1: i32, a2: i32, b2: i32, answer: &mut [i64]) -> u64
-    ensures outcome { λ r. ⌜ r
-        ≡ returned (facts (midpointOf (a1 ∷ b1 ∷ []) (a2 ∷ b2 ∷ [])))
-        (now (answer .entry)) ⌝ }
+    ensures outcome { λ r. ⌜ r ≡ returned (facts (midpointOf (a1 ∷ b1 ∷ []) (a2 ∷ b2 ∷ []))) (now (answer .entry)) ⌝ }
     ensures answer { λ r. ⌜ now (answer .exit)
-        ≡ answered elementWords (facts (midpointOf (a1 ∷ b1 ∷ []) (a2 ∷ b2 ∷ [])))
-        (now (answer .entry)) ⌝ }
+        ≡ answered elementWords (facts (midpointOf (a1 ∷ b1 ∷ []) (a2 ∷ b2 ∷ []))) (now (answer .entry)) ⌝ }
 {
     if answer.len() < 8 {
         return 2;

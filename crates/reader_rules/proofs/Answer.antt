@@ -28,12 +28,18 @@ read-facts file t e =
       | no some ↦ absurd (no-fault t author (tableCheck file .number) (tableCheck file .place) (e ∙ unless-found author (tableCheck file) (facts (tableFacts file)) some))
     ]
 
--- an answer found to be facts: rules 1 to 13 are kept, and the alphabet's size and the depth that it tells are the table's
-pub found-facts : (file : List ℕ) (answer : Reading) (t : Table) → answer ≡ Reading.Facts t → readAs answer ≡ readOutcome file → (tableCheck file .number ≡ 0) × (t .alphabet .count ≡ elementCount (alphabetPart file)) × (t .depth ≡ tableFacts file .depth)
+-- what the facts that the reader gives tell a call: rules 1 to 13 are kept, and the alphabet's size and the depth are the table's
+pub record Told (file : List ℕ) (t : Table) : Type 0 where
+  pub passes : tableCheck file .number ≡ 0
+  pub size : t .alphabet .count ≡ elementCount (alphabetPart file)
+  pub depth : t .depth ≡ tableFacts file .depth
+
+-- an answer that is found to be facts tells this
+pub found-facts : (file : List ℕ) (answer : Reading) (t : Table) → answer ≡ Reading.Facts t → readAs answer ≡ readOutcome file → Told file t
 unfolding tableFacts partFacts
 found-facts file answer t is e =
     let known = read-facts file t (sym (ap readAs is) ∙ e) in
-    (known .0, ap (λ (s : Table). s .alphabet .count) (known .1), ap (λ (s : Table). s .depth) (known .1))
+    record { passes = known .0; size = ap (λ (s : Table). s .alphabet .count) (known .1); depth = ap (λ (s : Table). s .depth) (known .1) }
 
 -- a fault: the call that passes it on refuses as its own definition does
 pub read-fault : (F : Type 0) (file : List ℕ) (g : Group) (n p : ℕ) (rest : Outcome F) → refused g n p ≡ readOutcome file → refused g n p ≡ unless author (tableCheck file) rest

@@ -9,9 +9,9 @@ use Rattle.faults.specs.Outcome.{rows, whose, numberOf, placeOf}
 use Rattle.faults.specs.declared.Refusal.{Refusal}
 use Rattle.row_rules.proofs.Fit.{rows-fit}
 use Rattle.row_rules.specs.Check.{rowCheck}
-use Rattle.reader_rules.proofs.Answer.{found-facts}
+use Rattle.reader_rules.proofs.Answer.{Told, found-facts}
 use Rattle.reader_rules.specs.Table.{tableFacts}
-use Rattle.reader_rules.specs.Check.{readAs, tableCheck}
+use Rattle.reader_rules.specs.Check.{readAs}
 use Rattle.adder_rules.specs.Sum.{digitCount}
 use Rattle.adder_rules.proofs.Sum.{table-refused, rows-refused, rows-passed, sum-lent, sum-by}
 use borrow.Author.Needs.{needs}
@@ -22,15 +22,15 @@ use Rattle.adder.proofs.add.Tie as tie
 abbrev found : tie.Start → Refusal
 found s = rowCheck (s .args .first .now) (s .args .second .now) (length (s .args .sum .now)) (digitCount (s .args .table .now)) (tableFacts (s .args .table .now) .depth)
 
--- facts: the table passes rules 1 to 13, and the alphabet's size and the depth are its own
-known : (c : tie.After-answer) → (let file = c .before .before .before .before .before .before .before .args .table .now in let t = c .answer .given .0 .0 in (tableCheck file .number ≡ 0) × (t .alphabet .count ≡ digitCount file) × (t .depth ≡ tableFacts file .depth))
+-- the table passes, and its size and depth are known
+known : (c : tie.After-answer) → Told (c .before .before .before .before .before .before .before .args .table .now) (c .answer .given .0 .0)
 known c = found-facts (c .before .before .before .before .before .before .before .args .table .now) _ _ (c .answer .given .1) (c .before .before .read .ensures)
 
 checked : (c : tie.After-row-check) → c .row-check .result ≡ found (c .before .before .before .before .before .before .before .before .before .before)
 checked c =
     let a = c .before .before .before .before .before .before .before .before .before .before .args in
     let t = known (c .before .before .before) in
-    c .row-check .ensures ∙ (λ i. rowCheck (a .first .now) (a .second .now) (length (a .sum .now)) (t .1 i) (t .2 i))
+    c .row-check .ensures ∙ (λ i. rowCheck (a .first .now) (a .second .now) (length (a .sum .now)) (t .size i) (t .depth i))
 
 nothing : (c : tie.Else1) → found (c .before .before .before .before .before .before .before .before .before .before .before .before) .number ≡ 0
 nothing c = ap (λ (r : Refusal). r .number) (sym (checked (c .before .before))) ∙ c .if1 .left
@@ -73,19 +73,19 @@ returns-3 : tie.Need-returns-3
 returns-3 c =
     let a = c .before .before .before .before .before .before .before .before .before .before .before .before .args in
     let found = c .before .before .row-check .result in
-    let is = rows-refused (a .table .now) (a .first .now) (a .second .now) (length (a .sum .now)) found (known (c .before .before .before .before .before) .0) (checked (c .before .before)) (c .if1 .taken) in
+    let is = rows-refused (a .table .now) (a .first .now) (a .second .now) (length (a .sum .now)) found (known (c .before .before .before .before .before) .passes) (checked (c .before .before)) (c .if1 .taken) in
     (is, sum-lent (a .table .now) (a .first .now) (a .second .now) (a .sum .now) rows (found .number) (found .place) is)
 
 add-add-rows : tie.Need-add-add-rows
 add-add-rows c =
     let a = c .before .before .before .before .before .before .before .before .before .before .before .before .before .args in
     let facts = known (c .before .before .before .before .before .before) in
-    omega (arith, facts .2, few-places (a .table .now) (a .first .now) (a .second .now) (length (a .sum .now)) (facts .0) (fitting (c .before)))
+    omega (arith, facts .depth, few-places (a .table .now) (a .first .now) (a .second .now) (length (a .sum .now)) (facts .passes) (fitting (c .before)))
 
 add-rows-requires : tie.Need-add-rows-requires
 add-rows-requires c κs =
     let facts = known (c .before .before .before .before .before .before .before) in
-    (facts .0, (fitting (c .before .before), λ i. length (c .before .before .before .before .before .before .before .before .before .before .before .before .before .before .args .first .now) + facts .2 i))
+    (facts .passes, (fitting (c .before .before), λ i. length (c .before .before .before .before .before .before .before .before .before .before .before .before .before .before .args .first .now) + facts .depth i))
 
 same-length : tie.Need-same-length
 same-length c = search needs
@@ -93,7 +93,7 @@ same-length c = search needs
 returns-4 : tie.Need-returns-4
 returns-4 c =
     let a = c .before .before .before .before .before .before .before .before .before .before .before .before .before .before .before .before .before .args in
-    let is = rows-passed (a .table .now) (a .first .now) (a .second .now) (length (a .sum .now)) (known (c .before .before .before .before .before .before .before .before .before .before) .0) (nothing (c .before .before .before .before .before)) in
+    let is = rows-passed (a .table .now) (a .first .now) (a .second .now) (length (a .sum .now)) (known (c .before .before .before .before .before .before .before .before .before .before) .passes) (nothing (c .before .before .before .before .before)) in
     (c .before .before .add-rows .ensures .0 ∙ is, c .before .before .add-rows .ensures .1 ∙ sum-by (a .table .now) (a .first .now) (a .second .now) (a .sum .now) is)
 
 pub add-spec : {M : Type 1} → statement M

@@ -9,8 +9,8 @@ use Rattle.row_rules.specs.Check.{rowCheck, editCheck}
 use Rattle.row_rules.specs.Fit.{EditFits}
 use Rattle.row_rules.proofs.Fit.{rows-fit, edit-fits}
 use Rattle.reader_rules.specs.Table.{tableFacts}
-use Rattle.reader_rules.specs.Check.{readAs, tableCheck}
-use Rattle.reader_rules.proofs.Answer.{found-facts}
+use Rattle.reader_rules.specs.Check.{readAs}
+use Rattle.reader_rules.proofs.Answer.{Told, found-facts}
 use Rattle.reader_rules.proofs.Ready.{ready-passed}
 use Rattle.adder_rules.specs.Sum.{digitCount}
 use Rattle.edit_rules.specs.State.{State, state}
@@ -33,15 +33,15 @@ rows-found s = rowsFound (s .args .table .now) (edited s) (lent s)
 abbrev edit-found : tie.Start → Refusal
 edit-found s = askedFound (s .args .table .now) (edited s) (lent s)
 
--- facts: the table passes rules 1 to 13, and the alphabet's size and the depth are its own
-known : (c : tie.After-answer) → (let file = c .before .before .before .before .before .before .before .args .table .now in let t = c .answer .given .0 .0 in (tableCheck file .number ≡ 0) × (t .alphabet .count ≡ digitCount file) × (t .depth ≡ tableFacts file .depth))
+-- the table passes, and its size and depth are known
+known : (c : tie.After-answer) → Told (c .before .before .before .before .before .before .before .args .table .now) (c .answer .given .0 .0)
 known c = found-facts (c .before .before .before .before .before .before .before .args .table .now) _ _ (c .answer .given .1) (c .before .before .read .ensures)
 
 checked : (c : tie.After-row-check) → c .row-check .result ≡ rows-found (c .before .before .before .before .before .before .before .before .before .before .before .before)
 checked c =
     let a = c .before .before .before .before .before .before .before .before .before .before .before .before .args in
     let t = known (c .before .before .before .before .before) in
-    c .row-check .ensures ∙ (λ i. rowCheck (a .first .now) (a .second .now) (length (a .sum .now)) (t .1 i) (t .2 i))
+    c .row-check .ensures ∙ (λ i. rowCheck (a .first .now) (a .second .now) (length (a .sum .now)) (t .size i) (t .depth i))
 
 fitting : (c : tie.Else1) → rows-found (c .before .before .before .before .before .before .before .before .before .before .before .before .before .before) .number ≡ 0
 fitting c = ap (λ (r : Refusal). r .number) (sym (checked (c .before .before))) ∙ c .if1 .left
@@ -50,7 +50,7 @@ asked : (c : tie.After-edit-check) → c .edit-check .result ≡ edit-found (c .
 asked c =
     let a = c .before .before .before .before .before .before .before .before .before .before .before .before .before .before .before .args in
     let t = known (c .before .before .before .before .before .before .before .before) in
-    c .edit-check .ensures ∙ (λ i. editCheck (a .row) (a .place) (a .digit) (length (a .first .now)) (t .1 i))
+    c .edit-check .ensures ∙ (λ i. editCheck (a .row) (a .place) (a .digit) (length (a .first .now)) (t .size i))
 
 taken : (c : tie.Else2) → edit-found (c .before .before .before .before .before .before .before .before .before .before .before .before .before .before .before .before .before) .number ≡ 0
 taken c = ap (λ (r : Refusal). r .number) (sym (asked (c .before .before))) ∙ c .if2 .left
@@ -104,7 +104,7 @@ returns-3 c =
     let s = c .before .before .before .before .before .before .before .before .before .before .before .before .before .before .before in
     let file = s .args .table .now in
     let found = c .before .before .before .row-check .result in
-    let is = rows-refused file (edited s) (lent s) (known (c .before .before .before .before .before .before .before .before) .0) found (checked (c .before .before .before)) (c .before .if1 .taken) in
+    let is = rows-refused file (edited s) (lent s) (known (c .before .before .before .before .before .before .before .before) .passes) found (checked (c .before .before .before)) (c .before .if1 .taken) in
     (c .refused-rows .ensures ∙ is, state-lent file (edited s) (lent s) rows (found .number) (found .place) is)
 
 edit-check-requires : tie.Need-edit-check-requires
@@ -124,12 +124,12 @@ returns-4 c =
     let s = c .before .before .before .before .before .before .before .before .before .before .before .before .before .before .before .before .before .before in
     let file = s .args .table .now in
     let found = c .before .before .before .edit-check .result in
-    let is = edit-refused file (edited s) (lent s) (known (c .before .before .before .before .before .before .before .before .before .before .before) .0) (fitting (c .before .before .before .before)) found (asked (c .before .before .before)) (c .before .if2 .taken) in
+    let is = edit-refused file (edited s) (lent s) (known (c .before .before .before .before .before .before .before .before .before .before .before) .passes) (fitting (c .before .before .before .before)) found (asked (c .before .before .before)) (c .before .if2 .taken) in
     (c .refused-edit .ensures ∙ is, state-lent file (edited s) (lent s) editor (found .number) (found .place) is)
 
 cast-t22 : tie.Need-cast-t22
 cast-t22 c =
-    let size = ready-passed (c .before .before .before .before .before .before .before .before .before .before .before .before .before .before .before .before .before .args .table .now) (known (c .before .before .before .before .before .before .before .before .before .before) .0) in
+    let size = ready-passed (c .before .before .before .before .before .before .before .before .before .before .before .before .before .before .before .before .before .args .table .now) (known (c .before .before .before .before .before .before .before .before .before .before) .passes) in
     omega (arith, fits c .index, size .alphabet-count .1, size .alphabet-lies .counts)
 
 edit-rows-requires : tie.Need-edit-rows-requires
@@ -137,7 +137,7 @@ edit-rows-requires c κs =
     let a = c .before .before .before .before .before .before .before .before .before .before .before .before .before .before .before .before .before .before .before .before .args in
     let t = known (c .before .before .before .before .before .before .before .before .before .before .before .before .before) in
     let fit = rows-fit (a .first .now) (a .second .now) (length (a .sum .now)) (digitCount (a .table .now)) (tableFacts (a .table .now) .depth) (fitting (c .before .before .before .before .before .before)) in
-    (t .0, (fit, (fits (c .before .before .before), t .2)))
+    (t .passes, (fit, (fits (c .before .before .before), t .depth)))
 
 same-length-5 : tie.Need-same-length-5
 same-length-5 c = search needs
@@ -155,7 +155,7 @@ returns-5 c =
     let done = c .before .before .before .before .before .before .edit-rows in
     let rows-kept = fitting (c .before .before .before .before .before .before .before .before .before .before .before .before .before) in
     let edit-kept = taken (c .before .before .before .before .before .before .before .before .before .before) in
-    let is = edit-passed file (edited s) (lent s) (known (c .before .before .before .before .before .before .before .before .before .before .before .before .before .before .before .before .before .before .before .before) .0) rows-kept edit-kept in
+    let is = edit-passed file (edited s) (lent s) (known (c .before .before .before .before .before .before .before .before .before .before .before .before .before .before .before .before .before .before .before .before) .passes) rows-kept edit-kept in
     (done .ensures .0 ∙ is, done .ensures .1 ∙ state-by file (edited s) (lent s) is)
 
 pub edit-spec : {M : Type 1} → statement M

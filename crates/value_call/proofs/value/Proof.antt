@@ -39,14 +39,14 @@ returns-2 c =
 row-value-requires : tie.Need-row-value-requires
 row-value-requires c κs =
     let known = found-facts (c .before .before .before .before .before .before .before .args .table .now) _ _ (c .before .before .answer .given .1) (c .before .before .before .before .read .ensures) in
-    (known .0, known .1)
+    (known .passes, known .size)
 
 returns-3 : tie.Need-returns-3
 unfolding valueOutcome
 returns-3 c =
     let a = c .before .before .before .before .before .before .before .before .args in
     let known = found-facts (a .table .now) _ _ (c .before .before .before .answer .given .1) (c .before .before .before .before .before .read .ensures) in
-    c .row-value .ensures ∙ sym (unless-none author (tableCheck (a .table .now)) (rowOutcome (a .table .now) (a .row .now)) (known .0))
+    c .row-value .ensures ∙ sym (unless-none author (tableCheck (a .table .now)) (rowOutcome (a .table .now) (a .row .now)) (known .passes))
 
 pub value-spec : {M : Type 1} → statement M
 value-spec =
