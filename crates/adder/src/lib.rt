@@ -34,8 +34,12 @@ pub fn inputs_of(
     from: usize,
     end: usize,
 ) -> [u8; 256]
-    requires { ⌜ (tableCheck (now table) .number ≡ 0) × (from ≤ end) × (end ≤ 256) × ((k : ℕ) → k < end → getD (changed change 0 (now first)) k 0 < digitCount (now table)) × ((k : ℕ) → k < end → getD (changed change 1 (now second)) k 0 < digitCount (now table)) ⌝ }
-    ensures { λ r. ⌜ r ≡ partRow (inputOf (now (table .entry)) (changed change 0 (now (first .entry))) (changed change 1 (now (second .entry)))) from end ⌝ }
+    requires table { ⌜ tableCheck (now table) .number ≡ 0 ⌝ }
+    requires part { ⌜ (from ≤ end) × (end ≤ 256)
+        × ((k : ℕ) → k < end → getD (changed change 0 (now first)) k 0 < digitCount (now table))
+        × ((k : ℕ) → k < end → getD (changed change 1 (now second)) k 0 < digitCount (now table)) ⌝ }
+    ensures { λ r. ⌜ r ≡ partRow (inputOf (now (table .entry))
+        (changed change 0 (now (first .entry))) (changed change 1 (now (second .entry)))) from end ⌝ }
 {
     let alphabet = reader::section(table, 1);
     let inputs = reader::section(table, 2);
@@ -45,8 +49,12 @@ pub fn inputs_of(
 // Writes the alphabet indexes of the digits of a row of input indexes at the places from `from` on, up to the first digit that isn't
 // in the alphabet, at most `count` of them; how many.
 pub fn digits_of(table: &[u8], row: &[u8], from: usize, count: usize, out: &mut [u8]) -> usize
-    requires { ⌜ (tableCheck (now table) .number ≡ 0) × Inputs (inputCount (now table)) (now row) × (from + count < 65536) × (count ≤ length (now out)) ⌝ }
-    ensures { λ r. ⌜ (r ≡ firstFailing (λ k. rowAllowed (now (table .entry)) (now (row .entry)) (from + k)) 0 count) × (now (out .exit) ≡ overwrite (now (out .entry)) 0 (rowPart (now (table .entry)) (now (row .entry)) from r)) ⌝ }
+    requires table { ⌜ tableCheck (now table) .number ≡ 0 ⌝ }
+    requires inputs { ⌜ Inputs (inputCount (now table)) (now row) ⌝ }
+    requires room { ⌜ (from + count < 65536) × (count ≤ length (now out)) ⌝ }
+    ensures count { λ r. ⌜ r ≡ firstFailing (λ k. rowAllowed (now (table .entry)) (now (row .entry)) (from + k)) 0 count ⌝ }
+    ensures digits { λ r. ⌜ now (out .exit)
+        ≡ overwrite (now (out .entry)) 0 (rowPart (now (table .entry)) (now (row .entry)) from r) ⌝ }
 {
     let base = digits::base_of(reader::section(table, 0));
     let alphabet = reader::section(table, 1);
@@ -58,8 +66,13 @@ pub fn digits_of(table: &[u8], row: &[u8], from: usize, count: usize, out: &mut 
 
 // The sum row of rows that pass 20 to 23, or fault 27. Every digit is computed before any is written.
 fn add_rows(table: &[u8], first: &[u8], second: &[u8], places: usize, sum: &mut [u8]) -> Added
-    requires { ⌜ (tableCheck (now table) .number ≡ 0) × RowsFit (now first) (now second) (length (now sum)) (digitCount (now table)) (tableFacts (now table) .depth) × (places ≡ placeCount (now table) (now first)) ⌝ }
-    ensures { λ r. ⌜ (outcomeOf r ≡ digitsOutcome (now (table .entry)) (now (first .entry)) (now (second .entry))) × (now (sum .exit) ≡ atExit (digitsOutcome (now (table .entry)) (now (first .entry)) (now (second .entry))) (now (sum .entry)) (overwrite (now (sum .entry)) 0 (sumRow (now (table .entry)) (now (first .entry)) (now (second .entry))))) ⌝ }
+    requires table { ⌜ tableCheck (now table) .number ≡ 0 ⌝ }
+    requires rows { ⌜ RowsFit (now first) (now second) (length (now sum)) (digitCount (now table)) (tableFacts (now table) .depth) ⌝ }
+    requires places { ⌜ places ≡ placeCount (now table) (now first) ⌝ }
+    ensures outcome { λ r. ⌜ outcomeOf r ≡ digitsOutcome (now (table .entry)) (now (first .entry)) (now (second .entry)) ⌝ }
+    ensures sum { λ r. ⌜ now (sum .exit)
+        ≡ atExit (digitsOutcome (now (table .entry)) (now (first .entry)) (now (second .entry))) (now (sum .entry))
+        (overwrite (now (sum .entry)) 0 (sumRow (now (table .entry)) (now (first .entry)) (now (second .entry)))) ⌝ }
 {
     let row = inputs_of(table, rows::no_change(), first, second, 0, first.len());
     let mut digits = [0u8; 264];
@@ -76,7 +89,10 @@ fn add_rows(table: &[u8], first: &[u8], second: &[u8], places: usize, sum: &mut 
 
 // The sum of two rows in the first n + h bytes of the sum buffer, or a fault and nothing written.
 pub fn add(table: &[u8], first: &[u8], second: &[u8], sum: &mut [u8]) -> Added
-    ensures { λ r. ⌜ (outcomeOf r ≡ addOutcome (now (table .entry)) (now (first .entry)) (now (second .entry)) (length (now (sum .entry)))) × (now (sum .exit) ≡ addSum (now (table .entry)) (now (first .entry)) (now (second .entry)) (now (sum .entry))) ⌝ }
+    ensures outcome { λ r. ⌜ outcomeOf r
+        ≡ addOutcome (now (table .entry)) (now (first .entry)) (now (second .entry)) (length (now (sum .entry))) ⌝ }
+    ensures sum { λ r. ⌜ now (sum .exit)
+        ≡ addSum (now (table .entry)) (now (first .entry)) (now (second .entry)) (now (sum .entry)) ⌝ }
 {
     let answer = reader::read(table);
     let Reading::Facts(facts) = answer else {

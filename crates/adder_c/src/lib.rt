@@ -24,7 +24,8 @@ mod run;
 
 #[no_mangle]
 pub extern "C" fn yoyomyrtle_check(file: &[u8], answer: &mut [i64]) -> u64
-    ensures { λ r. ⌜ (r ≡ returned (checkOutcome (now (file .entry))) (now (answer .entry))) × (now (answer .exit) ≡ answered checkWords (checkOutcome (now (file .entry))) (now (answer .entry))) ⌝ }
+    ensures outcome { λ r. ⌜ r ≡ returned (checkOutcome (now (file .entry))) (now (answer .entry)) ⌝ }
+    ensures answer { λ r. ⌜ now (answer .exit) ≡ answered checkWords (checkOutcome (now (file .entry))) (now (answer .entry)) ⌝ }
 {
     if answer.len() < 8 {
         return 2;
@@ -55,8 +56,12 @@ pub extern "C" fn yoyomyrtle_add(
     sum: &mut [u8],
     answer: &mut [i64],
 ) -> u64
-    ensures { λ r. ⌜ (r ≡ returned (addOutcome (now (table .entry)) (now (first .entry)) (now (second .entry)) (length (now (sum .entry)))) (now (answer .entry))) × (now (answer .exit) ≡ answered addWords (addOutcome (now (table .entry)) (now (first .entry)) (now (second .entry)) (length (now (sum .entry)))) (now (answer .entry))) ⌝ }
-    ensures { λ r. ⌜ now (sum .exit) ≡ ifRoom 8 (length (now (answer .entry))) (addSum (now (table .entry)) (now (first .entry)) (now (second .entry)) (now (sum .entry))) (now (sum .entry)) ⌝ }
+    ensures outcome { λ r. ⌜ (let o = addOutcome (now (table .entry)) (now (first .entry)) (now (second .entry)) (length (now (sum .entry))) in
+        (r ≡ returned o (now (answer .entry)))
+        × (now (answer .exit) ≡ answered addWords o (now (answer .entry)))) ⌝ }
+    ensures sum { λ r. ⌜ now (sum .exit)
+        ≡ ifRoom 8 (length (now (answer .entry)))
+        (addSum (now (table .entry)) (now (first .entry)) (now (second .entry)) (now (sum .entry))) (now (sum .entry)) ⌝ }
 {
     if answer.len() < 8 {
         return 2;
@@ -83,8 +88,14 @@ pub extern "C" fn yoyomyrtle_edit(
     digit: u64,
     answer: &mut [i64],
 ) -> u64
-    ensures { λ r. ⌜ (r ≡ returned (editOutcome (now (table .entry)) (record { row = row; place = place; digit = digit }) (state (now (first .entry)) (now (second .entry)) (now (sum .entry)))) (now (answer .entry))) × (now (answer .exit) ≡ answered editWords (editOutcome (now (table .entry)) (record { row = row; place = place; digit = digit }) (state (now (first .entry)) (now (second .entry)) (now (sum .entry)))) (now (answer .entry))) ⌝ }
-    ensures { λ r. ⌜ state (now (first .exit)) (now (second .exit)) (now (sum .exit)) ≡ ifRoom 8 (length (now (answer .entry))) (editState (now (table .entry)) (record { row = row; place = place; digit = digit }) (state (now (first .entry)) (now (second .entry)) (now (sum .entry)))) (state (now (first .entry)) (now (second .entry)) (now (sum .entry))) ⌝ }
+    ensures outcome { λ r. ⌜ (let o = editOutcome (now (table .entry)) (record { row = row; place = place; digit = digit })
+        (state (now (first .entry)) (now (second .entry)) (now (sum .entry))) in
+        (r ≡ returned o (now (answer .entry)))
+        × (now (answer .exit) ≡ answered editWords o (now (answer .entry)))) ⌝ }
+    ensures buffers { λ r. ⌜ (let s = state (now (first .entry)) (now (second .entry)) (now (sum .entry)) in
+        state (now (first .exit)) (now (second .exit)) (now (sum .exit))
+        ≡ ifRoom 8 (length (now (answer .entry)))
+        (editState (now (table .entry)) (record { row = row; place = place; digit = digit }) s) s) ⌝ }
 {
     if answer.len() < 8 {
         return 2;
@@ -109,7 +120,8 @@ pub extern "C" fn yoyomyrtle_edit(
 
 #[no_mangle]
 pub extern "C" fn yoyomyrtle_value(table: &[u8], row: &[u8], answer: &mut [i64]) -> u64
-    ensures { λ r. ⌜ (r ≡ returned (valueOutcome (now (table .entry)) (now (row .entry))) (now (answer .entry))) × (now (answer .exit) ≡ answered elementWords (valueOutcome (now (table .entry)) (now (row .entry))) (now (answer .entry))) ⌝ }
+    ensures outcome { λ r. ⌜ r ≡ returned (valueOutcome (now (table .entry)) (now (row .entry))) (now (answer .entry)) ⌝ }
+    ensures answer { λ r. ⌜ now (answer .exit) ≡ answered elementWords (valueOutcome (now (table .entry)) (now (row .entry))) (now (answer .entry)) ⌝ }
 {
     if answer.len() < 8 {
         return 2;
@@ -123,7 +135,9 @@ pub extern "C" fn yoyomyrtle_value(table: &[u8], row: &[u8], answer: &mut [i64])
 
 #[no_mangle]
 pub extern "C" fn yoyomyrtle_midpoint(a1: i32, b1: i32, a2: i32, b2: i32, answer: &mut [i64]) -> u64
-    ensures { λ r. ⌜ (r ≡ returned (facts (midpointOf (a1 ∷ b1 ∷ []) (a2 ∷ b2 ∷ []))) (now (answer .entry))) × (now (answer .exit) ≡ answered elementWords (facts (midpointOf (a1 ∷ b1 ∷ []) (a2 ∷ b2 ∷ []))) (now (answer .entry))) ⌝ }
+    ensures outcome { λ r. ⌜ r ≡ returned (facts (midpointOf (a1 ∷ b1 ∷ []) (a2 ∷ b2 ∷ []))) (now (answer .entry)) ⌝ }
+    ensures answer { λ r. ⌜ now (answer .exit)
+        ≡ answered elementWords (facts (midpointOf (a1 ∷ b1 ∷ []) (a2 ∷ b2 ∷ []))) (now (answer .entry)) ⌝ }
 {
     if answer.len() < 8 {
         return 2;
@@ -136,7 +150,9 @@ pub extern "C" fn yoyomyrtle_midpoint(a1: i32, b1: i32, a2: i32, b2: i32, answer
 // TERN's bytes, in the first 165 of `out`.
 #[no_mangle]
 pub extern "C" fn yoyomyrtle_tern(out: &mut [u8]) -> u64
-    ensures { λ r. ⌜ (r ≡ ifRoom 165 (length (now (out .entry))) 0 2) × (now (out .exit) ≡ ifRoom 165 (length (now (out .entry))) (overwrite (now (out .entry)) 0 ternFile) (now (out .entry))) ⌝ }
+    ensures outcome { λ r. ⌜ r ≡ ifRoom 165 (length (now (out .entry))) 0 2 ⌝ }
+    ensures bytes { λ r. ⌜ now (out .exit)
+        ≡ ifRoom 165 (length (now (out .entry))) (overwrite (now (out .entry)) 0 ternFile) (now (out .entry)) ⌝ }
 {
     if out.len() < 165 {
         return 2;
@@ -148,7 +164,9 @@ pub extern "C" fn yoyomyrtle_tern(out: &mut [u8]) -> u64
 // BIN's bytes, in the first 187 of `out`.
 #[no_mangle]
 pub extern "C" fn yoyomyrtle_bin(out: &mut [u8]) -> u64
-    ensures { λ r. ⌜ (r ≡ ifRoom 187 (length (now (out .entry))) 0 2) × (now (out .exit) ≡ ifRoom 187 (length (now (out .entry))) (overwrite (now (out .entry)) 0 binFile) (now (out .entry))) ⌝ }
+    ensures outcome { λ r. ⌜ r ≡ ifRoom 187 (length (now (out .entry))) 0 2 ⌝ }
+    ensures bytes { λ r. ⌜ now (out .exit)
+        ≡ ifRoom 187 (length (now (out .entry))) (overwrite (now (out .entry)) 0 binFile) (now (out .entry)) ⌝ }
 {
     if out.len() < 187 {
         return 2;

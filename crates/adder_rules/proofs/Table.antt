@@ -1,5 +1,5 @@
 -- What a table that passes rules 1 to 13 gives to conversion.
-use mathlib.Core.Path.{_≡_, refl, ap, subst, sym, _∙_}
+use mathlib.Core.Path.{_≡_, ap, subst, sym, _∙_}
 use mathlib.Core.List.{List}
 use Prim.Native.Nat.{ℕ, _<_, _≤_, _^_}
 use lib.IntN.{ℤ}
@@ -11,7 +11,7 @@ use Rattle.digit_rules.proofs.Base.{base-within}
 use Rattle.numeration.specs.Code.{Inputs}
 use Rattle.numeration.specs.Conversion.{window}
 use Rattle.numeration.proofs.Windows.{window-below}
-use Rattle.reader_rules.specs.Table.{basePart, alphabetPart, inputPart, leafPart, wordPart, partFacts, tableFacts}
+use Rattle.reader_rules.specs.Table.{basePart, alphabetPart, inputPart, leafPart, wordPart}
 use Rattle.reader_rules.specs.Check.{tableCheck}
 use Rattle.reader_rules.specs.Ready.{Ready}
 use Rattle.reader_rules.specs.Table.{inputCount}
@@ -19,11 +19,6 @@ use Rattle.reader_rules.proofs.Kept.{layout-kept, table-kept}
 use Rattle.reader_rules.proofs.Ready.{ready-passed}
 use Rattle.place_rules.specs.Helpers.{Begun}
 use Rattle.adder_rules.specs.Sum.{digitCount}
-
--- the alphabet's size as the reader tells it
-pub digits-told : (file : List ℕ) → tableFacts file .alphabet .count ≡ digitCount file
-unfolding tableFacts partFacts
-digits-told file = refl
 
 module _ (file : List ℕ) (passes : tableCheck file .number ≡ 0) where
   pub directory-kept : directoryCheck file .number ≡ 0

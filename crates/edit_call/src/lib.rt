@@ -40,7 +40,12 @@ pub fn edit(
     place: usize,
     digit: usize,
 ) -> Edited
-    ensures { λ r. ⌜ (outcomeOf r ≡ editOutcome (now (table .entry)) (record { row = row; place = place; digit = digit }) (state (now (first .entry)) (now (second .entry)) (now (sum .entry)))) × (state (now (first .exit)) (now (second .exit)) (now (sum .exit)) ≡ editState (now (table .entry)) (record { row = row; place = place; digit = digit }) (state (now (first .entry)) (now (second .entry)) (now (sum .entry)))) ⌝ }
+    ensures outcome { λ r. ⌜ outcomeOf r
+        ≡ editOutcome (now (table .entry)) (record { row = row; place = place; digit = digit })
+        (state (now (first .entry)) (now (second .entry)) (now (sum .entry))) ⌝ }
+    ensures buffers { λ r. ⌜ state (now (first .exit)) (now (second .exit)) (now (sum .exit))
+        ≡ editState (now (table .entry)) (record { row = row; place = place; digit = digit })
+        (state (now (first .entry)) (now (second .entry)) (now (sum .entry))) ⌝ }
 {
     let answer = reader::read(table);
     let Reading::Facts(facts) = answer else {

@@ -55,8 +55,16 @@ pub fn edit_each(
     values: &mut [usize],
     count: usize,
 )
-    requires { ⌜ (count ≤ length (now rows)) × (count ≤ length (now places)) × (count ≤ length (now digits)) × (count ≤ length (now whose)) × (count ≤ length (now numbers)) × (count ≤ length (now values)) ⌝ }
-    ensures { λ _. ⌜ (state (now (first .exit)) (now (second .exit)) (now (sum .exit)) ≡ editAll (now (table .entry)) (editList (now (rows .entry)) (now (places .entry)) (now (digits .entry)) count) (state (now (first .entry)) (now (second .entry)) (now (sum .entry)))) × (now (whose .exit) ≡ overwrite (now (whose .entry)) 0 (groupsOf (editAnswers (now (table .entry)) (editList (now (rows .entry)) (now (places .entry)) (now (digits .entry)) count) (state (now (first .entry)) (now (second .entry)) (now (sum .entry)))))) × (now (numbers .exit) ≡ overwrite (now (numbers .entry)) 0 (numbersOf (editAnswers (now (table .entry)) (editList (now (rows .entry)) (now (places .entry)) (now (digits .entry)) count) (state (now (first .entry)) (now (second .entry)) (now (sum .entry)))))) × (now (values .exit) ≡ overwrite (now (values .entry)) 0 (valuesOf (editAnswers (now (table .entry)) (editList (now (rows .entry)) (now (places .entry)) (now (digits .entry)) count) (state (now (first .entry)) (now (second .entry)) (now (sum .entry)))))) ⌝ }
+    requires listed { ⌜ (count ≤ length (now rows)) × (count ≤ length (now places)) × (count ≤ length (now digits)) ⌝ }
+    requires room { ⌜ (count ≤ length (now whose)) × (count ≤ length (now numbers)) × (count ≤ length (now values)) ⌝ }
+    ensures buffers { λ _. ⌜ (let s = state (now (first .entry)) (now (second .entry)) (now (sum .entry)) in
+        let es = editList (now (rows .entry)) (now (places .entry)) (now (digits .entry)) count in
+        state (now (first .exit)) (now (second .exit)) (now (sum .exit)) ≡ editAll (now (table .entry)) es s) ⌝ }
+    ensures answers { λ _. ⌜ (let s = state (now (first .entry)) (now (second .entry)) (now (sum .entry)) in
+        let es = editList (now (rows .entry)) (now (places .entry)) (now (digits .entry)) count in
+        (now (whose .exit) ≡ overwrite (now (whose .entry)) 0 (groupsOf (editAnswers (now (table .entry)) es s)))
+        × (now (numbers .exit) ≡ overwrite (now (numbers .entry)) 0 (numbersOf (editAnswers (now (table .entry)) es s)))
+        × (now (values .exit) ≡ overwrite (now (values .entry)) 0 (valuesOf (editAnswers (now (table .entry)) es s)))) ⌝ }
 {
     let mut i = 0;
     while i < count {

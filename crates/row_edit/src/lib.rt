@@ -34,7 +34,9 @@ fn part_start(place: usize, depth: usize) -> usize
 // The end of the part of a row of n digits that the digits up to place + depth depend on.
 fn part_end(place: usize, depth: usize, n: usize) -> usize
     requires { ⌜ (place < n) × (n ≤ 256) × (depth ≤ 8) ⌝ }
-    ensures { λ r. ⌜ (place < r) × (r ≤ n) × ((k : ℕ) → k ≤ place + depth → k < n → k < r) ⌝ }
+    ensures above { λ r. ⌜ place < r ⌝ }
+    ensures within { λ r. ⌜ r ≤ n ⌝ }
+    ensures reach { λ r. ⌜ ((k : ℕ) → k ≤ place + depth → k < n → k < r) ⌝ }
 {
     if place + depth < n {
         return place + depth + 1;
@@ -45,7 +47,8 @@ fn part_end(place: usize, depth: usize, n: usize) -> usize
 // Stores the digit in the row that is named, and in no other.
 fn store(change: Change, first: &mut [u8], second: &mut [u8])
     requires { ⌜ (change .row ≤ 1) × (change .place < length (now first)) × (change .place < length (now second)) ⌝ }
-    ensures { λ _. ⌜ (now (first .exit) ≡ changed change 0 (now (first .entry))) × (now (second .exit) ≡ changed change 1 (now (second .entry))) ⌝ }
+    ensures first { λ _. ⌜ now (first .exit) ≡ changed change 0 (now (first .entry)) ⌝ }
+    ensures second { λ _. ⌜ now (second .exit) ≡ changed change 1 (now (second .entry)) ⌝ }
 {
     let place = change.place;
     if change.row == 0 {
@@ -58,7 +61,8 @@ fn store(change: Change, first: &mut [u8], second: &mut [u8])
 // Writes digits over a part of the sum; how many of its bytes are others than before.
 fn renew(part: &mut [u8], digits: &[u8]) -> usize
     requires { ⌜ length (now digits) ≡ length (now part) ⌝ }
-    ensures { λ r. ⌜ (r ≡ differing (now (part .entry)) (now (digits .entry)) 0 (length (now (part .entry)))) × (now (part .exit) ≡ now (digits .entry)) ⌝ }
+    ensures count { λ r. ⌜ r ≡ differing (now (part .entry)) (now (digits .entry)) 0 (length (now (part .entry))) ⌝ }
+    ensures part { λ r. ⌜ now (part .exit) ≡ now (digits .entry) ⌝ }
 {
     let mut count = 0;
     let mut k = 0;
@@ -81,8 +85,14 @@ pub fn edit_rows(
     depth: usize,
     change: Change,
 ) -> Edited
-    requires { ⌜ (tableCheck (now table) .number ≡ 0) × RowsFit (now first) (now second) (length (now sum)) (digitCount (now table)) (tableFacts (now table) .depth) × EditFits (change .row) (change .place) (change .digit) (length (now first)) (digitCount (now table)) × (depth ≡ tableFacts (now table) .depth) ⌝ }
-    ensures { λ r. ⌜ (outcomeOf r ≡ renewOutcome (now (table .entry)) change (state (now (first .entry)) (now (second .entry)) (now (sum .entry)))) × (state (now (first .exit)) (now (second .exit)) (now (sum .exit)) ≡ renewState (now (table .entry)) change (state (now (first .entry)) (now (second .entry)) (now (sum .entry)))) ⌝ }
+    requires table { ⌜ tableCheck (now table) .number ≡ 0 ⌝ }
+    requires rows { ⌜ RowsFit (now first) (now second) (length (now sum)) (digitCount (now table)) (tableFacts (now table) .depth) ⌝ }
+    requires edit { ⌜ EditFits (change .row) (change .place) (change .digit) (length (now first)) (digitCount (now table)) ⌝ }
+    requires depth { ⌜ depth ≡ tableFacts (now table) .depth ⌝ }
+    ensures outcome { λ r. ⌜ outcomeOf r
+        ≡ renewOutcome (now (table .entry)) change (state (now (first .entry)) (now (second .entry)) (now (sum .entry))) ⌝ }
+    ensures buffers { λ r. ⌜ state (now (first .exit)) (now (second .exit)) (now (sum .exit))
+        ≡ renewState (now (table .entry)) change (state (now (first .entry)) (now (second .entry)) (now (sum .entry))) ⌝ }
 {
     let place = change.place;
     let from = part_start(place, depth);

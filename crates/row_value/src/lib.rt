@@ -57,7 +57,9 @@ fn shown(x: [i64; 2]) -> Element
 
 // The count of places without the zeros at the top, where index 0 is the digit zero.
 fn counted_places(alphabet: &[u8], row: &[u8]) -> usize
-    ensures { λ r. ⌜ (r ≤ length (now (row .entry))) × ((k : ℕ) → r ≤ k → k < length (now (row .entry)) → placeDigit (now (alphabet .entry)) (now (row .entry)) k ≡ zeros degree) ⌝ }
+    ensures within { λ r. ⌜ r ≤ length (now (row .entry)) ⌝ }
+    ensures zeros { λ r. ⌜ ((k : ℕ) → r ≤ k → k < length (now (row .entry))
+        → placeDigit (now (alphabet .entry)) (now (row .entry)) k ≡ zeros degree) ⌝ }
 {
     if layout::record_count(alphabet, 1) == 0 {
         return row.len();

@@ -36,7 +36,11 @@ fn shortest_of(a: usize, b: usize, c: usize) -> usize
 
 // The check, then the addition: a fault and nothing written, or the sum written and the number of edits that are to be called.
 fn start(table: &[u8], first: &[u8], second: &[u8], sum: &mut [u8], edits: usize) -> Ran
-    ensures { λ r. ⌜ (outcomeOf r ≡ runOutcome (now (table .entry)) (state (now (first .entry)) (now (second .entry)) (now (sum .entry))) edits) × (now (sum .exit) ≡ atExit (outcomeOf r) (now (sum .entry)) (addSum (now (table .entry)) (now (first .entry)) (now (second .entry)) (now (sum .entry)))) ⌝ }
+    ensures outcome { λ r. ⌜ outcomeOf r
+        ≡ runOutcome (now (table .entry)) (state (now (first .entry)) (now (second .entry)) (now (sum .entry))) edits ⌝ }
+    ensures sum { λ r. ⌜ now (sum .exit)
+        ≡ atExit (outcomeOf r) (now (sum .entry))
+        (addSum (now (table .entry)) (now (first .entry)) (now (second .entry)) (now (sum .entry))) ⌝ }
 {
     let checked = table::check(table);
     let Checked::Accepted(_) = checked else {
@@ -75,7 +79,20 @@ pub fn run(
     numbers: &mut [usize],
     values: &mut [usize],
 ) -> Ran
-    ensures { λ r. ⌜ (outcomeOf r ≡ runOutcome (now (table .entry)) (state (now (first .entry)) (now (second .entry)) (now (sum .entry))) (length (askedEdits (now (rows .entry)) (now (places .entry)) (now (digits .entry)) (now (whose .entry)) (now (numbers .entry)) (now (values .entry))))) × (state (now (first .exit)) (now (second .exit)) (now (sum .exit)) ≡ (runAll (now (table .entry)) (state (now (first .entry)) (now (second .entry)) (now (sum .entry))) (askedEdits (now (rows .entry)) (now (places .entry)) (now (digits .entry)) (now (whose .entry)) (now (numbers .entry)) (now (values .entry))) .buffers)) × (now (whose .exit) ≡ overwrite (now (whose .entry)) 0 (groupsOf ((runAll (now (table .entry)) (state (now (first .entry)) (now (second .entry)) (now (sum .entry))) (askedEdits (now (rows .entry)) (now (places .entry)) (now (digits .entry)) (now (whose .entry)) (now (numbers .entry)) (now (values .entry)))) .answers))) × (now (numbers .exit) ≡ overwrite (now (numbers .entry)) 0 (numbersOf ((runAll (now (table .entry)) (state (now (first .entry)) (now (second .entry)) (now (sum .entry))) (askedEdits (now (rows .entry)) (now (places .entry)) (now (digits .entry)) (now (whose .entry)) (now (numbers .entry)) (now (values .entry)))) .answers))) × (now (values .exit) ≡ overwrite (now (values .entry)) 0 (valuesOf ((runAll (now (table .entry)) (state (now (first .entry)) (now (second .entry)) (now (sum .entry))) (askedEdits (now (rows .entry)) (now (places .entry)) (now (digits .entry)) (now (whose .entry)) (now (numbers .entry)) (now (values .entry)))) .answers))) ⌝ }
+    ensures outcome { λ r. ⌜ (let s = state (now (first .entry)) (now (second .entry)) (now (sum .entry)) in
+        let es = askedEdits (now (rows .entry)) (now (places .entry)) (now (digits .entry))
+        (now (whose .entry)) (now (numbers .entry)) (now (values .entry)) in
+        outcomeOf r ≡ runOutcome (now (table .entry)) s (length es)) ⌝ }
+    ensures buffers { λ r. ⌜ (let s = state (now (first .entry)) (now (second .entry)) (now (sum .entry)) in
+        let es = askedEdits (now (rows .entry)) (now (places .entry)) (now (digits .entry))
+        (now (whose .entry)) (now (numbers .entry)) (now (values .entry)) in
+        state (now (first .exit)) (now (second .exit)) (now (sum .exit)) ≡ runAll (now (table .entry)) s es .buffers) ⌝ }
+    ensures answers { λ r. ⌜ (let s = state (now (first .entry)) (now (second .entry)) (now (sum .entry)) in
+        let es = askedEdits (now (rows .entry)) (now (places .entry)) (now (digits .entry))
+        (now (whose .entry)) (now (numbers .entry)) (now (values .entry)) in
+        (now (whose .exit) ≡ overwrite (now (whose .entry)) 0 (groupsOf (runAll (now (table .entry)) s es .answers)))
+        × (now (numbers .exit) ≡ overwrite (now (numbers .entry)) 0 (numbersOf (runAll (now (table .entry)) s es .answers)))
+        × (now (values .exit) ≡ overwrite (now (values .entry)) 0 (valuesOf (runAll (now (table .entry)) s es .answers)))) ⌝ }
 {
     let listed = shortest_of(rows.len(), places.len(), digits.len());
     let answered = shortest_of(whose.len(), numbers.len(), values.len());

@@ -1,42 +1,44 @@
--- Rules 1 to 13 by the reader, then 20 to 23, then the digits.
-use Rattle.reader_rules.specs.declared.Table.{Table}
+-- The sum: the table's fault by the reader is passed on, then the rows' by rules 20 to 23, then 27; else the digits are written.
 use Rattle.row_rules.specs.Fit.{RowsFit}
 use Rattle.adder_rules.proofs.Rows.{few-places}
 use mathlib.Core.Path.{_≡_, sym, ap, _∙_}
-use Prim.Native.Nat.{_+_}
+use Prim.Native.Nat.{ℕ, _+_}
 use native.Mathlib.Omega.{arith}
 use lib.ListN.{length}
 use Rattle.faults.specs.Outcome.{rows, whose, numberOf, placeOf}
 use Rattle.faults.specs.declared.Refusal.{Refusal}
 use Rattle.row_rules.proofs.Fit.{rows-fit}
 use Rattle.row_rules.specs.Check.{rowCheck}
-use Rattle.reader_rules.proofs.Answer.{read-facts}
-use Rattle.reader_rules.specs.declared.Table.{Table}
+use Rattle.reader_rules.proofs.Answer.{Told, found-facts}
 use Rattle.reader_rules.specs.Table.{tableFacts}
-use Rattle.reader_rules.specs.Check.{readAs, tableCheck}
+use Rattle.reader_rules.specs.Check.{readAs}
 use Rattle.adder_rules.specs.Sum.{digitCount}
 use Rattle.adder_rules.proofs.Sum.{table-refused, rows-refused, rows-passed, sum-lent, sum-by}
-use Rattle.adder_rules.proofs.Table.{digits-told}
 use borrow.Author.Needs.{needs}
 use Rattle.adder.proofs.add.Statement.{statement}
 use Rattle.adder.proofs.add.Tie as tie
 
--- facts: the table passes rules 1 to 13, and they are its facts
-known : (c : tie.After-answer) → (tableCheck (c .before .before .before .before .before .before .before .args .table .now) .number ≡ 0) × (c .answer .given .0 .0 ≡ tableFacts (c .before .before .before .before .before .before .before .args .table .now))
-known c = read-facts (c .before .before .before .before .before .before .before .args .table .now) _ (sym (ap readAs (c .answer .given .1)) ∙ c .before .before .read .ensures)
+-- the rules of the rows, for the rows as lent
+abbrev found : tie.Start → Refusal
+found s = rowCheck (s .args .first .now) (s .args .second .now) (length (s .args .sum .now)) (digitCount (s .args .table .now)) (tableFacts (s .args .table .now) .depth)
 
-checked : (c : tie.After-row-check) → c .row-check .result ≡ rowCheck (c .before .before .before .before .before .before .before .before .before .before .args .first .now) (c .before .before .before .before .before .before .before .before .before .before .args .second .now) (length (c .before .before .before .before .before .before .before .before .before .before .args .sum .now)) (digitCount (c .before .before .before .before .before .before .before .before .before .before .args .table .now)) (tableFacts (c .before .before .before .before .before .before .before .before .before .before .args .table .now) .depth)
+-- the table passes, and its size and depth are known
+known : (c : tie.After-answer) → Told (c .before .before .before .before .before .before .before .args .table .now) (c .answer .given .0 .0)
+known c = found-facts (c .before .before .before .before .before .before .before .args .table .now) _ _ (c .answer .given .1) (c .before .before .read .ensures)
+
+checked : (c : tie.After-row-check) → c .row-check .result ≡ found (c .before .before .before .before .before .before .before .before .before .before)
 checked c =
     let a = c .before .before .before .before .before .before .before .before .before .before .args in
-    let t = known (c .before .before .before) .1 in
-    let digits = ap (λ (facts : Table). facts .alphabet .count) t ∙ digits-told (a .table .now) in
-    c .row-check .ensures ∙ (λ i. rowCheck (a .first .now) (a .second .now) (length (a .sum .now)) (digits i) (t i .depth))
+    let t = known (c .before .before .before) in
+    c .row-check .ensures ∙ (λ i. rowCheck (a .first .now) (a .second .now) (length (a .sum .now)) (t .size i) (t .depth i))
 
-nothing : (c : tie.Else1) → rowCheck (c .before .before .before .before .before .before .before .before .before .before .before .before .args .first .now) (c .before .before .before .before .before .before .before .before .before .before .before .before .args .second .now) (length (c .before .before .before .before .before .before .before .before .before .before .before .before .args .sum .now)) (digitCount (c .before .before .before .before .before .before .before .before .before .before .before .before .args .table .now)) (tableFacts (c .before .before .before .before .before .before .before .before .before .before .before .before .args .table .now) .depth) .number ≡ 0
+nothing : (c : tie.Else1) → found (c .before .before .before .before .before .before .before .before .before .before .before .before) .number ≡ 0
 nothing c = ap (λ (r : Refusal). r .number) (sym (checked (c .before .before))) ∙ c .if1 .left
 
-fitting : (c : tie.Else1) → RowsFit (c .before .before .before .before .before .before .before .before .before .before .before .before .args .first .now) (c .before .before .before .before .before .before .before .before .before .before .before .before .args .second .now) (length (c .before .before .before .before .before .before .before .before .before .before .before .before .args .sum .now)) (digitCount (c .before .before .before .before .before .before .before .before .before .before .before .before .args .table .now)) (tableFacts (c .before .before .before .before .before .before .before .before .before .before .before .before .args .table .now) .depth)
-fitting c = rows-fit (c .before .before .before .before .before .before .before .before .before .before .before .before .args .first .now) (c .before .before .before .before .before .before .before .before .before .before .before .before .args .second .now) (length (c .before .before .before .before .before .before .before .before .before .before .before .before .args .sum .now)) (digitCount (c .before .before .before .before .before .before .before .before .before .before .before .before .args .table .now)) (tableFacts (c .before .before .before .before .before .before .before .before .before .before .before .before .args .table .now) .depth) (nothing c)
+fitting : (c : tie.Else1) → (let a = c .before .before .before .before .before .before .before .before .before .before .before .before .args in RowsFit (a .first .now) (a .second .now) (length (a .sum .now)) (digitCount (a .table .now)) (tableFacts (a .table .now) .depth))
+fitting c =
+    let a = c .before .before .before .before .before .before .before .before .before .before .before .before .args in
+    rows-fit (a .first .now) (a .second .now) (length (a .sum .now)) (digitCount (a .table .now)) (tableFacts (a .table .now) .depth) (nothing c)
 
 read-requires : tie.Need-read-requires
 read-requires c κs = search needs
@@ -60,7 +62,8 @@ returns-2 : tie.Need-returns-2
 returns-2 c =
     let a = c .before .before .before .before .before .before .before .before .before .before .before .args in
     let fault = c .before .answer3 .given .0 .0 in
-    let is = table-refused (a .table .now) (a .first .now) (a .second .now) (length (a .sum .now)) (whose fault) (numberOf fault) (placeOf fault) (sym (ap readAs (c .before .answer3 .given .1)) ∙ sym (ap readAs (c .before .before .before .before .answer2 .given .1)) ∙ c .before .before .before .before .before .before .read .ensures) in
+    let told = sym (ap readAs (c .before .answer3 .given .1)) ∙ sym (ap readAs (c .before .before .before .before .answer2 .given .1)) ∙ c .before .before .before .before .before .before .read .ensures in
+    let is = table-refused (a .table .now) (a .first .now) (a .second .now) (length (a .sum .now)) (whose fault) (numberOf fault) (placeOf fault) told in
     (is, sum-lent (a .table .now) (a .first .now) (a .second .now) (a .sum .now) (whose fault) (numberOf fault) (placeOf fault) is)
 
 row-check-requires : tie.Need-row-check-requires
@@ -70,19 +73,19 @@ returns-3 : tie.Need-returns-3
 returns-3 c =
     let a = c .before .before .before .before .before .before .before .before .before .before .before .before .args in
     let found = c .before .before .row-check .result in
-    let is = rows-refused (a .table .now) (a .first .now) (a .second .now) (length (a .sum .now)) found (known (c .before .before .before .before .before) .0) (checked (c .before .before)) (c .if1 .taken) in
+    let is = rows-refused (a .table .now) (a .first .now) (a .second .now) (length (a .sum .now)) found (known (c .before .before .before .before .before) .passes) (checked (c .before .before)) (c .if1 .taken) in
     (is, sum-lent (a .table .now) (a .first .now) (a .second .now) (a .sum .now) rows (found .number) (found .place) is)
 
 add-add-rows : tie.Need-add-add-rows
 add-add-rows c =
     let a = c .before .before .before .before .before .before .before .before .before .before .before .before .before .args in
     let facts = known (c .before .before .before .before .before .before) in
-    omega (arith, ap (λ (t : Table). t .depth) (facts .1), few-places (a .table .now) (a .first .now) (a .second .now) (length (a .sum .now)) (facts .0) (fitting (c .before)))
+    omega (arith, facts .depth, few-places (a .table .now) (a .first .now) (a .second .now) (length (a .sum .now)) (facts .passes) (fitting (c .before)))
 
 add-rows-requires : tie.Need-add-rows-requires
 add-rows-requires c κs =
     let facts = known (c .before .before .before .before .before .before .before) in
-    (facts .0, fitting (c .before .before), λ i. length (c .before .before .before .before .before .before .before .before .before .before .before .before .before .before .args .first .now) + facts .1 i .depth)
+    (facts .passes, (fitting (c .before .before), λ i. length (c .before .before .before .before .before .before .before .before .before .before .before .before .before .before .args .first .now) + facts .depth i))
 
 same-length : tie.Need-same-length
 same-length c = search needs
@@ -90,7 +93,7 @@ same-length c = search needs
 returns-4 : tie.Need-returns-4
 returns-4 c =
     let a = c .before .before .before .before .before .before .before .before .before .before .before .before .before .before .before .before .before .args in
-    let is = rows-passed (a .table .now) (a .first .now) (a .second .now) (length (a .sum .now)) (known (c .before .before .before .before .before .before .before .before .before .before) .0) (nothing (c .before .before .before .before .before)) in
+    let is = rows-passed (a .table .now) (a .first .now) (a .second .now) (length (a .sum .now)) (known (c .before .before .before .before .before .before .before .before .before .before) .passes) (nothing (c .before .before .before .before .before)) in
     (c .before .before .add-rows .ensures .0 ∙ is, c .before .before .add-rows .ensures .1 ∙ sum-by (a .table .now) (a .first .now) (a .second .now) (a .sum .now) is)
 
 pub add-spec : {M : Type 1} → statement M

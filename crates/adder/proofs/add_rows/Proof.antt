@@ -20,29 +20,37 @@ use Rattle.adder.proofs.add_rows.Statement.{statement}
 use Rattle.adder.proofs.add_rows.Tie as tie
 
 -- the row of input indexes, from the place where it was made
-held : (c : tie.After-inputs-of) → Inputs (inputCount (c .before .before .before .before .before .before .args .table .now)) (c .inputs-of .result) × ((k : ℕ) → getD (c .inputs-of .result) k 0 ≡ getD (inputRow (c .before .before .before .before .before .before .args .table .now) (c .before .before .before .before .before .before .args .first .now) (c .before .before .before .before .before .before .args .second .now)) k 0)
+held : (c : tie.After-inputs-of) → (let a = c .before .before .before .before .before .before .args in Inputs (inputCount (a .table .now)) (c .inputs-of .result) × ((k : ℕ) → getD (c .inputs-of .result) k 0 ≡ getD (inputRow (a .table .now) (a .first .now) (a .second .now)) k 0))
 held c =
-    let a = c .before .before .before .before .before .before .args in
-    row-held (a .table .now) (a .first .now) (a .second .now) (length (a .sum .now)) (c .before .before .before .before .before .before .pre .0) (c .before .before .before .before .before .before .pre .1) (c .before .no-change .result) (c .inputs-of .result) (c .before .no-change .ensures) (c .inputs-of .ensures)
+    let s = c .before .before .before .before .before .before in
+    let a = s .args in
+    row-held (a .table .now) (a .first .now) (a .second .now) (length (a .sum .now)) (s .pre .0) (s .pre .1 .0) (c .before .no-change .result) (c .inputs-of .result) (c .before .no-change .ensures) (c .inputs-of .ensures)
 
 room : (s : tie.Start) → placeCount (s .args .table .now) (s .args .first .now) ≤ 264
-room s = few-places (s .args .table .now) (s .args .first .now) (s .args .second .now) (length (s .args .sum .now)) (s .pre .0) (s .pre .1)
+room s = few-places (s .args .table .now) (s .args .first .now) (s .args .second .now) (length (s .args .sum .now)) (s .pre .0) (s .pre .1 .0)
 
 -- the local array keeps its length
 long : (c : tie.After-digits-of) → length (c .digits-of .last .1 .1 .1 .1 .0) ≡ 264
 long c =
-    let a = c .before .before .before .before .before .before .before .before .before .args in
-    ap length (c .digits-of .ensures .1) ∙ digits-room (a .table .now) (a .first .now) (a .second .now) (c .before .before .before .inputs-of .result) (held (c .before .before .before) .1) (a .places) (c .before .before .before .before .before .before .before .before .before .pre .2) (c .digits-of .result) (c .digits-of .ensures .0) (replicate 264 0) (omega (arith, length-replicate {A = ℕ} 264 0, c .before .before .before .before .before .before .before .before .before .pre .2, room (c .before .before .before .before .before .before .before .before .before))) ∙ length-replicate {A = ℕ} 264 0
+    let s = c .before .before .before .before .before .before .before .before .before in
+    let a = s .args in
+    let row = c .before .before .before .inputs-of .result in
+    let d = c .digits-of in
+    ap length (d .ensures .1) ∙ digits-room (a .table .now) (a .first .now) (a .second .now) row (held (c .before .before .before) .1) (a .places) (s .pre .1 .1) (d .result) (d .ensures .0) (replicate 264 0) (omega (arith, length-replicate {A = ℕ} 264 0, s .pre .1 .1, room s)) ∙ length-replicate {A = ℕ} 264 0
 
 no-change-requires : tie.Need-no-change-requires
 no-change-requires c κs = search needs
 
 inputs-of-requires : tie.Need-inputs-of-requires
 inputs-of-requires c κs =
-    let a = c .before .before .before .before .before .args in
-    let fit = c .before .before .before .before .before .pre .1 in
+    let s = c .before .before .before .before .before in
+    let a = s .args in
+    let fit = s .pre .1 .0 in
     let size = digitCount (a .table .now) in
-    (c .before .before .before .before .before .pre .0, omega arith, fit .short, read-unchanged size 0 (c .no-change .result) (a .first .now) (c .no-change .ensures) (lit< tt) (fit .first-indexes), λ k h. read-unchanged size 1 (c .no-change .result) (a .second .now) (c .no-change .ensures) (lit< tt) (fit .second-indexes) k (omega (arith, fit .same-length)))
+    let none = c .no-change in
+    let first = read-unchanged size 0 (none .result) (a .first .now) (none .ensures) (lit< tt) (fit .first-indexes) in
+    let second = read-unchanged size 1 (none .result) (a .second .now) (none .ensures) (lit< tt) (fit .second-indexes) in
+    (s .pre .0, (omega arith, fit .short, first, λ k h. second k (omega (arith, fit .same-length))))
 
 slice-aggregate-digits-of : tie.Need-slice-aggregate-digits-of
 slice-aggregate-digits-of c = search needs
@@ -52,37 +60,51 @@ slice-aggregate-digits-of-2 c = search needs
 
 digits-of-requires : tie.Need-digits-of-requires
 digits-of-requires c κs =
-    let s = (c .before .before) in
-    (c .before .before .before .before .before .before .before .before .pre .0, held s .0, omega (arith, c .before .before .before .before .before .before .before .before .pre .2, room (c .before .before .before .before .before .before .before .before)), omega (arith, c .before .before .before .before .before .before .before .before .pre .2, room (c .before .before .before .before .before .before .before .before)))
+    let s = c .before .before .before .before .before .before .before .before in
+    (s .pre .0, (held (c .before .before) .0, (omega (arith, s .pre .1 .1, room s), omega (arith, s .pre .1 .1, room s))))
 
 returns : tie.Need-returns
 returns c =
-    let a = c .before .before .before .before .before .before .before .before .before .before .before .args in
+    let s = c .before .before .before .before .before .before .before .before .before .before .before in
+    let a = s .args in
     let d = c .before .before .digits-of in
-    let is = digits-refused (a .table .now) (a .first .now) (a .second .now) (c .before .before .before .before .before .inputs-of .result) (held (c .before .before .before .before .before) .1) (a .places) (c .before .before .before .before .before .before .before .before .before .before .before .pre .2) (d .result) (d .ensures .0) (c .if1 .taken) in
+    let row = c .before .before .before .before .before .inputs-of .result in
+    let is = digits-refused (a .table .now) (a .first .now) (a .second .now) row (held (c .before .before .before .before .before) .1) (a .places) (s .pre .1 .1) (d .result) (d .ensures .0) (c .if1 .taken) in
     (is, exit-lent (digitsOutcome (a .table .now) (a .first .now) (a .second .now)) author 27 (d .result) (a .sum .now) (overwrite (a .sum .now) 0 (sumRow (a .table .now) (a .first .now) (a .second .now))) is)
 
 array-share-prefix-digits : tie.Need-array-share-prefix-digits
-array-share-prefix-digits c = omega (arith, long (c .before .before .before), c .before .before .before .before .before .before .before .before .before .before .before .before .pre .2, room (c .before .before .before .before .before .before .before .before .before .before .before .before))
+array-share-prefix-digits c =
+    let s = c .before .before .before .before .before .before .before .before .before .before .before .before in
+    omega (arith, long (c .before .before .before), s .pre .1 .1, room s)
 
 slice-aggregate-put : tie.Need-slice-aggregate-put
-slice-aggregate-put c = sym (length-take-le (c .before .before .before .before .before .before .before .before .before .before .before .before .before .args .places) (c .before .before .before .before .digits-of .last .1 .1 .1 .1 .0) (omega (arith, long (c .before .before .before .before), c .before .before .before .before .before .before .before .before .before .before .before .before .before .pre .2, room (c .before .before .before .before .before .before .before .before .before .before .before .before .before))))
+slice-aggregate-put c =
+    let s = c .before .before .before .before .before .before .before .before .before .before .before .before .before in
+    sym (length-take-le (s .args .places) (c .before .before .before .before .digits-of .last .1 .1 .1 .1 .0) (omega (arith, long (c .before .before .before .before), s .pre .1 .1, room s)))
 
 put-requires : tie.Need-put-requires
 put-requires c κs =
-    omega (arith, length-take-le (c .before .before .before .before .before .before .before .before .before .before .before .before .before .args .places) (c .before .before .before .before .digits-of .last .1 .1 .1 .1 .0) (omega (arith, long (c .before .before .before .before), c .before .before .before .before .before .before .before .before .before .before .before .before .before .pre .2, room (c .before .before .before .before .before .before .before .before .before .before .before .before .before))), c .before .before .before .before .before .before .before .before .before .before .before .before .before .pre .2, c .before .before .before .before .before .before .before .before .before .before .before .before .before .pre .1 .room)
+    let s = c .before .before .before .before .before .before .before .before .before .before .before .before .before in
+    let taken = length-take-le (s .args .places) (c .before .before .before .before .digits-of .last .1 .1 .1 .1 .0) (omega (arith, long (c .before .before .before .before), s .pre .1 .1, room s)) in
+    omega (arith, taken, s .pre .1 .1, s .pre .1 .0 .room)
 
 same-length : tie.Need-same-length
 same-length c = search needs
 
 returns-2 : tie.Need-returns-2
 returns-2 c =
-    let a = c .before .before .before .before .before .before .before .before .before .before .before .before .before .before .before .before .args in
+    let s = c .before .before .before .before .before .before .before .before .before .before .before .before .before .before .before .before in
+    let a = s .args in
     let d = c .before .before .before .before .before .before .before .digits-of in
+    let inputs = c .before .before .before .before .before .before .before .before .before .before .inputs-of .result in
     let row = held (c .before .before .before .before .before .before .before .before .before .before) .1 in
-    let is = digits-given (a .table .now) (a .first .now) (a .second .now) (c .before .before .before .before .before .before .before .before .before .before .inputs-of .result) row (a .places) (c .before .before .before .before .before .before .before .before .before .before .before .before .before .before .before .before .pre .2) (d .result) (d .ensures .0) (c .before .before .before .before .before .if1 .left) in
-    let bytes = ap (take (a .places)) (d .ensures .1) ∙ digits-found (a .table .now) (a .first .now) (a .second .now) (c .before .before .before .before .before .before .before .before .before .before .inputs-of .result) row (a .places) (c .before .before .before .before .before .before .before .before .before .before .before .before .before .before .before .before .pre .2) (d .result) (d .ensures .0) (replicate 264 0) (c .before .before .before .before .before .if1 .left) in
-    (is, c .before .before .put .ensures .1 ∙ ap (overwrite (a .sum .now) 0) bytes ∙ exit-written (digitsOutcome (a .table .now) (a .first .now) (a .second .now)) (record { places = a .places }) (a .sum .now) (overwrite (a .sum .now) 0 (sumRow (a .table .now) (a .first .now) (a .second .now))) is)
+    let none = c .before .before .before .before .before .if1 .left in
+    let is = digits-given (a .table .now) (a .first .now) (a .second .now) inputs row (a .places) (s .pre .1 .1) (d .result) (d .ensures .0) none in
+    let found = digits-found (a .table .now) (a .first .now) (a .second .now) inputs row (a .places) (s .pre .1 .1) (d .result) (d .ensures .0) (replicate 264 0) none in
+    let bytes = ap (take (a .places)) (d .ensures .1) ∙ found in
+    let outcome = digitsOutcome (a .table .now) (a .first .now) (a .second .now) in
+    let written = overwrite (a .sum .now) 0 (sumRow (a .table .now) (a .first .now) (a .second .now)) in
+    (is, c .before .before .put .ensures .1 ∙ ap (overwrite (a .sum .now) 0) bytes ∙ exit-written outcome (record { places = a .places }) (a .sum .now) written is)
 
 pub add-rows-spec : {M : Type 1} → statement M
 add-rows-spec =

@@ -38,11 +38,16 @@ section-requires-5 c κs = (directory-kept (c .before .before .before .before .b
 
 convert-requires : tie.Need-convert-requires
 convert-requires c κs =
-    let file = c .before .before .before .before .before .before .before .before .before .before .args .table .now in
-    let row = c .before .before .before .before .before .before .before .before .before .before .args .row .now in
-    let given = c .before .before .before .before .before .before .before .before .before .before .pre .0 in
-    let all = c .before .before .before .before .before .before .before .before .before .before .pre .1 in
-    (base-small file given _ _ (c .before .before .before .before .before .base-of .ensures) (c .before .before .before .before .before .before .section .ensures), omega (arith, few-digits file given _ (c .before .before .before .before .section2 .ensures)), few-inputs file given _ (c .before .before .before .section3 .ensures) .0, inputs-in file given _ row (c .before .before .before .section3 .ensures) all, windows-begun file given _ _ row (c .before .before .section4 .ensures) (c .before .section5 .ensures) all, c .before .before .before .before .before .before .before .before .before .before .pre .2, c .before .before .before .before .before .before .before .before .before .before .pre .3)
+    let s = c .before .before .before .before .before .before .before .before .before .before in
+    let file = s .args .table .now in
+    let row = s .args .row .now in
+    let given = s .pre .0 in
+    let all = s .pre .1 .0 in
+    let small = base-small file given _ _ (c .before .before .before .before .before .base-of .ensures) (c .before .before .before .before .before .before .section .ensures) in
+    let digits = few-digits file given _ (c .before .before .before .before .section2 .ensures) in
+    let inputs = c .before .before .before .section3 .ensures in
+    let begun = windows-begun file given _ _ row (c .before .before .section4 .ensures) (c .before .section5 .ensures) all in
+    (small, omega (arith, digits), few-inputs file given _ inputs .0, inputs-in file given _ row inputs all, begun, s .pre .1 .1 .0, s .pre .1 .1 .1)
 
 same-length : tie.Need-same-length
 same-length c = search needs
@@ -52,7 +57,14 @@ unfolding rowPart
 returns c =
     let a = c .before .before .before .before .before .before .before .before .before .before .before .before .before .args in
     let base = c .before .before .before .before .before .before .before .before .base-of .ensures ∙ ap baseMatrix (c .before .before .before .before .before .before .before .before .before .section .ensures) in
-    (c .before .before .convert .ensures .0 ∙ (λ i. firstFailing (λ k. digitAllowed (elements degree (base i)) (c .before .before .before .before .before .before .before .section2 .ensures i) (c .before .before .before .before .before .before .section3 .ensures i) (c .before .before .before .before .before .section4 .ensures i) (c .before .before .before .before .section5 .ensures i) (a .row .now) (a .from + k)) 0 (a .count)), c .before .before .convert .ensures .1 ∙ (λ i. overwrite (a .out .now) 0 (span (λ k. indexAt (elements degree (base i)) (c .before .before .before .before .before .before .before .section2 .ensures i) (c .before .before .before .before .before .before .section3 .ensures i) (c .before .before .before .before .before .section4 .ensures i) (c .before .before .before .before .section5 .ensures i) (a .row .now) (a .from + k)) 0 (c .before .before .convert .result))))
+    let alphabet = c .before .before .before .before .before .before .before .section2 .ensures in
+    let inputs = c .before .before .before .before .before .before .section3 .ensures in
+    let leaves = c .before .before .before .before .before .section4 .ensures in
+    let words = c .before .before .before .before .section5 .ensures in
+    let done = c .before .before .convert in (
+      done .ensures .0 ∙ (λ i. firstFailing (λ k. digitAllowed (elements degree (base i)) (alphabet i) (inputs i) (leaves i) (words i) (a .row .now) (a .from + k)) 0 (a .count)),
+      done .ensures .1 ∙ (λ i. overwrite (a .out .now) 0 (span (λ k. indexAt (elements degree (base i)) (alphabet i) (inputs i) (leaves i) (words i) (a .row .now) (a .from + k)) 0 (done .result))),
+    )
 
 pub digits-of-spec : {M : Type 1} → statement M
 digits-of-spec =

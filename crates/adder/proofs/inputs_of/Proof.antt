@@ -17,9 +17,11 @@ section-requires-2 c κs = (directory-kept (c .before .before .before .before .a
 
 input-row-requires : tie.Need-input-row-requires
 input-row-requires c κs =
-    let file = c .before .before .before .before .before .args .table .now in
-    let size = digits-counted file (c .before .before .before .before .before .pre .0) _ (c .before .section .ensures) in
-    (c .before .before .before .before .before .pre .1, c .before .before .before .before .before .pre .2, omega (arith, few-inputs file (c .before .before .before .before .before .pre .0) _ (c .section2 .ensures) .1), λ k h. omega (arith, size, c .before .before .before .before .before .pre .3 k h), λ k h. omega (arith, size, c .before .before .before .before .before .pre .4 k h), few-digits file (c .before .before .before .before .before .pre .0) _ (c .before .section .ensures))
+    let s = c .before .before .before .before .before in
+    let file = s .args .table .now in
+    let part = s .pre .1 in
+    let size = digits-counted file (s .pre .0) _ (c .before .section .ensures) in
+    (part .0, part .1, omega (arith, few-inputs file (s .pre .0) _ (c .section2 .ensures) .1), λ k h. omega (arith, size, part .2 k h), λ k h. omega (arith, size, part .3 k h), few-digits file (s .pre .0) _ (c .before .section .ensures))
 
 returns : tie.Need-returns
 returns c =

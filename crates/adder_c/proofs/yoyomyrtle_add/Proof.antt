@@ -52,7 +52,14 @@ returns-2 c =
     let o = addOutcome (a .table .now) (a .first .now) (a .second .now) (length (a .sum .now)) in
     let sum = addSum (a .table .now) (a .first .now) (a .second .now) (a .sum .now) in
     let f = c .before .before .before .before .before .before .outcome .given .0 .0 in
-    (with-facts addWords o (a .answer .now) f 0 (c .before .put .last .0) (c .before .before .before .before .before .before .before .before .before .before .before .before .if1 .left) (sym (c .before .before .before .before .before .before .before .before .before .before .add .ensures .0) ∙ ap outcomeOf (c .before .before .before .before .before .before .outcome .given .1)) refl (c .before .put .ensures ∙ ap (overwrite (a .answer .now) 0) (cons≡ refl (cons≡ (kept (c .before .before .before .word .result) (f .places) (c .before .before .before .word .ok) (c .before .before .before .word .ensures)) refl))), c .before .before .before .before .before .before .before .before .before .before .add .ensures .1 ∙ some-room 8 (length (a .answer .now)) sum (a .sum .now) (c .before .before .before .before .before .before .before .before .before .before .before .before .if1 .left))
+    let room = c .before .before .before .before .before .before .before .before .before .before .before .before .if1 .left in
+    let add = c .before .before .before .before .before .before .before .before .before .before .add .ensures in
+    let is = sym (add .0) ∙ ap outcomeOf (c .before .before .before .before .before .before .outcome .given .1) in
+    let places = c .before .before .before .word in
+    let words = cons≡ refl (cons≡ (kept (places .result) (f .places) (places .ok) (places .ensures)) refl) in (
+      with-facts addWords o (a .answer .now) f 0 (c .before .put .last .0) room is refl (c .before .put .ensures ∙ ap (overwrite (a .answer .now) 0) words),
+      add .1 ∙ some-room 8 (length (a .answer .now)) sum (a .sum .now) room,
+    )
 
 same-length-3 : tie.Need-same-length-3
 same-length-3 c = search needs
@@ -65,7 +72,14 @@ returns-3 c =
     let a = c .before .before .before .before .before .before .before .before .before .before .before .before .before .before .before .args in
     let o = addOutcome (a .table .now) (a .first .now) (a .second .now) (length (a .sum .now)) in
     let sum = addSum (a .table .now) (a .first .now) (a .second .now) (a .sum .now) in
-    (with-fault addWords o (a .answer .now) (c .before .before .before .before .outcome2 .given .0 .0) _ (c .before .refuse .last .0) (c .before .before .before .before .before .before .before .before .before .before .if1 .left) (sym (c .before .before .before .before .before .before .before .before .add .ensures .0) ∙ ap outcomeOf (c .before .before .before .before .outcome2 .given .1)) (c .before .refuse .ensures .0) (c .before .refuse .ensures .1), c .before .before .before .before .before .before .before .before .add .ensures .1 ∙ some-room 8 (length (a .answer .now)) sum (a .sum .now) (c .before .before .before .before .before .before .before .before .before .before .if1 .left))
+    let fault = c .before .before .before .before .outcome2 in
+    let room = c .before .before .before .before .before .before .before .before .before .before .if1 .left in
+    let add = c .before .before .before .before .before .before .before .before .add .ensures in
+    let is = sym (add .0) ∙ ap outcomeOf (fault .given .1) in
+    let refuse = c .before .refuse in (
+      with-fault addWords o (a .answer .now) (fault .given .0 .0) _ (refuse .last .0) room is (refuse .ensures .0) (refuse .ensures .1),
+      add .1 ∙ some-room 8 (length (a .answer .now)) sum (a .sum .now) room,
+    )
 
 pub yoyomyrtle-add-spec : {M : Type 1} → statement M
 yoyomyrtle-add-spec =

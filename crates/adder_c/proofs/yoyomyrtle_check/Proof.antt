@@ -46,16 +46,27 @@ same-length c = search needs
 
 returns-2 : tie.Need-returns-2
 returns-2 c =
+    let a = c .before .before .before .before .before .before .before .before .before .before .before .before .before .args in
     let f = c .before .before .before .before .before .before .before .before .outcome .given .0 .0 in
-    with-facts checkWords (checkOutcome (c .before .before .before .before .before .before .before .before .before .before .before .before .before .args .file .now)) (c .before .before .before .before .before .before .before .before .before .before .before .before .before .args .answer .now) f 0 (c .before .put .last .0) (c .before .before .before .before .before .before .before .before .before .before .before .if1 .left) (sym (c .before .before .before .before .before .before .before .before .before .before .check .ensures) ∙ ap outcomeOf (c .before .before .before .before .before .before .before .before .outcome .given .1)) refl (c .before .put .ensures ∙ ap (overwrite (c .before .before .before .before .before .before .before .before .before .before .before .before .before .args .answer .now) 0) (cons≡ refl (cons≡ (kept (c .before .before .before .before .before .word .result) (f .depth) (c .before .before .before .before .before .word .ok) (c .before .before .before .before .before .word .ensures)) (cons≡ (kept (c .before .before .before .before .word2 .result) (f .leaves) (c .before .before .before .before .word2 .ok) (c .before .before .before .before .word2 .ensures)) (cons≡ (kept (c .before .before .before .word3 .result) (f .digits) (c .before .before .before .word3 .ok) (c .before .before .before .word3 .ensures)) refl)))))
+    let room = c .before .before .before .before .before .before .before .before .before .before .before .if1 .left in
+    let is = sym (c .before .before .before .before .before .before .before .before .before .before .check .ensures) ∙ ap outcomeOf (c .before .before .before .before .before .before .before .before .outcome .given .1) in
+    let depth = c .before .before .before .before .before .word in
+    let leaves = c .before .before .before .before .word2 in
+    let digits = c .before .before .before .word3 in
+    let tail = cons≡ (kept (leaves .result) (f .leaves) (leaves .ok) (leaves .ensures)) (cons≡ (kept (digits .result) (f .digits) (digits .ok) (digits .ensures)) refl) in
+    let words = cons≡ refl (cons≡ (kept (depth .result) (f .depth) (depth .ok) (depth .ensures)) tail) in
+    with-facts checkWords (checkOutcome (a .file .now)) (a .answer .now) f 0 (c .before .put .last .0) room is refl (c .before .put .ensures ∙ ap (overwrite (a .answer .now) 0) words)
 
 same-length-2 : tie.Need-same-length-2
 same-length-2 c = search needs
 
 returns-3 : tie.Need-returns-3
 returns-3 c =
-    let f = c .before .before .before .before .outcome2 .given .0 .0 in
-    with-fault checkWords (checkOutcome (c .before .before .before .before .before .before .before .before .before .args .file .now)) (c .before .before .before .before .before .before .before .before .before .args .answer .now) f _ (c .before .refuse .last .0) (c .before .before .before .before .before .before .before .if1 .left) (sym (c .before .before .before .before .before .before .check .ensures) ∙ ap outcomeOf (c .before .before .before .before .outcome2 .given .1)) (c .before .refuse .ensures .0) (c .before .refuse .ensures .1)
+    let a = c .before .before .before .before .before .before .before .before .before .args in
+    let fault = c .before .before .before .before .outcome2 in
+    let is = sym (c .before .before .before .before .before .before .check .ensures) ∙ ap outcomeOf (fault .given .1) in
+    let refuse = c .before .refuse in
+    with-fault checkWords (checkOutcome (a .file .now)) (a .answer .now) (fault .given .0 .0) _ (refuse .last .0) (c .before .before .before .before .before .before .before .if1 .left) is (refuse .ensures .0) (refuse .ensures .1)
 
 pub yoyomyrtle-check-spec : {M : Type 1} → statement M
 yoyomyrtle-check-spec =

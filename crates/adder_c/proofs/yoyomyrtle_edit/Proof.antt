@@ -61,7 +61,14 @@ returns-2 c =
     let o = editOutcome (a .table .now) (record { row = a .row; place = a .place; digit = a .digit }) s in
     let left = editState (a .table .now) (record { row = a .row; place = a .place; digit = a .digit }) s in
     let f = c .before .before .before .before .before .before .outcome .given .0 .0 in
-    (with-facts editWords o (a .answer .now) f 0 (c .before .put .last .0) (c .before .before .before .before .before .before .before .before .before .before .before .before .before .before .before .before .before .before .if1 .left) (sym (c .before .before .before .before .before .before .before .before .before .before .before .before .before .before .edit .ensures .0) ∙ ap outcomeOf (c .before .before .before .before .before .before .outcome .given .1)) refl (c .before .put .ensures ∙ ap (overwrite (a .answer .now) 0) (cons≡ refl (cons≡ (kept (c .before .before .before .word .result) (f .count) (c .before .before .before .word .ok) (c .before .before .before .word .ensures)) refl))), c .before .before .before .before .before .before .before .before .before .before .before .before .before .before .edit .ensures .1 ∙ some-room 8 (length (a .answer .now)) left s (c .before .before .before .before .before .before .before .before .before .before .before .before .before .before .before .before .before .before .if1 .left))
+    let room = c .before .before .before .before .before .before .before .before .before .before .before .before .before .before .before .before .before .before .if1 .left in
+    let edit = c .before .before .before .before .before .before .before .before .before .before .before .before .before .before .edit .ensures in
+    let is = sym (edit .0) ∙ ap outcomeOf (c .before .before .before .before .before .before .outcome .given .1) in
+    let count = c .before .before .before .word in
+    let words = cons≡ refl (cons≡ (kept (count .result) (f .count) (count .ok) (count .ensures)) refl) in (
+      with-facts editWords o (a .answer .now) f 0 (c .before .put .last .0) room is refl (c .before .put .ensures ∙ ap (overwrite (a .answer .now) 0) words),
+      edit .1 ∙ some-room 8 (length (a .answer .now)) left s room,
+    )
 
 same-length-5 : tie.Need-same-length-5
 same-length-5 c = search needs
@@ -81,7 +88,14 @@ returns-3 c =
     let s : State = state (a .first .now) (a .second .now) (a .sum .now) in
     let o = editOutcome (a .table .now) (record { row = a .row; place = a .place; digit = a .digit }) s in
     let left = editState (a .table .now) (record { row = a .row; place = a .place; digit = a .digit }) s in
-    (with-fault editWords o (a .answer .now) (c .before .before .before .before .outcome2 .given .0 .0) _ (c .before .refuse .last .0) (c .before .before .before .before .before .before .before .before .before .before .before .before .before .before .before .before .if1 .left) (sym (c .before .before .before .before .before .before .before .before .before .before .before .before .edit .ensures .0) ∙ ap outcomeOf (c .before .before .before .before .outcome2 .given .1)) (c .before .refuse .ensures .0) (c .before .refuse .ensures .1), c .before .before .before .before .before .before .before .before .before .before .before .before .edit .ensures .1 ∙ some-room 8 (length (a .answer .now)) left s (c .before .before .before .before .before .before .before .before .before .before .before .before .before .before .before .before .if1 .left))
+    let fault = c .before .before .before .before .outcome2 in
+    let room = c .before .before .before .before .before .before .before .before .before .before .before .before .before .before .before .before .if1 .left in
+    let edit = c .before .before .before .before .before .before .before .before .before .before .before .before .edit .ensures in
+    let is = sym (edit .0) ∙ ap outcomeOf (fault .given .1) in
+    let refuse = c .before .refuse in (
+      with-fault editWords o (a .answer .now) (fault .given .0 .0) _ (refuse .last .0) room is (refuse .ensures .0) (refuse .ensures .1),
+      edit .1 ∙ some-room 8 (length (a .answer .now)) left s room,
+    )
 
 pub yoyomyrtle-edit-spec : {M : Type 1} → statement M
 yoyomyrtle-edit-spec =

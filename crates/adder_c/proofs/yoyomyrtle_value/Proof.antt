@@ -32,14 +32,22 @@ same-length c = search needs
 
 returns-2 : tie.Need-returns-2
 returns-2 c =
-    with-facts elementWords (valueOutcome (c .before .before .before .before .before .before .before .before .before .before .args .table .now) (c .before .before .before .before .before .before .before .before .before .before .args .row .now)) (c .before .before .before .before .before .before .before .before .before .before .args .answer .now) (parts (c .before .before .before .before .outcome .given .0 .0)) _ (c .before .put-element .last .0) (c .before .before .before .before .before .before .before .if1 .left) (sym (c .before .before .before .before .before .before .value .ensures) ∙ ap valuedAs (c .before .before .before .before .outcome .given .1)) (c .before .put-element .ensures .0) (c .before .put-element .ensures .1)
+    let a = c .before .before .before .before .before .before .before .before .before .before .args in
+    let x = c .before .before .before .before .outcome in
+    let is = sym (c .before .before .before .before .before .before .value .ensures) ∙ ap valuedAs (x .given .1) in
+    let put = c .before .put-element in
+    with-facts elementWords (valueOutcome (a .table .now) (a .row .now)) (a .answer .now) (parts (x .given .0 .0)) _ (put .last .0) (c .before .before .before .before .before .before .before .if1 .left) is (put .ensures .0) (put .ensures .1)
 
 same-length-2 : tie.Need-same-length-2
 same-length-2 c = search needs
 
 returns-3 : tie.Need-returns-3
 returns-3 c =
-    with-fault elementWords (valueOutcome (c .before .before .before .before .before .before .before .before .before .before .args .table .now) (c .before .before .before .before .before .before .before .before .before .before .args .row .now)) (c .before .before .before .before .before .before .before .before .before .before .args .answer .now) (c .before .before .before .before .outcome2 .given .0 .0) _ (c .before .refuse .last .0) (c .before .before .before .before .before .before .before .if1 .left) (sym (c .before .before .before .before .before .before .value .ensures) ∙ ap valuedAs (c .before .before .before .before .outcome2 .given .1)) (c .before .refuse .ensures .0) (c .before .refuse .ensures .1)
+    let a = c .before .before .before .before .before .before .before .before .before .before .args in
+    let fault = c .before .before .before .before .outcome2 in
+    let is = sym (c .before .before .before .before .before .before .value .ensures) ∙ ap valuedAs (fault .given .1) in
+    let refuse = c .before .refuse in
+    with-fault elementWords (valueOutcome (a .table .now) (a .row .now)) (a .answer .now) (fault .given .0 .0) _ (refuse .last .0) (c .before .before .before .before .before .before .before .if1 .left) is (refuse .ensures .0) (refuse .ensures .1)
 
 pub yoyomyrtle-value-spec : {M : Type 1} → statement M
 yoyomyrtle-value-spec =

@@ -1,7 +1,7 @@
 -- The edits one by one: after i of them the buffers and the answers are those of the first i of the list.
 use Rattle.runner_rules.specs.Told.{toldOf}
 use mathlib.Core.Path.{_≡_, refl, ap, subst, _∙_}
-use Prim.Native.Nat.{ℕ, _-_, _≤_}
+use Prim.Native.Nat.{ℕ, _+_, _-_, _≤_, _<_}
 use native.Mathlib.Omega.{arith}
 use lib.ListN.{length, length-set}
 use Rattle.edit_rules.specs.State.{state}
@@ -75,10 +75,28 @@ loop-less c = omega arith
 
 loop-again : tie.Need-loop-again Inv-loop μ-loop
 loop-again c =
-    let a = c .before .before .before .before .before .before .before .before .before .before .before .before .before .before .before .before .before .before .before .before .before .before .before .before .before .before .args in
+    let start = c .before .before .before .before .before .before .before .before .before .before .before .before .before .before .before .before .before .before .before .before .before .before .before .before .before .before in
+    let a = start .args in
     let l = c .before .before .before .before .before .before .before .before .before .before .before .before .before .before .before .loop in
-    let next = after-next (a .rows .now) (a .places .now) (a .digits .now) (a .table .now) (state (a .first .now) (a .second .now) (a .sum .now)) (a .whose .now) (a .numbers .now) (a .values .now) (l .i) (state (l .first) (l .second) (l .sum)) _ (l .whose) (l .numbers) (l .values) (c .told-of .result) (l .inv .1) (omega arith) (omega arith) (omega arith) (c .told-of .ensures ∙ ap toldOf (c .before .before .before .before .before .before .before .edit .ensures .0)) (c .before .before .before .before .before .before .before .edit .ensures .1) in
-    (omega arith, next, c .before .before .before .before .before .before .first .given ∙ l .inv .2, c .before .before .before .before .second .given ∙ l .inv .3, c .before .before .sum .given ∙ l .inv .4, length-set (l .whose) (l .i) (c .told-of .result .whose) ∙ l .inv .5, length-set (l .numbers) (l .i) (c .told-of .result .number) ∙ l .inv .6, length-set (l .values) (l .i) (c .told-of .result .value) ∙ l .inv .7)
+    let more : l .i + 1 ≤ a .count = omega (arith, c .before .before .before .before .before .before .before .before .before .before .before .before .before .before .loop-test .taken) in
+    let in-whose : l .i < length (a .whose .now) = omega (arith, start .pre .1 .0) in
+    let in-numbers : l .i < length (a .numbers .now) = omega (arith, start .pre .1 .1) in
+    let in-values : l .i < length (a .values .now) = omega (arith, start .pre .1 .2) in
+    let edit = c .before .before .before .before .before .before .before .edit in
+    let told = c .told-of in
+    let lent = state (a .first .now) (a .second .now) (a .sum .now) in
+    let next = after-next (a .rows .now) (a .places .now) (a .digits .now) (a .table .now) lent (a .whose .now) (a .numbers .now) (a .values .now)
+    (l .i) (state (l .first) (l .second) (l .sum)) _ (l .whose) (l .numbers) (l .values) (told .result)
+    (l .inv .1) in-whose in-numbers in-values (told .ensures ∙ ap toldOf (edit .ensures .0)) (edit .ensures .1) in (
+      omega arith,
+      next,
+      c .before .before .before .before .before .before .first .given ∙ l .inv .2,
+      c .before .before .before .before .second .given ∙ l .inv .3,
+      c .before .before .sum .given ∙ l .inv .4,
+      length-set (l .whose) (l .i) (told .result .whose) ∙ l .inv .5,
+      length-set (l .numbers) (l .i) (told .result .number) ∙ l .inv .6,
+      length-set (l .values) (l .i) (told .result .value) ∙ l .inv .7,
+    )
 
 same-length : tie.Need-same-length Inv-loop μ-loop
 same-length c = c .before .loop .inv .2
@@ -103,7 +121,7 @@ returns c =
     let a = c .before .before .before .before .before .before .before .before .before .before .before .before .args in
     let l = c .before .loop in
     let so = subst (λ (n : ℕ). AfterEdits (a .rows .now) (a .places .now) (a .digits .now) (a .table .now) (state (a .first .now) (a .second .now) (a .sum .now)) (a .whose .now) (a .numbers .now) (a .values .now) n (state (l .first) (l .second) (l .sum)) (l .whose) (l .numbers) (l .values)) (all-called c) (l .inv .1) in
-    (so .buffers, so .groups, so .faults, so .counts)
+    (so .buffers, (so .groups, so .faults, so .counts))
 
 pub edit-each-spec : {M : Type 1} → statement M
 edit-each-spec =

@@ -1,3 +1,4 @@
+-- Where index 0 is the digit zero, the top bytes that are 0 are digits that are zero.
 use Rattle.digit_rules.specs.Record.{recordAt}
 use Rattle.ring.proofs.Element.{same→≡}
 use borrow.Author.Tests.{not-false}

@@ -24,7 +24,7 @@ abbrev μ-loop : tie.MeasureT-loop
 μ-loop base alphabet row total₀ left₀ total left = left
 
 -- what was computed at a place
-next-is : (c : tie.After-sum Inv-loop μ-loop) → c .sum .result ≡ nextTotal (c .before .before .before .before .before .before .before .before .args .base) (c .before .before .before .before .loop .total) (placeDigit (c .before .before .before .before .before .before .before .before .args .alphabet .now) (c .before .before .before .before .before .before .before .before .args .row .now) (c .before .before .before .before .loop .left - 1))
+next-is : (c : tie.After-sum Inv-loop μ-loop) → (let a = c .before .before .before .before .before .before .before .before .args in let l = c .before .before .before .before .loop in c .sum .result ≡ nextTotal (a .base) (l .total) (placeDigit (a .alphabet .now) (a .row .now) (l .left - 1)))
 next-is c = c .sum .ensures ∙ ap₂ plus (c .before .before .times-base .ensures .0) (c .before .digit-at .ensures .0)
 
 counted-places-requires : tie.Need-counted-places-requires Inv-loop μ-loop
@@ -33,7 +33,10 @@ counted-places-requires c κs = tt
 loop-holds : tie.Need-loop-holds Inv-loop μ-loop
 unfolding worthOf
 loop-holds c =
-    (c .counted-places .ensures .0, within-two totalLimit (pos 0) (pos 0) zero-le zero-le, zeros-passed (c .before .before .before .args .base) (placeDigit (c .before .before .before .args .alphabet .now) (c .before .before .before .args .row .now)) (search needs) (c .counted-places .result) (length (c .before .before .before .args .row .now)) (c .counted-places .ensures .0) (c .counted-places .ensures .1))
+    let a = c .before .before .before .args in
+    let left = c .counted-places in
+    let passed = zeros-passed (a .base) (placeDigit (a .alphabet .now) (a .row .now)) (search needs) (left .result) (length (a .row .now)) (left .ensures .0) (left .ensures .1) in
+    (left .ensures .0, within-two totalLimit (pos 0) (pos 0) zero-le zero-le, passed)
 
 sub-place : tie.Need-sub-place Inv-loop μ-loop
 sub-place c = omega arith

@@ -60,12 +60,27 @@ returns c =
     let a = c .before .before .before .before .before .before .before .before .before .before .before .before .before .before .before .before .before .before .before .before .before .before .before .before .before .before .before .before .before .before .before .before .before .before .before .before .before .before .before .before .args in
     let s = state (a .first .now) (a .second .now) (a .sum .now) in
     let m = editCount (a .rows .now) (a .places .now) (a .digits .now) (a .whose .now) (a .numbers .now) (a .values .now) in
-    let counted : c .before .before .before .before .before .before .before .before .before .before .before .before .before .before .before .before .before .before .before .before .before .before .before .before .before .before .before .lower-of .result ≡ m = c .before .before .before .before .before .before .before .before .before .before .before .before .before .before .before .before .before .before .before .before .before .before .before .before .before .before .before .lower-of .ensures ∙ ap₂ min (c .before .before .before .before .before .before .before .before .before .before .before .before .before .before .before .before .before .before .before .before .before .before .before .before .before .before .before .before .before .shortest-of .ensures) (c .before .before .before .before .before .before .before .before .before .before .before .before .before .before .before .before .before .before .before .before .before .before .before .before .before .before .before .before .shortest-of2 .ensures) in
-    let is = c .before .before .before .before .before .before .before .before .before .before .before .before .before .before .before .before .before .before .before .before .before .before .before .start .ensures .0 ∙ ap (runOutcome (a .table .now) s) (counted ∙ sym (length-edits (a .rows .now) (a .places .now) (a .digits .now) m)) in
-    let passed = sym (ap outcomeOf (c .before .before .before .before .before .before .before .before .before .before .before .before .before .before .before .before .before .before .before .enum-told .given .1)) in
-    let ran = edits-ran (a .table .now) s (a .rows .now) (a .places .now) (a .digits .now) m (c .before .before .before .before .before .before .before .before .before .before .before .before .before .before .before .before .before .before .before .before .before .before .before .before .before .before .before .lower-of .result) counted _ (c .before .before .before .before .before .before .before .before .before .before .before .before .before .before .before .before .before .before .before .before .before .before .before .start .ensures .1 ∙ sym (exit-written _ (c .before .before .before .before .before .before .before .before .before .before .before .before .before .before .before .before .before .before .before .enum-told .given .0 .0) (a .sum .now) _ passed)) (c .before .before .before .before .before .before .before .before .before .before .before .before .before .before .before .before .before .before .before .enum-told .given .0 .0) (passed ∙ is) in
-    let left = c .before .before .before .before .before .before .before .before .before .before .before .before .edit-each .ensures in
-    (is, left .0 ∙ ap (λ (r : Ran). r .buffers) ran, left .1 ∙ ap (λ (r : Ran). overwrite (a .whose .now) 0 (groupsOf (r .answers))) ran, left .2 ∙ ap (λ (r : Ran). overwrite (a .numbers .now) 0 (numbersOf (r .answers))) ran, left .3 ∙ ap (λ (r : Ran). overwrite (a .values .now) 0 (valuesOf (r .answers))) ran)
+    let listed = c .before .before .before .before .before .before .before .before .before .before .before .before .before .before .before .before .before .before .before .before .before .before .before .before .before .before .before .before .before .shortest-of in
+    let answered = c .before .before .before .before .before .before .before .before .before .before .before .before .before .before .before .before .before .before .before .before .before .before .before .before .before .before .before .before .shortest-of2 in
+    let count = c .before .before .before .before .before .before .before .before .before .before .before .before .before .before .before .before .before .before .before .before .before .before .before .before .before .before .before .lower-of in
+    let begun = c .before .before .before .before .before .before .before .before .before .before .before .before .before .before .before .before .before .before .before .before .before .before .before .start in
+    let edits = c .before .before .before .before .before .before .before .before .before .before .before .before .before .before .before .before .before .before .before .enum-told in
+    let counted : count .result ≡ m = count .ensures ∙ ap₂ min (listed .ensures) (answered .ensures) in
+    let is = begun .ensures .0 ∙ ap (runOutcome (a .table .now) s) (counted ∙ sym (length-edits (a .rows .now) (a .places .now) (a .digits .now) m)) in
+    let passed = sym (ap outcomeOf (edits .given .1)) in
+    let summed = begun .ensures .1 ∙ sym (exit-written _ (edits .given .0 .0) (a .sum .now) _ passed) in
+    let ran = edits-ran (a .table .now) s (a .rows .now) (a .places .now) (a .digits .now) m (count .result) counted _ summed (edits .given .0 .0) (passed ∙ is) in
+    let left = c .before .before .before .before .before .before .before .before .before .before .before .before .edit-each .ensures in (
+      is,
+      (
+        left .0 ∙ ap (λ (r : Ran). r .buffers) ran,
+        (
+          left .1 .0 ∙ ap (λ (r : Ran). overwrite (a .whose .now) 0 (groupsOf (r .answers))) ran,
+          left .1 .1 ∙ ap (λ (r : Ran). overwrite (a .numbers .now) 0 (numbersOf (r .answers))) ran,
+          left .1 .2 ∙ ap (λ (r : Ran). overwrite (a .values .now) 0 (valuesOf (r .answers))) ran,
+        ),
+      ),
+    )
 
 same-length-7 : tie.Need-same-length-7
 same-length-7 c = search needs
@@ -81,13 +96,25 @@ returns-2 c =
     let a = c .before .before .before .before .before .before .before .before .before .before .before .before .before .before .before .before .before .before .before .before .before .args in
     let s = state (a .first .now) (a .second .now) (a .sum .now) in
     let m = editCount (a .rows .now) (a .places .now) (a .digits .now) (a .whose .now) (a .numbers .now) (a .values .now) in
-    let counted : c .before .before .before .before .before .before .before .before .lower-of .result ≡ m = c .before .before .before .before .before .before .before .before .lower-of .ensures ∙ ap₂ min (c .before .before .before .before .before .before .before .before .before .before .shortest-of .ensures) (c .before .before .before .before .before .before .before .before .before .shortest-of2 .ensures) in
-    let is = c .before .before .before .before .start .ensures .0 ∙ ap (runOutcome (a .table .now) s) (counted ∙ sym (length-edits (a .rows .now) (a .places .now) (a .digits .now) m)) in
+    let count = c .before .before .before .before .before .before .before .before .lower-of in
+    let begun = c .before .before .before .before .start in
+    let counted : count .result ≡ m = count .ensures ∙ ap₂ min (c .before .before .before .before .before .before .before .before .before .before .shortest-of .ensures) (c .before .before .before .before .before .before .before .before .before .shortest-of2 .ensures) in
+    let is = begun .ensures .0 ∙ ap (runOutcome (a .table .now) s) (counted ∙ sym (length-edits (a .rows .now) (a .places .now) (a .digits .now) m)) in
     let fault = c .enum-told2 .given .0 .0 in
     let refused = sym (ap outcomeOf (c .enum-told2 .given .1)) in
-    let ran = nothing-ran (a .table .now) s (askedEdits (a .rows .now) (a .places .now) (a .digits .now) (a .whose .now) (a .numbers .now) (a .values .now)) (whose fault) (numberOf fault) (placeOf fault) (refused ∙ is) in
-    let kept = c .before .before .before .before .start .ensures .1 ∙ sym (exit-lent _ (whose fault) (numberOf fault) (placeOf fault) (a .sum .now) _ refused) in
-    (is, ap (state (a .first .now) (a .second .now)) kept ∙ ap (λ (r : Ran). r .buffers) ran, sym (overwrite-none (a .whose .now) 0) ∙ ap (λ (r : Ran). overwrite (a .whose .now) 0 (groupsOf (r .answers))) ran, sym (overwrite-none (a .numbers .now) 0) ∙ ap (λ (r : Ran). overwrite (a .numbers .now) 0 (numbersOf (r .answers))) ran, sym (overwrite-none (a .values .now) 0) ∙ ap (λ (r : Ran). overwrite (a .values .now) 0 (valuesOf (r .answers))) ran)
+    let es = askedEdits (a .rows .now) (a .places .now) (a .digits .now) (a .whose .now) (a .numbers .now) (a .values .now) in
+    let ran = nothing-ran (a .table .now) s es (whose fault) (numberOf fault) (placeOf fault) (refused ∙ is) in
+    let kept = begun .ensures .1 ∙ sym (exit-lent _ (whose fault) (numberOf fault) (placeOf fault) (a .sum .now) _ refused) in (
+      is,
+      (
+        ap (state (a .first .now) (a .second .now)) kept ∙ ap (λ (r : Ran). r .buffers) ran,
+        (
+          sym (overwrite-none (a .whose .now) 0) ∙ ap (λ (r : Ran). overwrite (a .whose .now) 0 (groupsOf (r .answers))) ran,
+          sym (overwrite-none (a .numbers .now) 0) ∙ ap (λ (r : Ran). overwrite (a .numbers .now) 0 (numbersOf (r .answers))) ran,
+          sym (overwrite-none (a .values .now) 0) ∙ ap (λ (r : Ran). overwrite (a .values .now) 0 (valuesOf (r .answers))) ran,
+        ),
+      ),
+    )
 
 pub run-spec : {M : Type 1} → statement M
 run-spec =

@@ -34,7 +34,8 @@ unfolding atExit
 returns-2 c =
     let a = c .before .before .before .before .before .before .before .before .before .before .before .args in
     let fault = c .before .checked2 .given .0 .0 in
-    (check-refused (a .table .now) (state (a .first .now) (a .second .now) (a .sum .now)) (a .edits) (whose fault) (numberOf fault) (placeOf fault) (sym (ap checkedAs (c .before .checked2 .given .1)) ∙ sym (ap checkedAs (c .before .before .before .before .checked .given .1)) ∙ c .before .before .before .before .before .before .check .ensures), refl)
+    let told = sym (ap checkedAs (c .before .checked2 .given .1)) ∙ sym (ap checkedAs (c .before .before .before .before .checked .given .1)) ∙ c .before .before .before .before .before .before .check .ensures in
+    (check-refused (a .table .now) (state (a .first .now) (a .second .now) (a .sum .now)) (a .edits) (whose fault) (numberOf fault) (placeOf fault) told, refl)
 
 add-requires : tie.Need-add-requires
 add-requires c κs = search needs
@@ -64,9 +65,15 @@ returns-4 : tie.Need-returns-4
 unfolding atExit
 returns-4 c =
     let a = c .before .before .before .before .before .before .before .before .before .before .before .before .before .before .before .before .before .args in
+    let accepted = c .before .before .before .before .before .before .before .before .before .before .enum-told in
     let fault = c .before .added2 .given .0 .0 in
-    let is = sym (ap addedAs (c .before .added2 .given .1)) ∙ sym (ap addedAs (c .before .before .before .before .added .given .1)) ∙ c .before .before .before .before .before .before .before .before .add .ensures .0 in
-    (add-refused (a .table .now) (state (a .first .now) (a .second .now) (a .sum .now)) (a .edits) (c .before .before .before .before .before .before .before .before .before .before .enum-told .given .0 .0) (sym (ap checkedAs (c .before .before .before .before .before .before .before .before .before .before .enum-told .given .1)) ∙ c .before .before .before .before .before .before .before .before .before .before .before .before .check .ensures) (whose fault) (numberOf fault) (placeOf fault) is, c .before .before .before .before .before .before .before .before .add .ensures .1 ∙ sym (sum-lent (a .table .now) (a .first .now) (a .second .now) (a .sum .now) (whose fault) (numberOf fault) (placeOf fault) is))
+    let add = c .before .before .before .before .before .before .before .before .add in
+    let passed = sym (ap checkedAs (accepted .given .1)) ∙ c .before .before .before .before .before .before .before .before .before .before .before .before .check .ensures in
+    let is = sym (ap addedAs (c .before .added2 .given .1)) ∙ sym (ap addedAs (c .before .before .before .before .added .given .1)) ∙ add .ensures .0 in
+    let lent = state (a .first .now) (a .second .now) (a .sum .now) in (
+      add-refused (a .table .now) lent (a .edits) (accepted .given .0 .0) passed (whose fault) (numberOf fault) (placeOf fault) is,
+      add .ensures .1 ∙ sym (sum-lent (a .table .now) (a .first .now) (a .second .now) (a .sum .now) (whose fault) (numberOf fault) (placeOf fault) is),
+    )
 
 same-length-3 : tie.Need-same-length-3
 same-length-3 c = search needs
@@ -75,7 +82,12 @@ returns-5 : tie.Need-returns-5
 unfolding atExit
 returns-5 c =
     let a = c .before .before .before .before .before .before .before .before .before .before .before .before .before .args in
-    (both-passed (a .table .now) (state (a .first .now) (a .second .now) (a .sum .now)) (a .edits) (c .before .before .before .before .before .before .enum-told .given .0 .0) (sym (ap checkedAs (c .before .before .before .before .before .before .enum-told .given .1)) ∙ c .before .before .before .before .before .before .before .before .check .ensures) (c .enum-told3 .given .0 .0) (sym (ap addedAs (c .enum-told3 .given .1)) ∙ c .before .before .before .before .add .ensures .0), c .before .before .before .before .add .ensures .1)
+    let accepted = c .before .before .before .before .before .before .enum-told in
+    let passed = sym (ap checkedAs (accepted .given .1)) ∙ c .before .before .before .before .before .before .before .before .check .ensures in
+    let add = c .before .before .before .before .add in
+    let added = c .enum-told3 in
+    let lent = state (a .first .now) (a .second .now) (a .sum .now) in
+    (both-passed (a .table .now) lent (a .edits) (accepted .given .0 .0) passed (added .given .0 .0) (sym (ap addedAs (added .given .1)) ∙ add .ensures .0), add .ensures .1)
 
 pub start-spec : {M : Type 1} → statement M
 start-spec =

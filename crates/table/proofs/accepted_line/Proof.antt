@@ -1,3 +1,4 @@
+-- Three items and a line feed, each written after the one before.
 use Rattle.table.proofs.Room.{three-items}
 use Rattle.line_rules.specs.Line.{acceptedLine, acceptedWord, leavesWord, digitsWord, lineFeed}
 use Rattle.text.specs.Bytes.{bytesOf}

@@ -48,7 +48,10 @@ returns-3 c =
     let file = c .before .before .before .before .before .before .before .before .before .before .args .file .now in
     let known = read-facts file _ (sym (ap readAs (c .before .before .before .before .before .before .answer2 .given .1)) ∙ c .before .before .before .before .before .before .before .before .read .ensures) in
     let t = known .1 in
-    (λ i. facts (record { depth = t i .depth; leaves = t i .leaves .count; digits = t i .alphabet .count })) ∙ sym (unless-none author (pairCheckOf file) (facts (checkFacts file)) (stage-nothing (c .before .before .before .before .file-pairs .result) (pairCheckOf file) (c .before .before .before .before .file-pairs .ensures) (c .before .before .if1 .left))) ∙ sym (unless-none author (tableCheck file) _ (known .0))
+    let pairs = c .before .before .before .before .file-pairs in
+    let none = stage-nothing (pairs .result) (pairCheckOf file) (pairs .ensures) (c .before .before .if1 .left) in
+    (λ i. facts (record { depth = t i .depth; leaves = t i .leaves .count; digits = t i .alphabet .count }))
+    ∙ sym (unless-none author (pairCheckOf file) (facts (checkFacts file)) none) ∙ sym (unless-none author (tableCheck file) _ (known .0))
 
 pub check-spec : {M : Type 1} → statement M
 check-spec =

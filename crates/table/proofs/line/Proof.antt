@@ -1,3 +1,4 @@
+-- The line of each case of the answer, where there is room for it.
 use Rattle.table.proofs.Room.{line-short, line-long, refused-case}
 use Rattle.line_rules.specs.Line.{lineOf}
 use Rattle.table.specs.Answer.{outcomeOf}

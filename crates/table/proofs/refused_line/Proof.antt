@@ -1,3 +1,4 @@
+-- Two items and a line feed, each written after the one before.
 use Rattle.line_rules.specs.Line.{refusedLine, lineFeed}
 use Rattle.text.specs.Fault.{refusedWord, placeWord}
 use Rattle.text.specs.Bytes.{bytesOf}

@@ -1,13 +1,11 @@
--- Rules 1 to 13 by the reader, then those of the row.
+-- The value: the table's fault by the reader is passed on; else the row's rules and value.
 use mathlib.Core.Path.{sym, ap, _∙_}
 use mathlib.Core.List.{List}
 use lib.IntN.{ℤ}
 use Rattle.faults.proofs.Unless.{unless-none}
 use Rattle.faults.specs.Outcome.{author, whose, numberOf, placeOf}
-use Rattle.reader_rules.proofs.Answer.{read-facts, read-fault}
-use Rattle.reader_rules.specs.Table.{tableFacts, partFacts}
+use Rattle.reader_rules.proofs.Answer.{found-facts, read-fault}
 use Rattle.reader_rules.specs.Check.{readAs, tableCheck}
-use Rattle.reader_rules.specs.declared.Table.{Table}
 use Rattle.value_call_rules.specs.Value.{rowOutcome, valueOutcome}
 use borrow.Author.Needs.{needs}
 use Rattle.value_call.proofs.value.Statement.{statement}
@@ -35,19 +33,20 @@ returns-2 : tie.Need-returns-2
 unfolding valueOutcome
 returns-2 c =
     let fault = c .before .answer3 .given .0 .0 in
-    read-fault (List ℤ) (c .before .before .before .before .before .before .before .before .before .args .table .now) (whose fault) (numberOf fault) (placeOf fault) _ (sym (ap readAs (c .before .answer3 .given .1)) ∙ sym (ap readAs (c .before .before .before .before .answer2 .given .1)) ∙ c .before .before .before .before .before .before .read .ensures)
+    let told = sym (ap readAs (c .before .answer3 .given .1)) ∙ sym (ap readAs (c .before .before .before .before .answer2 .given .1)) ∙ c .before .before .before .before .before .before .read .ensures in
+    read-fault (List ℤ) (c .before .before .before .before .before .before .before .before .before .args .table .now) (whose fault) (numberOf fault) (placeOf fault) _ told
 
 row-value-requires : tie.Need-row-value-requires
-unfolding tableFacts partFacts
 row-value-requires c κs =
-    let known = read-facts (c .before .before .before .before .before .before .before .args .table .now) _ (sym (ap readAs (c .before .before .answer .given .1)) ∙ c .before .before .before .before .read .ensures) in
-    (known .0, ap (λ (t : Table). t .alphabet .count) (known .1))
+    let known = found-facts (c .before .before .before .before .before .before .before .args .table .now) _ _ (c .before .before .answer .given .1) (c .before .before .before .before .read .ensures) in
+    (known .passes, known .size)
 
 returns-3 : tie.Need-returns-3
 unfolding valueOutcome
 returns-3 c =
-    let known = read-facts (c .before .before .before .before .before .before .before .before .args .table .now) _ (sym (ap readAs (c .before .before .before .answer .given .1)) ∙ c .before .before .before .before .before .read .ensures) in
-    c .row-value .ensures ∙ sym (unless-none author (tableCheck (c .before .before .before .before .before .before .before .before .args .table .now)) (rowOutcome (c .before .before .before .before .before .before .before .before .args .table .now) (c .before .before .before .before .before .before .before .before .args .row .now)) (known .0))
+    let a = c .before .before .before .before .before .before .before .before .args in
+    let known = found-facts (a .table .now) _ _ (c .before .before .before .answer .given .1) (c .before .before .before .before .before .read .ensures) in
+    c .row-value .ensures ∙ sym (unless-none author (tableCheck (a .table .now)) (rowOutcome (a .table .now) (a .row .now)) (known .passes))
 
 pub value-spec : {M : Type 1} → statement M
 value-spec =

@@ -73,7 +73,7 @@ returns-2 c =
     let room = c .before .before .before .before .before .before .before .before .before .before .before .before .before .before .before .before .before .before .before .before .before .before .before .before .before .before .before .if1 .left in
     let run = c .before .before .before .before .before .before .before .before .before .before .before .before .before .before .before .before .before .before .before .before .run .ensures in
     let f = c .before .before .before .before .before .before .ran .given .0 .0 in
-    let left = as-run (length (a .answer .now)) (a .table .now) s es (a .whose .now) (a .numbers .now) (a .values .now) _ _ _ _ room (run .1) (run .2) (run .3) (run .4) in
+    let left = as-run (length (a .answer .now)) (a .table .now) s es (a .whose .now) (a .numbers .now) (a .values .now) _ _ _ _ room (run .1 .0) (run .1 .1 .0) (run .1 .1 .1) (run .1 .1 .2) in
     let words = c .before .put .ensures ∙ ap (overwrite (a .answer .now) 0) (cons≡ refl (cons≡ (kept (c .before .before .before .word .result) (f .edits) (c .before .before .before .word .ok) (c .before .before .before .word .ensures)) refl)) in
     (with-facts runWords (runOutcome (a .table .now) s (length es)) (a .answer .now) f 0 (c .before .put .last .0) room (sym (run .0) ∙ ap outcomeOf (c .before .before .before .before .before .before .ran .given .1)) refl words, left)
 
@@ -105,7 +105,7 @@ returns-3 c =
     let es : List Change = askedEdits (a .rows .now) (a .places .now) (a .digits .now) (a .whose .now) (a .numbers .now) (a .values .now) in
     let room = c .before .before .before .before .before .before .before .before .before .before .before .before .before .before .before .before .before .before .before .before .before .before .before .before .before .if1 .left in
     let run = c .before .before .before .before .before .before .before .before .before .before .before .before .before .before .before .before .before .before .run .ensures in
-    let left = as-run (length (a .answer .now)) (a .table .now) s es (a .whose .now) (a .numbers .now) (a .values .now) _ _ _ _ room (run .1) (run .2) (run .3) (run .4) in
+    let left = as-run (length (a .answer .now)) (a .table .now) s es (a .whose .now) (a .numbers .now) (a .values .now) _ _ _ _ room (run .1 .0) (run .1 .1 .0) (run .1 .1 .1) (run .1 .1 .2) in
     let is = sym (run .0) ∙ ap outcomeOf (c .before .before .before .before .ran2 .given .1) in
     (with-fault runWords (runOutcome (a .table .now) s (length es)) (a .answer .now) (c .before .before .before .before .ran2 .given .0 .0) _ (c .before .refuse .last .0) room is (c .before .refuse .ensures .0) (c .before .refuse .ensures .1), left)
 
