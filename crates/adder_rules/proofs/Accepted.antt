@@ -64,5 +64,9 @@ module _ (file : List ℕ) (accepted : checkOutcome file ≡ facts (checkFacts f
         let check = rowCheck first second room (digitCount file) (tableFacts file .depth) in
         elim (ℕ-discrete (check .number) 0) [
           | yes z ↦ facts-no-fault (addOutcome file first second room) (record { places = placeCount file first }) g 27 p (accepted-adds z) e
-          | no some ↦ let o = unless-none author (tableCheck file) (unless rows check (digitsOutcome file first second)) accepted-passes ∙ unless-found rows check (digitsOutcome file first second) some in omega (arith, one-fault (addOutcome file first second room) rows g (check .number) 27 (check .place) p o e .1, number-of (λ n. n ≤ 23) (rowRules first second room (digitCount file) (tableFacts file .depth)) (omega arith) (check .number) (check .place) (rows-exact first second room (digitCount file) (tableFacts file .depth) .refused (check .number) (check .place) (omega (arith, some)) .0 refl))
+          | no some ↦
+              let o = unless-none author (tableCheck file) (unless rows check (digitsOutcome file first second)) accepted-passes ∙ unless-found rows check (digitsOutcome file first second) some in
+              let broken = rows-exact first second room (digitCount file) (tableFacts file .depth) .refused (check .number) (check .place) (omega (arith, some)) .0 refl in
+              let low = number-of (λ n. n ≤ 23) (rowRules first second room (digitCount file) (tableFacts file .depth)) (omega arith) (check .number) (check .place) broken in
+              omega (arith, one-fault (addOutcome file first second room) rows g (check .number) 27 (check .place) p o e .1, low)
         ]

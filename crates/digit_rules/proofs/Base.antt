@@ -48,7 +48,9 @@ module _ (base : List ℕ) (is : BasePart base) where
   pub base-within : RowsWithin (2 ^ 24) (baseMatrix base)
   base-within =
       rw (matrix-of-two base, rows-of-two (sOf base) (tOf base) (uOf base) (vOf base))
-      (rows-within (2 ^ 24) _ _ (within-two (2 ^ 24) (uOf base) (tOf base *ℤ vOf base) (omega (arith, plain-bound (u-term base-limits))) (omega (arith, plain-bound (t-term base-limits ⊗ v-term base-limits)))) (within-two (2 ^ 24) (vOf base) (uOf base +ℤ sOf base *ℤ vOf base) (omega (arith, plain-bound (v-term base-limits))) (omega (arith, plain-bound (u-term base-limits ⊕ s-term base-limits ⊗ v-term base-limits)))))
+      (rows-within (2 ^ 24) _ _
+      (within-two (2 ^ 24) (uOf base) (tOf base *ℤ vOf base) (omega (arith, plain-bound (u-term base-limits))) (omega (arith, plain-bound (t-term base-limits ⊗ v-term base-limits))))
+      (within-two (2 ^ 24) (vOf base) (uOf base +ℤ sOf base *ℤ vOf base) (omega (arith, plain-bound (v-term base-limits))) (omega (arith, plain-bound (u-term base-limits ⊕ s-term base-limits ⊗ v-term base-limits)))))
 
 -- one law for each answer of rules 5 and 6, the numbers as they were read
 module _ (base : List ℕ) where

@@ -232,7 +232,11 @@ module _ (file : List ℕ) (accepted : checkOutcome file ≡ facts (checkFacts f
 
   fit-of : (es : List Change) → RowsFit (run file s es .buffers .first) (run file s es .buffers .second) (length (run file s es .buffers .sum)) (digitCount file) (tableFacts file .depth) × (length (run file s es .buffers .first) ≡ n)
   fit-of es =
-      subst (λ (b : State). RowsFit (b .first) (b .second) (length (b .sum)) (digitCount file) (tableFacts file .depth) × (length (b .first) ≡ n)) (sym (buffers-are es)) (subst (λ (m : ℕ). RowsFit (stored es .0) (stored es .1) m (digitCount file) (tableFacts file .depth)) (sym (ap length (whole-is (stored es) (kept es)) ∙ summed file (stored es .0) (stored es .1) (s .sum) (record { places = placeCount file (s .first) }) (adds (stored es) (kept es)) .long)) (kept es .0), kept es .1)
+      let r = stored es in
+      let v = kept es in
+      let long = ap length (whole-is r v) ∙ summed file (r .0) (r .1) (s .sum) (record { places = placeCount file (s .first) }) (adds r v) .long in
+      subst (λ (b : State). RowsFit (b .first) (b .second) (length (b .sum)) (digitCount file) (tableFacts file .depth) × (length (b .first) ≡ n)) (sym (buffers-are es))
+      (subst (λ (m : ℕ). RowsFit (r .0) (r .1) m (digitCount file) (tableFacts file .depth)) (sym long) (v .0), v .1)
 
   each : (es : List Change) (k : ℕ) → k < length es
       → Step file n (getD es k noChange) (run file s (take k es) .buffers) (run file s (take (k + 1) es) .buffers) (getD (run file s es .answers) k (facts (record { count = 0 })))

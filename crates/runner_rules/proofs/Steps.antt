@@ -100,7 +100,9 @@ module _ (rows places digits : List ℕ) where
             counts = written-none (λ o. toldOf o .value) values₀;
           }
 
-      pub after-next : (i : ℕ) (now next : State) (whose numbers values : List ℕ) (told : Told) → AfterEdits i now whose numbers values → i < length whose₀ → i < length numbers₀ → i < length values₀ → told ≡ toldOf (editOutcome file (listed rows places digits i) now) → next ≡ editState file (listed rows places digits i) now → AfterEdits (i + 1) next (set whose i (told .whose)) (set numbers i (told .number)) (set values i (told .value))
+      pub after-next : (i : ℕ) (now next : State) (whose numbers values : List ℕ) (told : Told) → AfterEdits i now whose numbers values
+          → i < length whose₀ → i < length numbers₀ → i < length values₀
+          → told ≡ toldOf (editOutcome file (listed rows places digits i) now) → next ≡ editState file (listed rows places digits i) now → AfterEdits (i + 1) next (set whose i (told .whose)) (set numbers i (told .number)) (set values i (told .value))
       after-next i now next whose numbers values told so wide-groups wide-faults wide-counts is left =
           let said : told ≡ toldOf (editOutcome file (listed rows places digits i) (stateAfter i)) = is ∙ ap (λ (x : State). toldOf (editOutcome file (listed rows places digits i) x)) (so .buffers) in
           record {

@@ -26,7 +26,10 @@ same-length c = search needs
 
 returns : tie.Need-returns
 returns c =
-    (refl, c .before .put .ensures ∙ ap (overwrite (c .before .before .before .before .before .before .args .answer .now) 0) (cons≡ (toZ-ofZ w64 (c .before .before .before .before .before .before .args .whose) (c .before .before .before .before .before .before .fits .whose)) (cons≡ (kept (c .before .before .before .before .word .result) (c .before .before .before .before .before .before .args .number) (c .before .before .before .before .word .ok) (c .before .before .before .before .word .ensures)) (cons≡ (kept (c .before .before .before .word2 .result) (c .before .before .before .before .before .before .args .place) (c .before .before .before .word2 .ok) (c .before .before .before .word2 .ensures)) refl))))
+    let a = c .before .before .before .before .before .before .args in
+    let s = c .before .before .before .before in
+    let t = c .before .before .before in
+    (refl, c .before .put .ensures ∙ ap (overwrite (a .answer .now) 0) (cons≡ (toZ-ofZ w64 (a .whose) (c .before .before .before .before .before .before .fits .whose)) (cons≡ (kept (s .word .result) (a .number) (s .word .ok) (s .word .ensures)) (cons≡ (kept (t .word2 .result) (a .place) (t .word2 .ok) (t .word2 .ensures)) refl))))
 
 pub put-fault-spec : {M : Type 1} → statement M
 put-fault-spec =

@@ -39,7 +39,9 @@ find-requires c κs = search needs
 
 returns : tie.Need-returns Inv-loop μ-loop
 unfolding isSum
-returns c = sym (ap not (ap (every _ 0) (sym (c .before .before .before .before .before .before .record-count .ensures)) ∙ every-here _ _ _ (c .before .before .before .before .before .loop .inv .1) (c .before .before .before .before .loop-test .taken) (sum-found _ _ _ _ _ _ (c .before .before .before .record-at .ensures .0) (c .before .before .difference .ensures) (c .before .find .ensures) (c .if1 .taken))))
+returns c =
+    let s = c .before .before .before .before .before .before in
+    sym (ap not (ap (every _ 0) (sym (s .record-count .ensures)) ∙ every-here _ _ _ (c .before .before .before .before .before .loop .inv .1) (c .before .before .before .before .loop-test .taken) (sum-found _ _ _ _ _ _ (c .before .before .before .record-at .ensures .0) (c .before .before .difference .ensures) (c .before .find .ensures) (c .if1 .taken))))
 
 add-i : tie.Need-add-i Inv-loop μ-loop
 add-i c = search needs

@@ -29,7 +29,13 @@ word-number-requires c κs = c .before .before .before .is-inside .ensures (c .b
 
 -- src/lib.rt:151:9
 returns : tie.Need-returns
-returns c = numbers-read (c .before .before .before .before .before .before .before .before .before .args .leaves .now) (c .before .before .before .before .before .before .before .before .before .args .words .now) (c .before .before .before .before .before .before .before .before .before .args .window .now) (c .before .before .before .before .before .before .before .before .before .args .leaf) (c .before .before .before .before .before .before .word-start .result) (c .before .before .before .before .before .word-length .result) (c .before .eight .result) (c .word-number .result) (c .before .before .before .before .before .before .word-start .ensures .0) (c .before .before .before .before .before .word-length .ensures .0) (c .before .before .before .before .is-inside .ensures (c .before .before .before .if1 .taken) .1) (c .before .eight .ensures .1) (λ i. omega (arith, c .before .before .before .before .before .before .before .shared-slice-known2 .given i)) (c .before .eight .ensures .0) (c .word-number .ensures)
+returns c =
+    let a = c .before .before .before .before .before .before .before .before .before .args in
+    let s = c .before .before .before .before .before .before in
+    let t = c .before .before .before .before .before in
+    let u = c .before .before .before .before .before .before .before in
+    numbers-read (a .leaves .now) (a .words .now) (a .window .now) (a .leaf) (s .word-start .result) (t .word-length .result) (c .before .eight .result) (c .word-number .result)
+    (s .word-start .ensures .0) (t .word-length .ensures .0) (c .before .before .before .before .is-inside .ensures (c .before .before .before .if1 .taken) .1) (c .before .eight .ensures .1) (λ i. omega (arith, u .shared-slice-known2 .given i)) (c .before .eight .ensures .0) (c .word-number .ensures)
 
 -- src/lib.rt:153:36
 least-requires : tie.Need-least-requires
@@ -41,7 +47,9 @@ lower-requires c κs = search needs
 
 -- src/lib.rt:144:1
 returns-2 : tie.Need-returns-2
-returns-2 c = c .lower .ensures ∙ window-read (c .before .before .before .before .before .before .before .before .before .args .leaves .now) (c .before .before .before .before .before .before .before .before .before .args .words .now) (c .before .before .before .before .before .before .before .before .before .args .window .now) _ _ _ (c .before .before .before .before .before .before .word-start .ensures .0) (c .before .least .ensures ∙ ap₂ min (c .before .before .before .before .before .word-length .ensures .0) refl)
+returns-2 c =
+    let a = c .before .before .before .before .before .before .before .before .before .args in
+    c .lower .ensures ∙ window-read (a .leaves .now) (a .words .now) (a .window .now) _ _ _ (c .before .before .before .before .before .before .word-start .ensures .0) (c .before .least .ensures ∙ ap₂ min (c .before .before .before .before .before .word-length .ensures .0) refl)
 
 pub above-spec : {M : Type 1} → statement M
 above-spec =

@@ -15,7 +15,9 @@ first-difference-requires : tie.Need-first-difference-requires
 first-difference-requires c κs = search needs
 
 returns : tie.Need-returns
-returns c = λ yes. begins-read (c .before .before .before .before .before .before .args .leaves .now) (c .before .before .before .before .before .before .args .words .now) (c .before .before .before .before .before .before .args .window .now) (c .before .before .before .before .before .before .args .leaf) (c .before .before .before .word-start .result) (c .before .before .word-length .result) (c .first-difference .result) (c .before .before .before .word-start .ensures .0) (c .before .before .word-length .ensures .0) (c .first-difference .ensures) (leb-true _ _ yes)
+returns c =
+    let a = c .before .before .before .before .before .before .args in
+    λ yes. begins-read (a .leaves .now) (a .words .now) (a .window .now) (a .leaf) (c .before .before .before .word-start .result) (c .before .before .word-length .result) (c .first-difference .result) (c .before .before .before .word-start .ensures .0) (c .before .before .word-length .ensures .0) (c .first-difference .ensures) (leb-true _ _ yes)
 
 pub begins-spec : {M : Type 1} → statement M
 begins-spec =

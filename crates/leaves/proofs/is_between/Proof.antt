@@ -30,7 +30,9 @@ returns-3 c = λ t. clash t refl
 
 -- src/lib.rt:205:9
 returns-4 : tie.Need-returns-4
-returns-4 c = λ t. between-tried (codeOf (c .before .before .before .before .before .before .before .before .args .leaves .now) (c .before .before .before .before .before .before .before .before .args .words .now)) (c .before .before .before .before .before .before .before .before .args .window .now) (c .before .before .before .before .before .before .before .before .args .low) (c .before .before .before .before .before .before .before .before .args .high) (omega arith) (omega (arith, c .before .before .before .before .before .leaf-count .ensures)) (sym (c .before .before .above .ensures) ∙ c .before .if3 .left) (λ h. absurd (omega (arith, c .before .before .before .before .before .leaf-count .ensures)))
+returns-4 c =
+    let a = c .before .before .before .before .before .before .before .before .args in
+    λ t. between-tried (codeOf (a .leaves .now) (a .words .now)) (a .window .now) (a .low) (a .high) (omega arith) (omega (arith, c .before .before .before .before .before .leaf-count .ensures)) (sym (c .before .before .above .ensures) ∙ c .before .if3 .left) (λ h. absurd (omega (arith, c .before .before .before .before .before .leaf-count .ensures)))
 
 -- src/lib.rt:207:5
 above-requires-2 : tie.Need-above-requires-2
@@ -38,7 +40,9 @@ above-requires-2 c κs = omega (arith, c .before .before .before .before .before
 
 -- src/lib.rt:191:1
 returns-5 : tie.Need-returns-5
-returns-5 c = λ t. between-tried (codeOf (c .before .before .before .before .before .before .before .before .before .args .leaves .now) (c .before .before .before .before .before .before .before .before .before .args .words .now)) (c .before .before .before .before .before .before .before .before .before .args .window .now) (c .before .before .before .before .before .before .before .before .before .args .low) (c .before .before .before .before .before .before .before .before .before .args .high) (omega arith) (omega (arith, c .before .before .before .before .before .before .leaf-count .ensures)) (sym (c .before .before .before .above .ensures) ∙ c .before .before .if3 .left) (λ _. sym (c .above2 .ensures) ∙ t)
+returns-5 c =
+    let a = c .before .before .before .before .before .before .before .before .before .args in
+    λ t. between-tried (codeOf (a .leaves .now) (a .words .now)) (a .window .now) (a .low) (a .high) (omega arith) (omega (arith, c .before .before .before .before .before .before .leaf-count .ensures)) (sym (c .before .before .before .above .ensures) ∙ c .before .before .if3 .left) (λ _. sym (c .above2 .ensures) ∙ t)
 
 pub is-between-spec : {M : Type 1} → statement M
 is-between-spec =

@@ -13,7 +13,9 @@ begins-requires : tie.Need-begins-requires
 begins-requires c κs = search needs
 
 returns : tie.Need-returns
-returns c = begins-looked-up (codeOf (c .before .before .before .before .before .before .before .args .leaves .now) (c .before .before .before .before .before .before .before .args .words .now)) _ (c .before .before .before .before .before .before .before .args .guess) (omega (arith, c .before .before .before .before .leaf-count .ensures, c .before .before .before .if1 .taken)) (c .before .begins .ensures (c .if2 .taken))
+returns c =
+    let a = c .before .before .before .before .before .before .before .args in
+    begins-looked-up (codeOf (a .leaves .now) (a .words .now)) _ (a .guess) (omega (arith, c .before .before .before .before .leaf-count .ensures, c .before .before .before .if1 .taken)) (c .before .begins .ensures (c .if2 .taken))
 
 look-up-requires : tie.Need-look-up-requires
 look-up-requires c κs = search needs

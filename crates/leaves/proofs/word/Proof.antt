@@ -51,7 +51,9 @@ part-result-end-3 : tie.Need-part-result-end-3
 part-result-end-3 c = search needs
 
 returns-3 : tie.Need-returns-3
-returns-3 c = word-read (c .before .before .before .before .before .before .before .before .args .leaves .now) (c .before .before .before .before .before .before .before .before .args .words .now) (c .before .before .before .before .before .before .before .before .args .leaf) _ _ (c .before .before .before .word-start .ensures .0) (c .before .before .word-length .ensures .0) (omega arith) (c .before .if2 .left)
+returns-3 c =
+    let a = c .before .before .before .before .before .before .before .before .args in
+    word-read (a .leaves .now) (a .words .now) (a .leaf) _ _ (c .before .before .before .word-start .ensures .0) (c .before .before .word-length .ensures .0) (omega arith) (c .before .if2 .left)
 
 pub word-spec : {M : Type 1} → statement M
 word-spec =

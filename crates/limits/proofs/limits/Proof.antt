@@ -48,7 +48,9 @@ loop-less : tie.Need-loop-less Inv-loop μ-loop
 loop-less c = omega arith
 
 loop-again : tie.Need-loop-again Inv-loop μ-loop
-loop-again c = (omega arith, sym (turn-on _ _ 4 _ (c .before .before .limits-in .ensures ∙ handed-on _ _ _ _ (c .before .before .before .before .before .section-start .ensures .0) (c .before .before .before .before .section-end .ensures)) (c .before .before .before .before .before .before .loop-test .taken) (c .if1 .left)) ∙ c .before .before .before .before .before .before .before .loop .inv .1)
+loop-again c =
+    let s = c .before .before .before .before .before .before .before in
+    (omega arith, sym (turn-on _ _ 4 _ (c .before .before .limits-in .ensures ∙ handed-on _ _ _ _ (c .before .before .before .before .before .section-start .ensures .0) (c .before .before .before .before .section-end .ensures)) (c .before .before .before .before .before .before .loop-test .taken) (c .if1 .left)) ∙ s .loop .inv .1)
 
 returns-2 : tie.Need-returns-2 Inv-loop μ-loop
 unfolding limitCheck

@@ -34,7 +34,9 @@ first-outside-requires c κs = (size-held _ _ (c .before .before .before .before
 
 number-place-requires : tie.Need-number-place-requires
 unfolding numberCount
-number-place-requires c κs = (size-held _ _ (c .before .before .before .before .before .before .before .pre .0) (c .before .before .before .before .before .size-of-record .ensures), omega (arith, section-inside _ _ (length (now (c .before .before .before .before .before .before .before .args .part))) _ (c .before .before .before .before .before .before .before .pre .0) (c .before .before .before .before .before .size-of-record .ensures) (c .if2 .taken)))
+number-place-requires c κs =
+    let a = c .before .before .before .before .before .before .before .args in
+    (size-held _ _ (c .before .before .before .before .before .before .before .pre .0) (c .before .before .before .before .before .size-of-record .ensures), omega (arith, section-inside _ _ (length (now (a .part))) _ (c .before .before .before .before .before .before .before .pre .0) (c .before .before .before .before .before .size-of-record .ensures) (c .if2 .taken)))
 
 add-t13 : tie.Need-add-t13
 unfolding numberCount

@@ -31,7 +31,11 @@ loop-less c = omega arith
 loop-again : tie.Need-loop-again Inv-loop μ-loop
 loop-again c =
     let bytes = c .before .before .before .before .args .bytes .now in
-    ⊎-elim (λ t. below-more (λ k. getD bytes k 0 ≤ c .if1 .top) (c .before .before .before .loop .i) (λ k h. omega (arith, c .before .before .before .loop .inv k h, t .0 .taken, t .2)) (omega (arith, t .2))) (λ t. below-more (λ k. getD bytes k 0 ≤ c .if1 .top) (c .before .before .before .loop .i) (λ k h. omega (arith, c .before .before .before .loop .inv k h, t .1)) (omega (arith, t .0 .left, t .1))) (c .if1 .came)
+    let loop = c .before .before .before .loop in
+    ⊎-elim
+    (λ t. below-more (λ k. getD bytes k 0 ≤ c .if1 .top) (loop .i) (λ k h. omega (arith, loop .inv k h, t .0 .taken, t .2)) (omega (arith, t .2)))
+    (λ t. below-more (λ k. getD bytes k 0 ≤ c .if1 .top) (loop .i) (λ k h. omega (arith, loop .inv k h, t .1)) (omega (arith, t .0 .left, t .1)))
+    (c .if1 .came)
 
 returns : tie.Need-returns Inv-loop μ-loop
 returns c = λ k h. c .before .loop .inv k (omega arith)

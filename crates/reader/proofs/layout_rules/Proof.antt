@@ -39,7 +39,8 @@ returns-3 : tie.Need-returns-3
 unfolding layoutCheck
 returns-3 c =
     let file = c .before .before .before .before .before .before .before .before .before .args .file .now in
-    found-next (directoryCheck file) _ _ _ (c .before .before .before .before .before .before .before .directory .ensures) (c .before .before .before .before .before .if1 .left) (found-next (lengthCheck (sectionLengths file)) (limitCheck file) _ _ (c .before .before .before .lengths .ensures ∙ ap lengthCheck (c .before .before .before .before .section-lengths .ensures)) (c .before .if2 .left) (c .limits .ensures))
+    let s = c .before .before .before .before .before .before .before in
+    found-next (directoryCheck file) _ _ _ (s .directory .ensures) (c .before .before .before .before .before .if1 .left) (found-next (lengthCheck (sectionLengths file)) (limitCheck file) _ _ (c .before .before .before .lengths .ensures ∙ ap lengthCheck (c .before .before .before .before .section-lengths .ensures)) (c .before .if2 .left) (c .limits .ensures))
 
 pub layout-rules-spec : {M : Type 1} → statement M
 layout-rules-spec =

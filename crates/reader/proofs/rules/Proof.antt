@@ -27,7 +27,8 @@ leaf-rules-requires c κs = stage-nothing (c .before .before .before .before .be
 returns-3 : tie.Need-returns-3
 unfolding tableCheck
 returns-3 c =
-    found-next (layoutCheck (c .before .before .before .before .before .before .before .before .args .file .now)) _ _ _ (c .before .before .before .before .before .before .layout-rules .ensures) (c .before .before .before .before .if1 .left) (found-next (digitCheckOf (c .before .before .before .before .before .before .before .before .args .file .now)) _ _ _ (c .before .before .before .digit-rules .ensures) (c .before .if2 .left) (c .leaf-rules .ensures))
+    let a = c .before .before .before .before .before .before .before .before .args in
+    found-next (layoutCheck (a .file .now)) _ _ _ (c .before .before .before .before .before .before .layout-rules .ensures) (c .before .before .before .before .if1 .left) (found-next (digitCheckOf (a .file .now)) _ _ _ (c .before .before .before .digit-rules .ensures) (c .before .if2 .left) (c .leaf-rules .ensures))
 
 pub rules-spec : {M : Type 1} → statement M
 rules-spec =
