@@ -19,19 +19,10 @@ pub enum Ran {
     Refused(Fault),
 }
 
-fn lower_of(a: usize, b: usize) -> usize
-    ensures { λ r. ⌜ r ≡ min a b ⌝ }
-{
-    if a < b {
-        return a;
-    }
-    b
-}
-
 fn shortest_of(a: usize, b: usize, c: usize) -> usize
     ensures { λ r. ⌜ r ≡ min a (min b c) ⌝ }
 {
-    lower_of(a, lower_of(b, c))
+    octets::least(a, octets::least(b, c))
 }
 
 // The check, then the addition: a fault and nothing written, or the sum written and the number of edits that are to be called.
@@ -96,7 +87,7 @@ pub fn run(
 {
     let listed = shortest_of(rows.len(), places.len(), digits.len());
     let answered = shortest_of(whose.len(), numbers.len(), values.len());
-    let count = lower_of(listed, answered);
+    let count = octets::least(listed, answered);
     let answer = start(table, first, second, sum, count);
     if let Ran::Edits(_) = answer {
         edit_list::edit_each(

@@ -22,8 +22,8 @@ shortest-of-requires c κs = search needs
 shortest-of-requires-2 : tie.Need-shortest-of-requires-2
 shortest-of-requires-2 c κs = search needs
 
-lower-of-requires : tie.Need-lower-of-requires
-lower-of-requires c κs = search needs
+least-requires : tie.Need-least-requires
+least-requires c κs = search needs
 
 start-requires : tie.Need-start-requires
 start-requires c κs = search needs
@@ -62,7 +62,7 @@ returns c =
     let m = editCount (a .rows .now) (a .places .now) (a .digits .now) (a .whose .now) (a .numbers .now) (a .values .now) in
     let listed = c .before .before .before .before .before .before .before .before .before .before .before .before .before .before .before .before .before .before .before .before .before .before .before .before .before .before .before .before .before .shortest-of in
     let answered = c .before .before .before .before .before .before .before .before .before .before .before .before .before .before .before .before .before .before .before .before .before .before .before .before .before .before .before .before .shortest-of2 in
-    let count = c .before .before .before .before .before .before .before .before .before .before .before .before .before .before .before .before .before .before .before .before .before .before .before .before .before .before .before .lower-of in
+    let count = c .before .before .before .before .before .before .before .before .before .before .before .before .before .before .before .before .before .before .before .before .before .before .before .before .before .before .before .least in
     let begun = c .before .before .before .before .before .before .before .before .before .before .before .before .before .before .before .before .before .before .before .before .before .before .before .start in
     let edits = c .before .before .before .before .before .before .before .before .before .before .before .before .before .before .before .before .before .before .before .enum-told in
     let counted : count .result ≡ m = count .ensures ∙ ap₂ min (listed .ensures) (answered .ensures) in
@@ -96,7 +96,7 @@ returns-2 c =
     let a = c .before .before .before .before .before .before .before .before .before .before .before .before .before .before .before .before .before .before .before .before .before .args in
     let s = state (a .first .now) (a .second .now) (a .sum .now) in
     let m = editCount (a .rows .now) (a .places .now) (a .digits .now) (a .whose .now) (a .numbers .now) (a .values .now) in
-    let count = c .before .before .before .before .before .before .before .before .lower-of in
+    let count = c .before .before .before .before .before .before .before .before .least in
     let begun = c .before .before .before .before .start in
     let counted : count .result ≡ m = count .ensures ∙ ap₂ min (c .before .before .before .before .before .before .before .before .before .before .shortest-of .ensures) (c .before .before .before .before .before .before .before .before .before .shortest-of2 .ensures) in
     let is = begun .ensures .0 ∙ ap (runOutcome (a .table .now) s) (counted ∙ sym (length-edits (a .rows .now) (a .places .now) (a .digits .now) m)) in
@@ -122,7 +122,7 @@ run-spec =
     (tie.spec
     shortest-of-requires
     shortest-of-requires-2
-    lower-of-requires
+    least-requires
     start-requires
     enum-told
     edit-each-requires
