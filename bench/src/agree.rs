@@ -106,6 +106,7 @@ impl Tally {
             second,
             sum,
             answer: vec![-1; ANSWER_WORDS],
+            ..Lent::default()
         };
         if random.one_in(20) {
             lent.sum.truncate(random.below(length + 9));

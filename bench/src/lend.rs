@@ -21,6 +21,7 @@ pub fn rows(parts: &Parts, accepted: bool, length: usize) -> Lent {
         second: if accepted { second } else { vec![0; length] },
         sum: vec![0; length + 8],
         answer: vec![0; ANSWER_WORDS],
+        ..Lent::default()
     }
 }
 

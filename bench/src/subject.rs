@@ -19,6 +19,7 @@ impl Calls for Fast {
             second,
             sum,
             answer,
+            ..
         } = lent;
         match *call {
             Call::Check => store(answer, fast::check(table, self.0), |facts| {
@@ -32,7 +33,7 @@ impl Calls for Fast {
                 store(answer, edited, |count| [count as i64])
             }
             Call::Value => store(answer, fast::value(table, first), |x| [x.a, x.b]),
-            Call::Midpoint { .. } | Call::Tern | Call::Bin => unreachable!("not a timed call"),
+            Call::Run | Call::Midpoint { .. } | Call::Tern | Call::Bin => unreachable!("not a timed call"),
         }
     }
 }
