@@ -34,7 +34,7 @@ use Rattle.reader_rules.specs.Table.{partFacts, tableFacts}
 use Rattle.reader_rules.specs.Check.{layoutCheck, digitCheckOf, leafCheckOf, tableCheck, readOutcome}
 use Rattle.table_rules.specs.Check.{pairCheckOf, checkFacts, checkOutcome}
 use Rattle.table_rules.specs.Pairs.{inAlphabet, badLower, badUpper, pairCheck, badPair}
-use Rattle.text.specs.Bytes.{bytesOf}
+use Rattle.text_rules.specs.Bytes.{bytesOf}
 use Rattle.line_rules.specs.Line.{lineOf}
 use Rattle.line_rules.proofs.Lines.{lines}
 use Rattle.carried.specs.Tables.{unsigned16, signed16, joined, record4, leafRecords, directory, sections, fileOf, ternInputs, ternWeight, ternLeaves, ternFile, binInputs, binWeight2, binWeight1, binLeavesOf, binLeaves, binFile}

@@ -12,5 +12,5 @@ pub fn out_digit(base: [[i64; 2]; 2], input: [i64; 2], below: [i64; 2], own: [i6
     requires { ⌜ RowsWithin (2 ^ 24) base × Within 32768 input × Within 32768 below × Within 32768 own ⌝ }
     ensures { λ r. ⌜ r ≡ outDigit (elements degree base) input below own ⌝ }
 {
-    ring::difference(ring::sum(input, below), ring::times_base(base, own))
+    elements::difference(elements::sum(input, below), elements::times_base(base, own))
 }

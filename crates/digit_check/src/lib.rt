@@ -19,8 +19,13 @@ fn base_rules(base: &[u8]) -> Refusal
 {
     let s = layout::signed(base, 0);
     let t = layout::signed(base, 2);
-    let square = ring::has_square_discriminant(s, t);
-    let expanding = ring::is_expanding(s, t, layout::signed(base, 4), layout::signed(base, 6));
+    let square = base_tests::has_square_discriminant(s, t);
+    let expanding = base_tests::is_expanding(
+        s,
+        t,
+        layout::signed(base, 4),
+        layout::signed(base, 6),
+    );
     if square {
         return Refusal {
             number: 5,
@@ -102,7 +107,7 @@ fn is_sum(alphabet: &[u8], x: [i64; 2]) -> bool
         if digits::find(
             alphabet,
             i + 1,
-            ring::difference(x, digits::record_at(alphabet, i)),
+            elements::difference(x, digits::record_at(alphabet, i)),
         )
             <= i
         {

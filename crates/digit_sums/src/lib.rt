@@ -46,7 +46,7 @@ fn follow(inputs: &[u8], links: &[u8; MOST], first: u8, x: [i64; 2]) -> usize
         if at >= count {
             return count;
         }
-        if ring::equal(digits::record_at(inputs, at), x) {
+        if elements::equal(digits::record_at(inputs, at), x) {
             return at;
         }
         at = octets::wide(links[at]);
@@ -69,7 +69,7 @@ fn locate(
     ensures { λ r. ⌜ r ≡ located (now (inputs .entry)) (now (heads .entry)) (now (links .entry))
         (plus (recordAt (now (alphabet .entry)) i) (recordAt (now (alphabet .entry)) other)) ⌝ }
 {
-    let x = ring::sum(
+    let x = elements::sum(
         digits::record_at(alphabet, i),
         digits::record_at(alphabet, other),
     );

@@ -39,7 +39,7 @@ pub fn find(part: &[u8], n: usize, x: [i64; 2]) -> usize
 {
     let mut k = 0;
     while k < n {
-        if ring::equal(record_at(part, k), x) {
+        if elements::equal(record_at(part, k), x) {
             return k;
         }
         k += 1;
@@ -52,7 +52,7 @@ pub fn base_of(base: &[u8]) -> [[i64; 2]; 2]
     requires { ⌜ BasePart (now base) ⌝ }
     ensures { λ r. ⌜ r ≡ baseMatrix (now (base .entry)) ⌝ }
 {
-    ring::base_matrix(
+    elements::base_matrix(
         layout::signed(base, 0),
         layout::signed(base, 2),
         layout::signed(base, 4),
@@ -67,7 +67,7 @@ pub fn record_allowed(part: &[u8], k: usize) -> bool
 {
     let x = record_at(part, k);
     if k == 0 {
-        return ring::equal(x, [0, 0]);
+        return elements::equal(x, [0, 0]);
     }
     find(part, k, x) == k
 }
@@ -80,6 +80,6 @@ pub fn sum_index(alphabet: &[u8], inputs: &[u8], i: usize, j: usize) -> usize
     find(
         inputs,
         layout::record_count(inputs, INPUTS),
-        ring::sum(record_at(alphabet, i), record_at(alphabet, j)),
+        elements::sum(record_at(alphabet, i), record_at(alphabet, j)),
     )
 }

@@ -1,8 +1,8 @@
 // The program `exercises`: M1 to M12 of document 01 and further cases through the public calls, a line for each. A digit is written
 // as the byte that it is in a row: its alphabet index, two hexadecimal digits.
 mod additions;
+mod arithmetic;
 mod changes;
-mod elements;
 mod lines;
 mod lists;
 mod output;
@@ -11,8 +11,8 @@ mod values;
 
 // M1 to M12
 fn marked() {
-    elements::products();
-    elements::bases();
+    arithmetic::products();
+    arithmetic::bases();
     changes::after_sum();
     additions::sums();
     additions::empty_rows();
@@ -44,7 +44,7 @@ fn elements_of_rows() {
     values::of_tern_rows();
     values::of_no_table();
     values::of_bin_rows();
-    elements::midpoints();
+    arithmetic::midpoints();
 }
 
 fn main() {

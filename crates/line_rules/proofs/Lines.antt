@@ -1,9 +1,9 @@
 -- Whole lines, by computation.
 use mathlib.Core.Path.{_≡_, refl}
 use Rattle.faults.specs.Outcome.{Group, facts, refused}
-use Rattle.text.specs.Bytes.{bytesOf}
-use Rattle.text.specs.Decimal.{decimalWithin, decimal}
-use Rattle.text.specs.Fault.{refusedWord, placeWord}
+use Rattle.text_rules.specs.Bytes.{bytesOf}
+use Rattle.text_rules.specs.Decimal.{decimalWithin, decimal}
+use Rattle.text_rules.specs.Fault.{refusedWord, placeWord}
 use Rattle.line_rules.specs.Line.{acceptedWord, leavesWord, digitsWord, acceptedLine, refusedLine, lineOf}
 
 -- the line for TERN's facts, as document 01 gives it, and the line for a refusal, whosever it is

@@ -7,9 +7,9 @@ use lib.Dec.{ltb}
 use lib.ListN.{length}
 use Rattle.lists.specs.Overwrite.{overwrite}
 use Rattle.faults.specs.Outcome.{Outcome, facts, refused}
-use Rattle.text.specs.Bytes.{bytesOf}
-use Rattle.text.specs.Decimal.{decimal}
-use Rattle.text.specs.Fault.{refusedWord, placeWord}
+use Rattle.text_rules.specs.Bytes.{bytesOf}
+use Rattle.text_rules.specs.Decimal.{decimal}
+use Rattle.text_rules.specs.Fault.{refusedWord, placeWord}
 use Rattle.table_rules.specs.declared.Facts.{Facts}
 
 -- the words of an accepted table, each before its number

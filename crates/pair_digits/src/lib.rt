@@ -28,9 +28,9 @@ pub fn upper_part(
     ensures within { λ r. ⌜ Within (2 ^ 57 + 32768) r ⌝ }
 {
     let first = octets::byte_at(leaves::word(leaves, words, upper), 0) as usize;
-    ring::difference(
+    elements::difference(
         digits::record_at(inputs, first),
-        ring::times_base(base, leaves::weight(leaves, upper)),
+        elements::times_base(base, leaves::weight(leaves, upper)),
     )
 }
 
@@ -62,7 +62,7 @@ fn in_slots(alphabet: &[u8], slots: &[u8; SLOTS], x: [i64; 2]) -> bool
     let slot = slots::slot_of(x);
     let digit = octets::wide(slots[slot]);
     if digit < layout::record_count(alphabet, 1) {
-        return ring::equal(digits::record_at(alphabet, digit), x);
+        return elements::equal(digits::record_at(alphabet, digit), x);
     }
     false
 }
@@ -79,7 +79,7 @@ pub fn gives_digit(
     requires { ⌜ (known ≡ true → Slotted (now alphabet) (now slots)) × Within (2 ^ 57 + 32768) part ⌝ }
     ensures { λ r. ⌜ r ≡ inAlphabet (now (alphabet .entry)) (plus part (weightGiven (now (leaves .entry)) lower)) ⌝ }
 {
-    let digit = ring::sum(part, leaves::weight(leaves, lower));
+    let digit = elements::sum(part, leaves::weight(leaves, lower));
     if known {
         return in_slots(alphabet, slots, digit);
     }

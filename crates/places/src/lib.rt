@@ -252,7 +252,7 @@ fn index_of(alphabet: &[u8], x: [i64; 2], slots: &mut [u8; DIGITS]) -> usize
     let slot = slots::slot_of(x);
     let last = octets::wide(slots[slot]);
     if last < size {
-        if ring::equal(digits::record_at(alphabet, last), x) {
+        if elements::equal(digits::record_at(alphabet, last), x) {
             return last;
         }
     }

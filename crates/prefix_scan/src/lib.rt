@@ -204,7 +204,7 @@ pub fn zero_weight(leaves: &[u8]) -> Refusal
     requires { ⌜ 0 < leafCount (now leaves) ⌝ }
     ensures { λ r. ⌜ r ≡ zeroCheck (now (leaves .entry)) ⌝ }
 {
-    if ring::equal(digits::element(leaves, 4), [0, 0]) {
+    if elements::equal(digits::element(leaves, 4), [0, 0]) {
         return Refusal {
             number: 0,
             place: 0,

@@ -64,7 +64,7 @@ fn counted_places(alphabet: &[u8], row: &[u8]) -> usize
     if layout::record_count(alphabet, 1) == 0 {
         return row.len();
     }
-    if !ring::equal(digits::record_at(alphabet, 0), [0, 0]) {
+    if !elements::equal(digits::record_at(alphabet, 0), [0, 0]) {
         return row.len();
     }
     octets::significant(row)
@@ -79,8 +79,8 @@ pub fn row_value(base: [[i64; 2]; 2], alphabet: &[u8], row: &[u8]) -> Worth
     let mut left = counted_places(alphabet, row);
     while 0 < left {
         let place = left - 1;
-        let product = ring::times_base(base, total);
-        let next = ring::sum(product, digit_at(alphabet, row, place));
+        let product = elements::times_base(base, total);
+        let next = elements::sum(product, digit_at(alphabet, row, place));
         if !is_limited(next) {
             return Worth::Over(place);
         }

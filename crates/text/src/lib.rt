@@ -5,9 +5,9 @@ ghost use Prim.Native.Nat.{_+_, _^_, _≤_, _<_};
 ghost use lib.ListN.{length};
 ghost use lib.IntN.{natAbs};
 ghost use Rattle.lists.specs.Overwrite.{overwrite};
-ghost use Rattle.text.specs.Decimal.{decimal, decimalZ};
-ghost use Rattle.text.specs.Hex.{hexByte, hexDigits, hex};
-ghost use Rattle.text.specs.Fault.{placeWord, faultText};
+ghost use Rattle.text_rules.specs.Decimal.{decimal, decimalZ};
+ghost use Rattle.text_rules.specs.Hex.{hexByte, hexDigits, hex};
+ghost use Rattle.text_rules.specs.Fault.{placeWord, faultText};
 use faults::Fault;
 
 // Writes a number in decimal from a place on; the next place.
@@ -35,14 +35,6 @@ pub fn put_item(out: &mut [u8], at: usize, word: &[u8], n: usize) -> usize
     put_decimal(out, number, n)
 }
 
-// The size of a whole number.
-fn size(z: i64) -> usize
-    requires { ⌜ natAbs z < 2 ^ 63 ⌝ }
-    ensures { λ r. ⌜ r ≡ natAbs z ⌝ }
-{
-    if z < 0 { (0 - z) as usize } else { z as usize }
-}
-
 // Writes a whole number in decimal from a place on, a minus before a negative one only; the next place. Its size is taken in 64 bits,
 // since the lowest number of 32 has no opposite there.
 pub fn put_signed(out: &mut [u8], at: usize, z: i32) -> usize
@@ -50,7 +42,7 @@ pub fn put_signed(out: &mut [u8], at: usize, z: i32) -> usize
     ensures end { λ r. ⌜ r ≡ at + length (decimalZ z) ⌝ }
     ensures buffer { λ r. ⌜ now (out .exit) ≡ overwrite (now (out .entry)) at (decimalZ z) ⌝ }
 {
-    let digits = size(z as i64);
+    let digits = magnitude::size(z as i64);
     if z < 0 {
         return put_item(out, at, b"-", digits);
     }

@@ -32,7 +32,7 @@ fn number_in(leaves: &[u8], first: &[usize], count: usize, leaf: usize, number: 
     if count <= number {
         return count;
     }
-    if ring::equal(
+    if elements::equal(
         leaves::weight(leaves, first[number]),
         leaves::weight(leaves, leaf),
     ) {

@@ -1,9 +1,9 @@
 -- Three items and a line feed, each written after the one before.
 use Rattle.table.proofs.Room.{three-items}
 use Rattle.line_rules.specs.Line.{acceptedLine, acceptedWord, leavesWord, digitsWord, lineFeed}
-use Rattle.text.specs.Bytes.{bytesOf}
-use Rattle.text.specs.Decimal.{decimal}
-use Rattle.text.proofs.Fault.{item-room}
+use Rattle.text_rules.specs.Bytes.{bytesOf}
+use Rattle.text_rules.specs.Decimal.{decimal}
+use Rattle.text_rules.proofs.Fault.{item-room}
 use Rattle.lists.proofs.Overwrite.{Written, written-none, written-more}
 use Rattle.lists.specs.Overwrite.{overwrite}
 use mir.Val.{Fits}

@@ -1,9 +1,9 @@
 -- Two items and a line feed, each written after the one before.
 use Rattle.line_rules.specs.Line.{refusedLine, lineFeed}
-use Rattle.text.specs.Fault.{refusedWord, placeWord}
-use Rattle.text.specs.Bytes.{bytesOf}
-use Rattle.text.specs.Decimal.{decimal}
-use Rattle.text.proofs.Fault.{item-room}
+use Rattle.text_rules.specs.Fault.{refusedWord, placeWord}
+use Rattle.text_rules.specs.Bytes.{bytesOf}
+use Rattle.text_rules.specs.Decimal.{decimal}
+use Rattle.text_rules.proofs.Fault.{item-room}
 use Rattle.lists.proofs.Overwrite.{Written, written-none, written-more}
 use Rattle.lists.specs.Overwrite.{overwrite}
 use lib.ListN.{length, length-append}

@@ -5,8 +5,8 @@ use native.Mathlib.Omega.{arith}
 use lib.ListN.{length, set, length-set}
 use Rattle.lists.specs.Overwrite.{overwrite}
 use Rattle.lists.proofs.Overwrite.{overwrite-one, overwrite-snoc}
-use Rattle.text.specs.Decimal.{decimal}
-use Rattle.text.proofs.Decimal.{decimal-one, decimal-more, length-more}
+use Rattle.text_rules.specs.Decimal.{decimal}
+use Rattle.text_rules.proofs.Decimal.{decimal-one, decimal-more, length-more}
 use borrow.Fn.Kinds.{In}
 use borrow.Fn.PlainCycle.{Measures, is, falls, and}
 use Rattle.text.proofs.put_decimal.Reads as put-decimal

@@ -1,6 +1,6 @@
 -- Digits below ten and from ten on are apart.
 use mathlib.Core.Path.{sym}
-use Rattle.text.proofs.Hex.{hex-low, hex-high}
+use Rattle.text_rules.proofs.Hex.{hex-low, hex-high}
 use borrow.Author.Needs.{needs}
 use Rattle.text.proofs.hex_byte.Statement.{statement}
 use Rattle.text.proofs.hex_byte.Tie as tie

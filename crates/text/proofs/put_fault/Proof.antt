@@ -1,7 +1,7 @@
 -- One case for each group.
-use Rattle.text.proofs.Fault.{by-case}
-use Rattle.text.specs.Bytes.{bytesOf}
-use Rattle.text.specs.Fault.{refusedWord, placeWord, groupWord, faultText}
+use Rattle.text_rules.proofs.Fault.{by-case}
+use Rattle.text_rules.specs.Bytes.{bytesOf}
+use Rattle.text_rules.specs.Fault.{refusedWord, placeWord, groupWord, faultText}
 use borrow.Author.Needs.{needs}
 use Rattle.text.proofs.put_fault.Statement.{statement}
 use Rattle.text.proofs.put_fault.Tie as tie

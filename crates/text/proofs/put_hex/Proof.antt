@@ -1,5 +1,5 @@
 -- Nothing to write but `-`, or the digits.
-use Rattle.text.proofs.Hex.{hex-none, hex-some}
+use Rattle.text_rules.proofs.Hex.{hex-none, hex-some}
 use lib.ListN.{length}
 use native.Mathlib.Omega.{arith}
 use mathlib.Core.Path.{ap}

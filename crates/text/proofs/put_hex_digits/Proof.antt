@@ -1,6 +1,6 @@
 -- After i bytes the buffer has the digits of the first i written.
-use Rattle.text.proofs.Hex.{length-hexDigits, hex-step}
-use Rattle.text.specs.Hex.{hexDigits}
+use Rattle.text_rules.proofs.Hex.{length-hexDigits, hex-step}
+use Rattle.text_rules.specs.Hex.{hexDigits}
 use Rattle.lists.proofs.Overwrite.{overwrite-none}
 use Rattle.lists.specs.Overwrite.{overwrite}
 use lib.Seq.{take-all}

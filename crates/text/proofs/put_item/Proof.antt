@@ -7,7 +7,7 @@ use native.Mathlib.Omega.{arith}
 use borrow.Author.Needs.{needs}
 use Rattle.lists.specs.Overwrite.{overwrite}
 use Rattle.lists.proofs.Overwrite.{overwrite-append}
-use Rattle.text.specs.Decimal.{decimal}
+use Rattle.text_rules.specs.Decimal.{decimal}
 use Rattle.text.proofs.put_item.Statement.{statement}
 use Rattle.text.proofs.put_item.Tie as tie
 

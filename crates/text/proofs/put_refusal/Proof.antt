@@ -1,8 +1,8 @@
 -- Two items, one behind the other; each number has room.
-use Rattle.text.proofs.Fault.{item-room, two-items}
-use Rattle.text.specs.Decimal.{decimal}
-use Rattle.text.specs.Bytes.{bytesOf}
-use Rattle.text.specs.Fault.{placeWord}
+use Rattle.text_rules.proofs.Fault.{item-room, two-items}
+use Rattle.text_rules.specs.Decimal.{decimal}
+use Rattle.text_rules.specs.Bytes.{bytesOf}
+use Rattle.text_rules.specs.Fault.{placeWord}
 use native.Mathlib.Omega.{arith}
 use borrow.Author.Needs.{needs}
 use Rattle.text.proofs.put_refusal.Statement.{statement}

@@ -1,6 +1,6 @@
 -- The size, behind a minus where the number is below zero.
-use Rattle.text.proofs.Decimal.{signed-below, signed-above}
-use Rattle.text.specs.Decimal.{decimal, decimalZ}
+use Rattle.text_rules.proofs.Decimal.{signed-below, signed-above}
+use Rattle.text_rules.specs.Decimal.{decimal, decimalZ}
 use mir.Facts.{sfits-widen}
 use mir.ValLaws.{toZ-ofZ}
 use mir.Val.{toZ, ofZ}

@@ -1,5 +1,5 @@
 -- Two digits for each of at most 260 bytes have room behind a space.
-use Rattle.text.proofs.Hex.{length-hex}
+use Rattle.text_rules.proofs.Hex.{length-hex}
 use native.Mathlib.Omega.{arith}
 use borrow.Author.Needs.{needs}
 use Rattle.exercises.proofs.output.buffer.Statement.{statement}

@@ -1,5 +1,5 @@
 -- A 64-bit number has at most 20 digits.
-use Rattle.text.proofs.Decimal.{decimal-short}
+use Rattle.text_rules.proofs.Decimal.{decimal-short}
 use native.Mathlib.Omega.{arith}
 use borrow.Author.Needs.{needs}
 use Rattle.exercises.proofs.output.item.Statement.{statement}

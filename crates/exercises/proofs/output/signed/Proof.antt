@@ -5,8 +5,8 @@ use mir.Val.{SFits, toZ, ofZ}
 use mir.Syntax.{w32}
 use lib.IntN.{ℤ, pos, negsuc}
 use lib.ListN.{length}
-use Rattle.text.specs.Decimal.{decimalZ}
-use Rattle.text.proofs.Decimal.{decimal-short}
+use Rattle.text_rules.specs.Decimal.{decimalZ}
+use Rattle.text_rules.proofs.Decimal.{decimal-short}
 use native.Mathlib.Omega.{arith}
 use borrow.Author.Needs.{needs}
 use Rattle.exercises.proofs.output.signed.Statement.{statement}

@@ -6,8 +6,8 @@ use mir.Syntax.{w32}
 use lib.IntN.{ℤ, pos, negsuc}
 use lib.ListN.{length, length-set}
 use native.Mathlib.Omega.{arith}
-use Rattle.text.specs.Decimal.{decimalZ}
-use Rattle.text.proofs.Decimal.{decimal-short}
+use Rattle.text_rules.specs.Decimal.{decimalZ}
+use Rattle.text_rules.proofs.Decimal.{decimal-short}
 use borrow.Author.Needs.{needs}
 use Rattle.vectors.proofs.output.parts.Statement.{statement}
 use Rattle.vectors.proofs.output.parts.Tie as tie

@@ -2,7 +2,7 @@
 use mathlib.Core.Path.{_∙_}
 use lib.ListN.{length-set}
 use native.Mathlib.Omega.{arith}
-use Rattle.text.proofs.Hex.{length-hex}
+use Rattle.text_rules.proofs.Hex.{length-hex}
 use borrow.Author.Needs.{needs}
 use Rattle.vectors.proofs.output.put_buffer.Statement.{statement}
 use Rattle.vectors.proofs.output.put_buffer.Tie as tie

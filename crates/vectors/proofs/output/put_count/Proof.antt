@@ -1,6 +1,6 @@
 -- A word and a 64-bit number have room.
 use native.Mathlib.Omega.{arith}
-use Rattle.text.proofs.Fault.{item-room}
+use Rattle.text_rules.proofs.Fault.{item-room}
 use borrow.Author.Needs.{needs}
 use Rattle.vectors.proofs.output.put_count.Statement.{statement}
 use Rattle.vectors.proofs.output.put_count.Tie as tie

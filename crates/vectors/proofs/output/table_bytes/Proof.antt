@@ -1,5 +1,5 @@
 -- Two digits for each of at most 200 bytes have room.
-use Rattle.text.proofs.Hex.{length-hex}
+use Rattle.text_rules.proofs.Hex.{length-hex}
 use native.Mathlib.Omega.{arith}
 use borrow.Author.Needs.{needs}
 use Rattle.vectors.proofs.output.table_bytes.Statement.{statement}
