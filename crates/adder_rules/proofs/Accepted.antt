@@ -20,13 +20,14 @@ use Rattle.reader_rules.specs.Table.{inputCount}
 use Rattle.reader_rules.proofs.Formed.{well-formed}
 use Rattle.reader_rules.proofs.Kept.{no-number}
 use Rattle.row_rules.specs.Check.{rowCheck}
-use Rattle.row_rules.specs.Fit.{RowsFit}
+use Rattle.row_rules.specs.Rows.{RowsFit}
 use Rattle.row_rules.specs.Broken.{rowRules}
 use Rattle.row_rules.proofs.Fit.{rows-fit}
 use Rattle.row_rules.proofs.Broken.{rows-exact}
 use Rattle.table_rules.specs.Check.{checkFacts, checkOutcome}
 use Rattle.table_rules.proofs.Demand.{demand-2}
-use Rattle.adder_rules.specs.Sum.{inputOf, inputRow, digitCount, placeCount}
+use Rattle.adder_rules.specs.Sum.{digitCount, placeCount}
+use Rattle.adder_rules.specs.Input.{inputOf, inputRow}
 use Rattle.adder_rules.specs.Add.{outputCheck, digitsOutcome, addOutcome}
 use Rattle.adder_rules.specs.Broken.{outputRules}
 use Rattle.adder_rules.proofs.Rows.{inputs-below}

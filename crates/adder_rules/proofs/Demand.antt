@@ -16,7 +16,8 @@ use Rattle.reader_rules.proofs.Broken.{table-decided}
 use Rattle.row_rules.proofs.Broken.{rows-decided}
 use Rattle.table_rules.proofs.Demand.{listed-test}
 use Rattle.adder_rules.specs.declared.AddedFacts.{AddedFacts}
-use Rattle.adder_rules.specs.Sum.{inputRow, digitCount, placeCount, rowDigit}
+use Rattle.adder_rules.specs.Sum.{digitCount, placeCount, rowDigit}
+use Rattle.adder_rules.specs.Input.{inputRow}
 use Rattle.adder_rules.specs.Add.{rowAllowed, outputCheck, digitsOutcome, addOutcome, addSum}
 use Rattle.adder_rules.specs.Broken.{Broken27, outputRules, addStages}
 use Rattle.adder_rules.proofs.Sum.{sum-lent}

@@ -18,13 +18,15 @@ use Rattle.reader_rules.proofs.Formed.{well-formed}
 use Rattle.reader_rules.proofs.Ready.{ready-passed}
 use Rattle.row_rules.specs.declared.Change.{Change}
 use Rattle.row_rules.specs.Changed.{changed, noChange}
-use Rattle.row_rules.specs.Fit.{Indexes, RowsFit}
+use Rattle.row_rules.specs.Fit.{Indexes}
+use Rattle.row_rules.specs.Rows.{RowsFit}
 use Rattle.row_rules.proofs.Changed.{unchanged}
 use Rattle.table_rules.specs.Pairs.{inAlphabet}
 use Rattle.place_rules.specs.Place.{alphabetIndex, indexAt}
 use Rattle.place_rules.specs.Helpers.{partRow}
 use Rattle.place_rules.proofs.Part.{part-in, part-behind, part-each}
-use Rattle.adder_rules.specs.Sum.{inputOf, inputRow, digitCount, placeCount, rowDigit, rowIndex}
+use Rattle.adder_rules.specs.Sum.{digitCount, placeCount, rowDigit}
+use Rattle.adder_rules.specs.Input.{inputOf, inputRow, rowIndex}
 use Rattle.adder_rules.specs.Add.{rowAllowed}
 
 -- the digit at place j is the same for rows that agree at its own place and the h places below it

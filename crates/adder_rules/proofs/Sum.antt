@@ -18,7 +18,8 @@ use Rattle.reader_rules.specs.Check.{tableCheck, readOutcome}
 use Rattle.reader_rules.proofs.Answer.{read-fault}
 use Rattle.row_rules.specs.Check.{rowCheck}
 use Rattle.adder_rules.specs.declared.AddedFacts.{AddedFacts}
-use Rattle.adder_rules.specs.Sum.{inputRow, digitCount, placeCount}
+use Rattle.adder_rules.specs.Sum.{digitCount, placeCount}
+use Rattle.adder_rules.specs.Input.{inputRow}
 use Rattle.adder_rules.specs.Add.{rowAllowed, rowPart, sumRow, digitsOutcome, addOutcome, addSum}
 use Rattle.adder_rules.proofs.Part.{check-refused, check-kept, part-found, part-room}
 

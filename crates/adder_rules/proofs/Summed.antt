@@ -19,8 +19,9 @@ use Rattle.layout_rules.specs.Section.{degree}
 use Rattle.ring.specs.Element.{plus}
 use Rattle.digit_rules.specs.Record.{recordAt, elementCount}
 use Rattle.digit_rules.proofs.Record.{element-parts}
-use Rattle.numeration.specs.Conversion.{convertRow}
-use Rattle.numeration.specs.Elements.{elements, HasParts}
+use Rattle.numeration.specs.Laws.{convertRow}
+use Rattle.numeration.specs.Elements.{elements}
+use Rattle.numeration.specs.Laws.{HasParts}
 use Rattle.numeration.specs.Value.{value}
 use Rattle.numeration.proofs.Laws.{same-value}
 use Rattle.numeration.proofs.Sums.{value-sum}
@@ -30,14 +31,15 @@ use Rattle.reader_rules.specs.Table.{operationsOf, inputCount, leavesIn, valueO
 use Rattle.reader_rules.proofs.Formed.{well-formed}
 use Rattle.reader_rules.proofs.Ready.{ready-passed}
 use Rattle.row_rules.specs.Check.{rowCheck}
-use Rattle.row_rules.specs.Fit.{RowsFit}
+use Rattle.row_rules.specs.Rows.{RowsFit}
 use Rattle.row_rules.proofs.Fit.{rows-fit}
 use Rattle.table_rules.specs.Pairs.{inAlphabet}
 use Rattle.place_rules.specs.Place.{indexAt}
 use Rattle.place_rules.proofs.Place.{input-is, index-names}
 use Rattle.lists.proofs.Entries.{overwrite-in, overwrite-behind}
 use Rattle.adder_rules.specs.declared.AddedFacts.{AddedFacts}
-use Rattle.adder_rules.specs.Sum.{inputOf, inputRow, digitCount, placeCount, rowDigit, rowIndex}
+use Rattle.adder_rules.specs.Sum.{digitCount, placeCount, rowDigit}
+use Rattle.adder_rules.specs.Input.{inputOf, inputRow, rowIndex}
 use Rattle.adder_rules.specs.Add.{rowAllowed, rowPart, outputCheck, sumRow, digitsOutcome, addOutcome, addSum}
 use Rattle.adder_rules.specs.Summed.{DigitsAdded, Summed}
 use Rattle.adder_rules.proofs.Part.{written-first}
@@ -70,6 +72,24 @@ passed file first second room f e =
       digits = λ j h. subst (λ (k : ℕ). rowIndex file (inputRow file first second) k < elementCount (alphabetPart file)) (zero-add j) (ltb-true _ _ (judge-passed 27 (λ k. 0 + k) (λ k. rowAllowed file (inputRow file first second) (0 + k)) (placeCount file first) (omega arith) (d .0) j h));
     }
 
+-- what is converted, also where a digit that comes out of it gets 27
+module _ (file first second : List ℕ) (room : ℕ) (table : tableCheck file .number ≡ 0) (fit : RowsFit first second room (digitCount file) (tableFacts file .depth)) where
+  -- w(j) is the sum of the two digits at place j
+  sum-at : (k : ℕ) → k < length first → recordAt (inputPart file) (inputOf file first second k) ≡ plus (recordAt (alphabetPart file) (getD first k 0)) (recordAt (alphabetPart file) (getD second k 0))
+  sum-at k h =
+      let low : getD first k 0 < elementCount (alphabetPart file) = fit .first-indexes k h in
+      let also : getD second k 0 < elementCount (alphabetPart file) = fit .second-indexes k (omega (arith, fit .same-length)) in
+      input-is (basePart file) (alphabetPart file) (inputPart file) (well-formed file .1 table .digits) first second k low also
+
+  -- and zero outside the rows
+  pub digits-added : DigitsAdded file first second
+  unfolding inputRow
+  digits-added =
+      record {
+        inside = λ j h. ap (recordAt (inputPart file)) (getD-span (inputOf file first second) 0 (length first) j 0 h ∙ ap (inputOf file first second) (zero-add j)) ∙ sum-at j h;
+        outside = λ j h. ap (recordAt (inputPart file)) (List·getD-eq-default (inputRow file first second) 0 {n = j} (omega (arith, length-span (inputOf file first second) 0 (length first)))) ∙ ready-passed file table .input-zero;
+      }
+
 module _ (file first second : List ℕ) (room : ℕ) (is : Passed file first second room) where
   -- the digit of the sum row is z(j)
   pub digit-is : (j : ℕ) → j < placeCount file first → recordAt (alphabetPart file) (rowIndex file (inputRow file first second) j) ≡ rowDigit file (inputRow file first second) j
@@ -86,28 +106,12 @@ module _ (file first second : List ℕ) (room : ℕ) (is : Passed file first sec
       ∙ span-ext (λ k. a (rowIndex file row (0 + k))) (rowDigit file row) 0 0 (placeCount file first) (λ k h. ap (λ (n : ℕ). a (rowIndex file row n)) (zero-add (0 + k)) ∙ digit-is (0 + k) (omega arith))
       ∙ ap (λ (n : ℕ). span (rowDigit file row) 0 (n + tableFacts file .depth)) (sym (length-span (inputOf file first second) 0 (length first)))
 
-  -- w(j) is the sum of the two digits at place j
-  sum-at : (k : ℕ) → k < length first → recordAt (inputPart file) (inputOf file first second k) ≡ plus (recordAt (alphabetPart file) (getD first k 0)) (recordAt (alphabetPart file) (getD second k 0))
-  sum-at k h =
-      let low : getD first k 0 < elementCount (alphabetPart file) = is .fit .first-indexes k h in
-      let also : getD second k 0 < elementCount (alphabetPart file) = is .fit .second-indexes k (omega (arith, is .fit .same-length)) in
-      input-is (basePart file) (alphabetPart file) (inputPart file) (well-formed file .1 (is .table) .digits) first second k low also
-
-  -- and zero outside the rows
-  pub digits-added : DigitsAdded file first second
-  unfolding inputRow
-  digits-added =
-      record {
-        inside = λ j h. ap (recordAt (inputPart file)) (getD-span (inputOf file first second) 0 (length first) j 0 h ∙ ap (inputOf file first second) (zero-add j)) ∙ sum-at j h;
-        outside = λ j h. ap (recordAt (inputPart file)) (List·getD-eq-default (inputRow file first second) 0 {n = j} (omega (arith, length-span (inputOf file first second) 0 (length first)))) ∙ ready-passed file (is .table) .input-zero;
-      }
-
   summands : map (recordAt (inputPart file)) (inputRow file first second) ≡ span (λ k. operationsOf file .sum (recordAt (alphabetPart file) (getD first k 0)) (recordAt (alphabetPart file) (getD second k 0))) 0 (length first)
   unfolding inputRow elements
   summands =
       let a : ℕ → List ℤ = recordAt (alphabetPart file) in
       map-span (recordAt (inputPart file)) (inputOf file first second) 0 (length first)
-      ∙ span-ext (λ k. recordAt (inputPart file) (inputOf file first second k)) (λ k. plus (a (getD first k 0)) (a (getD second k 0))) 0 0 (length first) (λ k h. sum-at (0 + k) (omega arith))
+      ∙ span-ext (λ k. recordAt (inputPart file) (inputOf file first second k)) (λ k. plus (a (getD first k 0)) (a (getD second k 0))) 0 0 (length first) (λ k h. sum-at file first second room (is .table) (is .fit) (0 + k) (omega arith))
 
   row-digits : (row : List ℕ) → length row ≡ length first → span (λ k. recordAt (alphabetPart file) (getD row k 0)) 0 (length first) ≡ map (recordAt (alphabetPart file)) row
   row-digits row l =
@@ -137,7 +141,7 @@ summed file first second sum f e =
     let written : addSum file first second sum ≡ overwrite sum 0 row = sym (exit-written (addOutcome file first second (length sum)) f sum (overwrite sum 0 row) (sym e)) in
     let at : (j : ℕ) → j < n → getD (addSum file first second sum) j 0 ≡ rowIndex file (inputRow file first second) j = λ j h. ap (λ (s : List ℕ). getD s j 0) written ∙ ap (λ (k : ℕ). getD (overwrite sum 0 row) k 0) (sym (zero-add j)) ∙ overwrite-in sum row 0 (omega arith) j (omega arith) ∙ sum-row-at file first second j h in
     record {
-      inputs = digits-added file first second (length sum) is;
+      inputs = digits-added file first second (length sum) (is .table) (is .fit);
       index = at;
       in-alphabet = λ j h. omega (arith, at j h, is .digits j h);
       digit = λ j h. ap (recordAt (alphabetPart file)) (at j h) ∙ digit-is file first second (length sum) is j h;

@@ -15,7 +15,8 @@ use Rattle.reader_rules.specs.Check.{tableCheck}
 use Rattle.row_rules.specs.Check.{rowCheck}
 use Rattle.place_rules.specs.Place.{digitAllowed}
 use Rattle.adder_rules.specs.declared.AddedFacts.{AddedFacts}
-use Rattle.adder_rules.specs.Sum.{inputRow, digitCount, placeCount, rowIndex}
+use Rattle.adder_rules.specs.Sum.{digitCount, placeCount}
+use Rattle.adder_rules.specs.Input.{inputRow, rowIndex}
 
 module _ (file : List ℕ) where
   -- of a row of input indexes: whether z(j) has an alphabet index

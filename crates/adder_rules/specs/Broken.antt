@@ -8,7 +8,8 @@ use Rattle.digit_rules.specs.Broken.{Listed}
 use Rattle.reader_rules.specs.Table.{alphabetPart, tableFacts}
 use Rattle.reader_rules.specs.Broken.{tableRules}
 use Rattle.row_rules.specs.Broken.{rowRules}
-use Rattle.adder_rules.specs.Sum.{inputRow, digitCount, placeCount, rowDigit}
+use Rattle.adder_rules.specs.Sum.{digitCount, placeCount, rowDigit}
+use Rattle.adder_rules.specs.Input.{inputRow}
 
 -- 27: a sum digit isn't in the alphabet (place), of `count` places from `from` on
 abbrev pub Broken27 : List ℕ → List ℕ → ℕ → ℕ → ℕ → Type 0

@@ -1,4 +1,5 @@
 pub mod Sum
+pub mod Input
 pub mod Add
 pub mod Broken
 pub mod Summed

@@ -4,11 +4,10 @@ use mathlib.Core.List.{[], _∷_, map}
 use Rattle.lists.specs.Span.{span}
 use Rattle.layout_rules.specs.Number.{unsignedAt, toSigned}
 use Rattle.digit_rules.specs.Record.{elementAt}
-use Rattle.leaf_rules.specs.Leaf.{wordGiven}
 use Rattle.carried.specs.Tables.{unsigned16, signed16, joined, record4, leafRecords, directory, sections, fileOf, ternInputs, ternWeight, ternLeaves, ternFile, binInputs, binWeight2, binWeight1, binLeavesOf, binLeaves, binFile}
 use Rattle.carried.specs.Contents.{contentsOf, ternListed, binListed}
 
 -- TERN and BIN, digit by digit
 pub listed : map contentsOf (ternFile ∷ binFile ∷ []) ≡ ternListed ∷ binListed ∷ []
-unfolding span unsignedAt toSigned elementAt wordGiven unsigned16 signed16 joined record4 leafRecords directory sections fileOf ternInputs ternWeight ternLeaves ternFile binInputs binWeight2 binWeight1 binLeavesOf binLeaves binFile contentsOf ternListed binListed
+unfolding span unsignedAt toSigned elementAt unsigned16 signed16 joined record4 leafRecords directory sections fileOf ternInputs ternWeight ternLeaves ternFile binInputs binWeight2 binWeight1 binLeavesOf binLeaves binFile contentsOf ternListed binListed
 listed = refl

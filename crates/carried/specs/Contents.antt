@@ -5,8 +5,8 @@ use lib.IntN.{ℤ, pos, negℤ}
 use lib.ListN.{length}
 use Rattle.lists.specs.Span.{span}
 use Rattle.digit_rules.specs.Record.{recordAt, elementCount}
-use Rattle.leaf_rules.specs.Leaf.{leafCount, wordGiven, weightOf}
-use Rattle.reader_rules.specs.Table.{basePart, alphabetPart, inputPart, leafPart, wordPart}
+use Rattle.leaf_rules.specs.Leaf.{leafCount, weightOf}
+use Rattle.reader_rules.specs.Table.{basePart, alphabetPart, inputPart, leafPart, leavesIn}
 
 -- the file's length; s, t, u, v; alphabet; input digits; each leaf's word, as the input digits that it names, with its weight
 pub record Contents : Type 0 where
@@ -20,6 +20,10 @@ pub record Contents : Type 0 where
 abbrev elementsOf : List ℕ → List (List ℤ)
 elementsOf part = span (recordAt part) 0 (elementCount part)
 
+-- the input indexes of a leaf's word
+abbrev wordDigits : List ℕ → ℕ → List ℕ
+wordDigits file k = span (leavesIn file .digit k) 0 (leavesIn file .size k)
+
 -- a file's contents
 unfoldable pub contentsOf : List ℕ → Contents
 contentsOf file =
@@ -28,7 +32,7 @@ contentsOf file =
       base = recordAt (basePart file) 0 ++ recordAt (basePart file) 1;
       alphabet = elementsOf (alphabetPart file);
       inputs = elementsOf (inputPart file);
-      leaves = span (λ k. (map (recordAt (inputPart file)) (wordGiven (leafPart file) (wordPart file) k), weightOf (leafPart file) k)) 0 (leafCount (leafPart file));
+      leaves = span (λ k. (map (recordAt (inputPart file)) (wordDigits file k), weightOf (leafPart file) k)) 0 (leafCount (leafPart file));
     }
 
 -- ---- the two tables, digit by digit

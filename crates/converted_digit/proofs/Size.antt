@@ -8,7 +8,8 @@ use lib.Dec.{lit≤}
 use lib.ListN.{length}
 use lib.IntN.{ℤ, natAbs, _*ℤ_}
 use Rattle.integers.proofs.Size.{natAbs-+, natAbs-*≤}
-use Rattle.ring.specs.Element.{Within, plus}
+use Rattle.ring.specs.Element.{plus}
+use Rattle.ring.specs.Tests.{Within}
 use Rattle.ring.specs.Matrix.{dot, times}
 use Rattle.ring.specs.Tests.{RowsWithin}
 use Rattle.ring.proofs.Element.{within-plus, within-minus, within-le}

@@ -1,7 +1,7 @@
 // Rules 5 to 8 of document 01, on the base, the alphabet and the input digits. Each section is given as its bytes, of a file or not.
 ghost use mathlib.Core.Path.{_≡_};
 ghost use Prim.Native.Nat.{_+_, _<_};
-ghost use Rattle.ring.specs.Element.{Within};
+ghost use Rattle.ring.specs.Tests.{Within};
 ghost use Rattle.digit_rules.specs.Record.{elementCount};
 ghost use Rattle.digit_rules.specs.Digits.{BasePart, baseCheck};
 ghost use Rattle.digit_rules.specs.Digits.{alphabetCheck, sumsListed, allSumsListed, isSum, inputAllowed, inputCheck, digitCheck};

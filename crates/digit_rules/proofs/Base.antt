@@ -8,7 +8,8 @@ use lib.IntN.{ℤ, natAbs, _+ℤ_, _*ℤ_}
 use Rattle.integers.proofs.Machine.{_⊕_, _⊗_, plain-bound}
 use Rattle.faults.specs.Check.{refusal, none, judge}
 use Rattle.faults.proofs.Check.{once-broken, once-kept, then-found, then-next}
-use Rattle.ring.specs.Element.{part, Within}
+use Rattle.ring.specs.Element.{part}
+use Rattle.ring.specs.Tests.{Within}
 use Rattle.ring.specs.Matrix.{matrixOf}
 use Rattle.ring.specs.Tests.{RowsWithin}
 use Rattle.ring.specs.Base.{discriminant}

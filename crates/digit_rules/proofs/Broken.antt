@@ -9,7 +9,8 @@ use native.Mathlib.Omega.{arith}
 use borrow.Author.Tests.{not-true, not-false}
 use Rattle.lists.proofs.Test.{clash, both, not-both}
 use Rattle.faults.specs.Check.{judge}
-use Rattle.faults.specs.Rule.{rule, Exact}
+use Rattle.faults.specs.Rule.{rule}
+use Rattle.faults.specs.Exact.{Exact}
 use Rattle.faults.proofs.Rule.{Decided, exact, places-decided, then-decided}
 use Rattle.ring.proofs.Base.{expanding-test, square-test}
 use Rattle.digit_rules.specs.Record.{recordAt, elementCount}

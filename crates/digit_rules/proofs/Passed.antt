@@ -13,9 +13,10 @@ use Rattle.layout_rules.specs.Length.{lengthCheck}
 use Rattle.layout_rules.specs.Section.{sectionLengths}
 use Rattle.layout_rules.specs.Limit.{sizeLimit, limitCheck}
 use Rattle.layout_rules.proofs.Passed.{whole-records, within-element}
-use Rattle.ring.specs.Element.{Within}
+use Rattle.ring.specs.Tests.{Within}
 use Rattle.ring.proofs.Parts.{within-two}
-use Rattle.digit_rules.specs.Record.{elementAt, RecordsWithin}
+use Rattle.digit_rules.specs.Record.{elementAt}
+use Rattle.digit_rules.specs.Digits.{RecordsWithin}
 use Rattle.digit_rules.specs.Digits.{BasePart}
 use Rattle.digit_rules.proofs.Record.{element-two}
 

@@ -2,7 +2,7 @@
 -- document 01 as a check of three sections, given as lists of bytes, of a file or not.
 use mathlib.Core.Bool.{Bool, true, false, _&&_, not}
 use mathlib.Core.List.{List}
-use Prim.Native.Nat.{ℕ, zero, suc, _+_, _*_}
+use Prim.Native.Nat.{ℕ, zero, suc, _+_, _*_, _<_}
 use lib.IntN.{ℤ}
 use lib.Dec.{ltb, eqb}
 use Rattle.lists.specs.Scan.{every, firstFailing}
@@ -10,8 +10,9 @@ use Rattle.faults.specs.declared.Refusal.{Refusal}
 use Rattle.faults.specs.Check.{judge, _then_}
 use Rattle.layout_rules.specs.Section.{degree}
 use Rattle.ring.specs.Element.{zeros, plus, minus, part}
+use Rattle.ring.specs.Tests.{Within}
 use Rattle.ring.specs.Tests.{same, expanding, perfectSquare}
-use Rattle.digit_rules.specs.Record.{recordAt, elementCount, RecordsWithin}
+use Rattle.digit_rules.specs.Record.{recordAt, elementCount}
 use Rattle.digit_rules.specs.Base.{sOf, tOf, uOf, vOf}
 use mathlib.Core.Path.{_≡_}
 use lib.ListN.{length}
@@ -22,7 +23,11 @@ use Rattle.ring.specs.Base.{discriminant}
 unfoldable pub indexIn : List ℕ → ℕ → List ℤ → ℕ
 indexIn part n x = firstFailing (λ k. not (same (recordAt part k) x)) 0 n
 
--- what rules 3 and 4 leave of it: its length, and numbers within their size limits
+-- every part of every record is at most so large, as rule 4 leaves it
+abbrev pub RecordsWithin : ℕ → List ℕ → Type 0
+RecordsWithin limit part = (k : ℕ) → k < elementCount part → Within limit (recordAt part k)
+
+-- what rules 3 and 4 leave of the base section: its length, and numbers within their size limits
 pub record BasePart (base : List ℕ) : Type 0 where
   pub long : length base ≡ 4 * degree
   pub small : RecordsWithin (sizeLimit 0) base

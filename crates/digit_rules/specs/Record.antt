@@ -1,11 +1,10 @@
 -- Elements as they stand in the table file (document 01, "Table file"): signed 16-bit parts, lowest power first.
 use mathlib.Core.List.{List}
-use Prim.Native.Nat.{ℕ, _+_, _*_, _<_}
+use Prim.Native.Nat.{ℕ, _+_, _*_}
 use lib.IntN.{ℤ}
 use Rattle.lists.specs.Span.{span}
 use Rattle.layout_rules.specs.Number.{signedAt}
 use Rattle.layout_rules.specs.Section.{degree, elementSize, recordCount}
-use Rattle.ring.specs.Element.{Within}
 
 -- the element whose first byte stands at a place
 unfoldable pub elementAt : List ℕ → ℕ → List ℤ
@@ -17,7 +16,3 @@ recordAt part k = elementAt part (k * elementSize)
 
 abbrev pub elementCount : List ℕ → ℕ
 elementCount part = recordCount 1 part
-
--- every part of every record is at most so large, as rule 4 leaves it
-abbrev pub RecordsWithin : ℕ → List ℕ → Type 0
-RecordsWithin limit part = (k : ℕ) → k < elementCount part → Within limit (recordAt part k)

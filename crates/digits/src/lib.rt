@@ -3,7 +3,7 @@
 ghost use mathlib.Core.Path.{_≡_};
 ghost use Prim.Native.Nat.{_+_, _≤_, _<_};
 ghost use lib.ListN.{length};
-ghost use Rattle.ring.specs.Element.{Within};
+ghost use Rattle.ring.specs.Tests.{Within};
 ghost use Rattle.digit_rules.specs.Record.{elementAt, recordAt, elementCount};
 ghost use Rattle.digit_rules.specs.Digits.{indexIn};
 ghost use Rattle.digit_rules.specs.Base.{baseMatrix};

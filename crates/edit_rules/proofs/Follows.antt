@@ -26,7 +26,8 @@ use Rattle.reader_rules.specs.Table.{valueOf}
 use Rattle.reader_rules.proofs.Kept.{no-number}
 use Rattle.row_rules.specs.declared.Change.{Change}
 use Rattle.row_rules.specs.Changed.{changed, noChange}
-use Rattle.row_rules.specs.Fit.{RowsFit, EditFits}
+use Rattle.row_rules.specs.Fit.{EditFits}
+use Rattle.row_rules.specs.Rows.{RowsFit}
 use Rattle.row_rules.proofs.Broken.{rows-pass}
 use Rattle.row_rules.proofs.Changed.{length-changed, changed-elsewhere, changed-fit}
 use Rattle.table_rules.specs.Check.{checkFacts, checkOutcome}
@@ -34,7 +35,8 @@ use Rattle.table_rules.specs.Pairs.{inAlphabet}
 use Rattle.table_rules.proofs.Demand.{demand-2, listed-test}
 use Rattle.place_rules.specs.Place.{indexAt}
 use Rattle.adder_rules.specs.declared.AddedFacts.{AddedFacts}
-use Rattle.adder_rules.specs.Sum.{inputOf, inputRow, digitCount, placeCount, rowDigit, rowIndex}
+use Rattle.adder_rules.specs.Sum.{digitCount, placeCount, rowDigit}
+use Rattle.adder_rules.specs.Input.{inputOf, inputRow, rowIndex}
 use Rattle.adder_rules.specs.Add.{rowPart, sumRow, addOutcome, addSum}
 use Rattle.adder_rules.proofs.Rows.{same-index}
 use Rattle.adder_rules.proofs.Summed.{sum-row-long, passed, summed}
@@ -43,7 +45,8 @@ use Rattle.edit_rules.specs.declared.EditedFacts.{EditedFacts}
 use Rattle.edit_rules.specs.Edit.{newSum, editOutcome, editState}
 use Rattle.edit_rules.specs.State.{State, state}
 use Rattle.edit_rules.specs.Run.{editAll, editAnswers, added, run}
-use Rattle.edit_rules.specs.Follows.{rowEdits, Follows, Step, ListFollows}
+use Rattle.edit_rules.specs.Follows.{storeEdits, Follows, Step, ListFollows}
+use Rattle.edit_rules.specs.Edits.{rowEdits}
 use Rattle.edit_rules.proofs.Step.{taken-state, lent-state, step}
 
 -- input indexes away from the place that a change names
@@ -60,6 +63,12 @@ inputs-elsewhere file e first second k other =
       | yes h ↦ getD-span (inputOf file new also) 0 (length new) k 0 (omega (arith, n)) ∙ (λ i. inputOf-at (changed-elsewhere e 0 first (0 + k) away i) (changed-elsewhere e 1 second (0 + k) away i)) ∙ sym (getD-span (inputOf file first second) 0 (length first) k 0 h)
       | no h ↦ List·getD-eq-default (inputRow file new also) 0 {n = k} (omega (arith, n, length-span (inputOf file new also) 0 (length new))) ∙ sym (List·getD-eq-default (inputRow file first second) 0 {n = k} (omega (arith, length-span (inputOf file first second) 0 (length first))))
     ]
+
+-- the edits taken, stored in turn, are the changes taken of the law of lists
+stored-edits : (file : List ℕ) (n : ℕ) (es : List Change) (r : List ℕ × List ℕ) → storeAll (rowEdits file n) es r ≡ storeEdits n (digitCount file) es r
+unfolding storeAll storeTaken storeEdits rowEdits
+stored-edits file n [] r = refl
+stored-edits file n (e ∷ es) r = stored-edits file n es _
 
 -- with a table that the check accepts, and rows of n digits and a sum buffer as an addition was given them
 module _ (file : List ℕ) (accepted : checkOutcome file ≡ facts (checkFacts file)) (n room : ℕ) where
@@ -219,7 +228,7 @@ module _ (file : List ℕ) (accepted : checkOutcome file ≡ facts (checkFacts f
       let t = summed file (r .0) (r .1) (s .sum) (record { places = placeCount file (s .first) }) (adds r v) in
       let places : placeCount file (s .first) ≡ placeCount file (r .0) = ap (λ (m : ℕ). m + tableFacts file .depth) (sym (v .1)) in
       subst (Follows file s es) (sym (buffers-are es)) (record {
-        rows-stored = refl;
+        rows-stored = stored-edits file n es (s .first, s .second);
         inputs = t .inputs;
         index = λ j h. ap (λ (x : List ℕ). getD x j 0) is ∙ t .index j (omega (arith, places));
         digit = λ j h. ap (λ (x : List ℕ). recordAt (alphabetPart file) (getD x j 0)) is ∙ t .digit j (omega (arith, places));

@@ -23,11 +23,13 @@ use Rattle.reader_rules.specs.Table.{inputCount}
 use Rattle.reader_rules.proofs.Ready.{ready-passed}
 use Rattle.row_rules.specs.declared.Change.{Change}
 use Rattle.row_rules.specs.Changed.{changed}
-use Rattle.row_rules.specs.Fit.{RowsFit, EditFits}
+use Rattle.row_rules.specs.Fit.{EditFits}
+use Rattle.row_rules.specs.Rows.{RowsFit}
 use Rattle.row_rules.proofs.Changed.{length-changed, changed-fit}
 use Rattle.place_rules.specs.Helpers.{partRow}
 use Rattle.lists.proofs.Entries.{overwrite-in}
-use Rattle.adder_rules.specs.Sum.{inputOf, digitCount, rowIndex}
+use Rattle.adder_rules.specs.Sum.{digitCount}
+use Rattle.adder_rules.specs.Input.{inputOf, rowIndex}
 use Rattle.adder_rules.specs.Add.{rowAllowed, rowPart, outputCheck}
 use Rattle.adder_rules.proofs.Rows.{part-inputs, part-same}
 use Rattle.adder_rules.proofs.Part.{check-refused, check-kept, part-found, part-room}

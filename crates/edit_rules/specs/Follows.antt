@@ -1,6 +1,6 @@
 -- Demand 3 of document 01: what holds after every prefix of a list of edits, and of each edit in it.
 use mathlib.Core.Path.{_≡_}
-use mathlib.Core.Bool.{_&&_}
+use mathlib.Core.Bool.{Bool, true, false, _&&_}
 use mathlib.Core.List.{List, [], _∷_}
 use mathlib.Core.Logic.{_↔_}
 use Prim.Native.Nat.{ℕ, _+_, _<_, _≤_}
@@ -9,7 +9,6 @@ use lib.Dec.{ltb, leb}
 use Rattle.faults.specs.Outcome.{Group, Outcome, facts, refused, editor}
 use Rattle.calls.specs.Answers.{stage, Answers}
 use Rattle.digit_rules.specs.Record.{recordAt}
-use Rattle.numeration.specs.Changes.{Changes, storeAll}
 use Rattle.reader_rules.specs.Table.{alphabetPart, tableFacts}
 use Rattle.reader_rules.specs.Table.{operationsOf, valueOf}
 use Rattle.row_rules.specs.declared.Change.{Change}
@@ -17,31 +16,28 @@ use Rattle.row_rules.specs.Changed.{changed, noChange}
 use Rattle.row_rules.specs.Broken.{editRules}
 use Rattle.row_rules.specs.Fit.{EditFits}
 use Rattle.adder_rules.specs.Summed.{DigitsAdded}
-use Rattle.adder_rules.specs.Sum.{inputRow, digitCount, placeCount, rowDigit, rowIndex}
+use Rattle.adder_rules.specs.Sum.{digitCount, placeCount, rowDigit}
+use Rattle.adder_rules.specs.Input.{inputRow, rowIndex}
 use Rattle.adder_rules.specs.Add.{addOutcome, addSum}
 use Rattle.edit_rules.specs.declared.EditedFacts.{EditedFacts}
 use Rattle.edit_rules.specs.Count.{differing}
 use Rattle.edit_rules.specs.State.{State}
 use Rattle.edit_rules.specs.Run.{run}
 
--- two rows of n digits, their sum digits by index, and edits of them. Taken are "exactly those with row number 0 or 1, p below n and an
+-- two rows of n digits with the digits of the edits taken stored in turn. Taken are "exactly those with row number 0 or 1, p below n and an
 -- alphabet index as the new digit"
-unfoldable pub rowEdits : List ℕ → ℕ → Changes (List ℕ × List ℕ) Change ℕ
-rowEdits file n =
-    record {
-      reach = tableFacts file .depth;
-      places = n + tableFacts file .depth;
-      digit = λ r j. rowIndex file (inputRow file (r .0) (r .1)) j;
-      alphabet = λ d. ltb d (digitCount file);
-      place = λ e. e .place;
-      taken = λ e. leb (e .row) 1 && (ltb (e .place) n && ltb (e .digit) (digitCount file));
-      store = λ e r. (changed e 0 (r .0), changed e 1 (r .1));
-    }
+module _ (n digits : ℕ) where
+  abbrev pub takes : Change → Bool
+  takes e = leb (e .row) 1 && (ltb (e .place) n && ltb (e .digit) digits)
+
+  unfoldable pub storeEdits : List Change → List ℕ × List ℕ → List ℕ × List ℕ
+  storeEdits [] r = r
+  storeEdits (e ∷ es) r = storeEdits es (elim (takes e) [ true ↦ (changed e 0 (r .0), changed e 1 (r .1)) | false ↦ r ])
 
 -- after the edits es of rows and sum that an addition was given
 pub record Follows (file : List ℕ) (s : State) (es : List Change) (now : State) : Type 0 where
   -- the rows are those of the addition with the digits of the edits taken stored in turn
-  pub rows-stored : (now .first, now .second) ≡ storeAll (rowEdits file (length (s .first))) es (s .first, s .second)
+  pub rows-stored : (now .first, now .second) ≡ storeEdits (length (s .first)) (digitCount file) es (s .first, s .second)
   -- what is converted are the sums of the digits of the rows as they then stand, and zero outside them
   pub inputs : DigitsAdded file (now .first) (now .second)
   -- the sum's byte j is the index of z(j) for the rows as they then stand, for every j below n + h

@@ -4,3 +4,4 @@ pub mod Edit
 pub mod Broken
 pub mod Run
 pub mod Follows
+pub mod Edits

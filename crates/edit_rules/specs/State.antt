@@ -4,7 +4,7 @@ use Prim.Native.Nat.{ℕ, _+_}
 use Rattle.reader_rules.specs.Table.{tableFacts}
 use Rattle.row_rules.specs.declared.Change.{Change}
 use Rattle.row_rules.specs.Changed.{changed}
-use Rattle.adder_rules.specs.Sum.{inputRow}
+use Rattle.adder_rules.specs.Input.{inputRow}
 
 -- "both rows, the sum": the buffers that an edit is given and may write
 pub record State : Type 0 where

@@ -3,7 +3,8 @@ ghost use mathlib.Core.Path.{_≡_};
 ghost use mathlib.Core.List.{[], _∷_};
 ghost use Prim.Native.Nat.{_≤_, _^_};
 ghost use lib.IntN.{natAbs};
-ghost use Rattle.ring.specs.Element.{plus, minus, Within};
+ghost use Rattle.ring.specs.Element.{plus, minus};
+ghost use Rattle.ring.specs.Tests.{Within};
 ghost use Rattle.ring.specs.Matrix.{dot, times, matrixOf};
 ghost use Rattle.ring.specs.Tests.{same, RowsWithin, BaseLimits};
 

@@ -6,7 +6,7 @@ use native.Mathlib.Omega.{arith}
 use lib.IntN.{ℤ, natAbs, _+ℤ_, _*ℤ_}
 use lib.ListN.{length, getD}
 use Rattle.integers.proofs.Machine.{_⊕_, _⊗_, plain-bound}
-use Rattle.ring.specs.Element.{Within}
+use Rattle.ring.specs.Tests.{Within}
 use Rattle.ring.specs.Matrix.{times, matrixOf}
 use Rattle.ring.specs.Tests.{RowsWithin}
 use Rattle.ring.specs.Tests.{BaseLimits}

@@ -13,7 +13,8 @@ use Rattle.lists.proofs.Scan.{scan-passed, scan-failed}
 use Rattle.lists.proofs.Test.{clash, not-passed}
 use Rattle.faults.specs.declared.Refusal.{Refusal}
 use Rattle.faults.specs.Check.{refusal, none, judge, _then_, inTurn}
-use Rattle.faults.specs.Rule.{Rule, rule, FirstAt, AllKept, FirstBroken, Exact}
+use Rattle.faults.specs.Rule.{Rule, rule, FirstAt, AllKept, FirstBroken}
+use Rattle.faults.specs.Exact.{Exact}
 use Rattle.faults.proofs.Check.{judge-broken, judge-kept, then-found, then-next, turn-found, turn-next, turn-end}
 
 -- an answer with what it rests on

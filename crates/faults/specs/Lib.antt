@@ -1,4 +1,5 @@
 pub mod Outcome
 pub mod Check
 pub mod Rule
+pub mod Exact
 pub mod Unless

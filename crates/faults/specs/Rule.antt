@@ -1,10 +1,8 @@
 -- What it means that a check gives the first broken rule (document 01, "Who sends a fault"), with no test and no search.
 use mathlib.Core.Path.{_≡_}
 use mathlib.Core.List.{List, [], _∷_}
-use mathlib.Core.Logic.{_⊎_, _↔_}
+use mathlib.Core.Logic.{_⊎_}
 use Prim.Native.Nat.{ℕ, _<_}
-use Rattle.faults.specs.declared.Refusal.{Refusal}
-use Rattle.faults.specs.Check.{refusal, none}
 
 -- a rule: its number, and what it means that it is broken at a place
 pub record Rule : Type 1 where
@@ -32,8 +30,3 @@ AllKept (r ∷ rest) = Kept r × AllKept rest
 abbrev pub FirstBroken : List Rule → ℕ → ℕ → Type 0
 FirstBroken [] n p = ⊥
 FirstBroken (r ∷ rest) n p = ((n ≡ r .number) × FirstAt r p) ⊎ (Kept r × FirstBroken rest n p)
-
--- a check finds the first broken rule, exactly, and nothing exactly where none is broken
-pub record Exact (rules : List Rule) (found : Refusal) : Type 0 where
-  pub refused : (n p : ℕ) → 0 < n → (found ≡ refusal n p) ↔ FirstBroken rules n p
-  pub passed : (found ≡ none) ↔ AllKept rules

@@ -12,7 +12,8 @@ use Rattle.lists.proofs.Each.{each}
 use Rattle.lists.proofs.Test.{clash, not-both, neither, both}
 use Rattle.faults.specs.declared.Refusal.{Refusal}
 use Rattle.faults.specs.Check.{judge, _then_}
-use Rattle.faults.specs.Rule.{rule, Exact}
+use Rattle.faults.specs.Rule.{rule}
+use Rattle.faults.specs.Exact.{Exact}
 use Rattle.faults.proofs.Rule.{Decided, exact, places-decided, then-decided}
 use Rattle.layout_rules.specs.Section.{recordSize, sectionStart, sectionLength, sectionEnd}
 use Rattle.layout_rules.specs.Directory.{sizeAllowed, expectedStart, pairAllowed, directoryCheck}

@@ -10,7 +10,8 @@ use lib.ListN.{length}
 use lib.IntN.{natAbs}
 use borrow.Author.Tests.{lt-leb, leb-false}
 use Rattle.lists.proofs.Each.{each}
-use Rattle.faults.specs.Rule.{rule, Exact}
+use Rattle.faults.specs.Rule.{rule}
+use Rattle.faults.specs.Exact.{Exact}
 use Rattle.faults.proofs.Rule.{Decided, exact, judge-decided, turn-decided, reworded, InPart}
 use Rattle.layout_rules.specs.Number.{signedAt}
 use Rattle.layout_rules.specs.Section.{degree, elementSize, recordSize, sectionStart, sectionLength, sectionEnd, partOf}

@@ -12,7 +12,8 @@ use lib.Signed.{mag}
 use borrow.Author.Tests.{lt-ltb}
 use Rattle.lists.specs.Span.{span}
 use Rattle.layout_rules.specs.Number.{unsignedAt, toSigned}
-use Rattle.layout_rules.specs.Section.{recordSize, elementStart, sectionStart, sectionLength}
+use Rattle.layout_rules.specs.Section.{recordSize, sectionStart, sectionLength}
+use Rattle.layout_rules.specs.Limit.{elementStart}
 use Rattle.layout_rules.proofs.Number.{signed-low, signed-high}
 
 -- two bytes, wherever they stand: the lower first

@@ -15,6 +15,10 @@ use Rattle.layout_rules.specs.Section.{degree, elementSize, recordSize, 
 abbrev pub sizeLimit : ℕ → ℕ
 sizeLimit section = getD (64 ∷ 64 ∷ 128 ∷ 1024 ∷ []) section 0
 
+-- where the element of a record starts in the part: it ends the record
+abbrev pub elementStart : ℕ → ℕ → ℕ
+elementStart section index = index * recordSize section + (recordSize section - elementSize)
+
 -- where the m-th number with a limit stands, in records of this size: an element ends its record
 unfoldable pub numberPlace : ℕ → ℕ → ℕ
 numberPlace size m = m / degree * size + (size - elementSize) + 2 * (m % degree)

@@ -24,10 +24,6 @@ recordSize section = getD (elementSize ∷ elementSize ∷ elementSize ∷ leafS
 abbrev pub recordCount : ℕ → List ℕ → ℕ
 recordCount section part = length part / recordSize section
 
--- where the element of a record starts in the part: it ends the record
-abbrev pub elementStart : ℕ → ℕ → ℕ
-elementStart section index = index * recordSize section + (recordSize section - elementSize)
-
 -- where a section starts, its length and where it ends, as whole numbers
 abbrev pub sectionStart : List ℕ → ℕ → ℕ
 sectionStart file section = unsignedAt file (4 * section)

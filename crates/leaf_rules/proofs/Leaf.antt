@@ -9,8 +9,9 @@ use lib.Seq.{getD-take, getD-drop}
 use borrow.Author.Tests.{lt-ltb, le-ltb, le-leb, lt-leb}
 use Rattle.ring.specs.Element.{zeros}
 use Rattle.layout_rules.specs.Section.{degree}
-use Rattle.numeration.specs.Code.{largest, depth}
-use Rattle.leaf_rules.specs.Leaf.{leafCount, wordStart, wordLength, wordEnd, weightOf, codeOf, wordGiven, weightGiven}
+use Rattle.numeration.specs.LeafOf.{largest, depth}
+use Rattle.leaf_rules.specs.Leaf.{leafCount, wordStart, wordLength, wordEnd, weightOf, codeOf}
+use Rattle.leaf_rules.specs.Given.{wordGiven, weightGiven}
 
 module _ (leaves words : List ℕ) (k : ℕ) where
   pub word-missing : leafCount leaves ≤ k → [] ≡ wordGiven leaves words k

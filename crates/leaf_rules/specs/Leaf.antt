@@ -1,14 +1,11 @@
 -- Leaves (document 01, "Table file"): the offset and the length of a word in section 4, then the weight. Sections 3 and 4 are lists
 -- of bytes, from a file or not.
-use mathlib.Core.List.{List, []}
-use mathlib.Core.Bool.{true, false, _&&_}
-use Prim.Native.Nat.{ℕ, _+_, _-_, _*_}
-use lib.ListN.{length, getD, take, drop}
+use mathlib.Core.List.{List}
+use Prim.Native.Nat.{ℕ, _+_, _*_}
+use lib.ListN.{getD}
 use lib.IntN.{ℤ}
-use lib.Dec.{ltb, leb}
-use Rattle.ring.specs.Element.{zeros}
 use Rattle.layout_rules.specs.Number.{unsignedAt}
-use Rattle.layout_rules.specs.Section.{degree, leafSize, recordCount}
+use Rattle.layout_rules.specs.Section.{leafSize, recordCount}
 use Rattle.digit_rules.specs.Record.{elementAt}
 use Rattle.numeration.specs.Code.{Code}
 
@@ -37,16 +34,3 @@ codeOf leaves words =
       digit = λ k i. getD words (wordStart leaves k + i) 0;
       weight = weightOf leaves;
     }
-
--- "From the number, one helper gives back its word as that part of the table itself": for any number and any bytes, nothing where
--- there is no such leaf or its record points outside section 4
-unfoldable pub wordGiven : List ℕ → List ℕ → ℕ → List ℕ
-wordGiven leaves words k =
-    elim (ltb k (leafCount leaves) && leb (wordEnd leaves k) (length words)) [
-      | true ↦ take (wordEnd leaves k - wordStart leaves k) (drop (wordStart leaves k) words)
-      | false ↦ []
-    ]
-
--- "and another gives its weight": zero where there is no such leaf
-unfoldable pub weightGiven : List ℕ → ℕ → List ℤ
-weightGiven leaves k = elim (ltb k (leafCount leaves)) [ true ↦ weightOf leaves k | false ↦ zeros degree ]

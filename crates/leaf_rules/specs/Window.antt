@@ -3,7 +3,8 @@ use mathlib.Core.Path.{_≡_}
 use mathlib.Core.List.{List}
 use Prim.Native.Nat.{ℕ, suc, _<_, _≤_}
 use lib.ListN.{getD}
-use Rattle.numeration.specs.Code.{Code, Precedes, HasLeaf, leafOf}
+use Rattle.numeration.specs.Code.{Code, Precedes, HasLeaf}
+use Rattle.numeration.specs.LeafOf.{leafOf}
 
 -- a window as a string
 abbrev pub digits : List ℕ → ℕ → ℕ

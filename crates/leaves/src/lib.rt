@@ -6,10 +6,11 @@ ghost use mathlib.Core.Bool.{true};
 ghost use lib.ListN.{length, getD};
 ghost use lib.Dec.{eqb};
 ghost use Rattle.lists.specs.Scan.{firstFailing};
-ghost use Rattle.ring.specs.Element.{Within};
+ghost use Rattle.ring.specs.Tests.{Within};
 ghost use Rattle.numeration.specs.Code as code;
 ghost use Rattle.numeration.specs.Prefix as prefixes;
-ghost use Rattle.leaf_rules.specs.Leaf.{leafCount, wordStart, wordLength, codeOf, wordGiven, weightGiven};
+ghost use Rattle.leaf_rules.specs.Leaf.{leafCount, wordStart, wordLength, codeOf};
+ghost use Rattle.leaf_rules.specs.Given.{wordGiven, weightGiven};
 ghost use Rattle.leaf_rules.specs.Window as windows;
 ghost use Rattle.leaves.specs.Search as searches;
 

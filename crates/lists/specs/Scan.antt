@@ -1,4 +1,4 @@
--- The first place at which a test fails. Every rule of document 01 that names "the first offender" is stated by it.
+-- Pinned by the laws of proofs/Scan.antt: a reader may skip this file. The first place at which a test fails. Every rule of document 01 that names "the first offender" is stated by it.
 use mathlib.Core.Bool.{Bool, true, false}
 use Prim.Native.Nat.{ℕ, zero, suc, _+_}
 use lib.Dec.{eqb}

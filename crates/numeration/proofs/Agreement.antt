@@ -10,7 +10,8 @@ use borrow.Author.Tests.{eqb-true, eq-eqb, ne-eqb, ltb-true, lt-ltb}
 use Rattle.lists.specs.Scan.{firstFailing, every}
 use Rattle.lists.proofs.Scan.{scan-ext, scan-passed, scan-unique, every-sound, every-complete}
 use Rattle.lists.proofs.Test.{both}
-use Rattle.numeration.specs.Code.{agree, Agree, Lower, largest}
+use Rattle.numeration.specs.Code.{Agree, Lower}
+use Rattle.numeration.specs.LeafOf.{agree, largest}
 use Rattle.numeration.specs.Prefix.{lower}
 
 pub agree-sound : (v w : ℕ → ℕ) (n : ℕ) → agree v w n ≡ true → Agree v w n

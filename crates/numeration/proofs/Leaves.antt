@@ -13,7 +13,8 @@ use Rattle.lists.specs.Span.{span}
 use Rattle.lists.proofs.Span.{length-span, getD-span}
 use Rattle.lists.proofs.Scan.{scan-passed, scan-failed, scan-ext}
 use Rattle.lists.proofs.Test.{clash}
-use Rattle.numeration.specs.Code.{Code, Agree, Inputs, begins, Begins, leafOf, depth, Precedes, HasLeaf}
+use Rattle.numeration.specs.Code.{Code, Agree, Inputs, Begins, Precedes, HasLeaf}
+use Rattle.numeration.specs.LeafOf.{begins, leafOf, depth}
 use Rattle.numeration.specs.Prefix.{Comparable, Separate, Complete, CompleteAt, OrderedCode, PrefixCode, precedes}
 use Rattle.numeration.proofs.Agreement.{agree-sound, agree-complete, agree-ext, lower-sound, lower-complete, largest-bound, largest-reached}
 

@@ -12,10 +12,12 @@ use borrow.Author.Tests.{leb-true, leb-false}
 use Rattle.lists.proofs.Span.{length-span, getD-span}
 use Rattle.lists.proofs.Scan.{scan-passed, scan-all, every-sound, every-complete}
 use Rattle.numeration.specs.Group.{Operations}
-use Rattle.numeration.specs.Code.{Code, Begins, leafOf, Inputs}
+use Rattle.numeration.specs.Code.{Code, Begins, Inputs}
+use Rattle.numeration.specs.LeafOf.{leafOf}
 use Rattle.numeration.specs.Prefix.{PrefixCode}
 use Rattle.numeration.specs.Conversion.{window, weightAt, convert}
-use Rattle.numeration.specs.Pairs.{tail, Fits, pairDigit, PairsConvert, RowsConvert}
+use Rattle.numeration.specs.Pairs.{tail, Fits, pairDigit, RowsConvert}
+use Rattle.numeration.specs.Laws.{PairsConvert}
 use Rattle.numeration.specs.PairTests.{pairDigitAt, pairBottom, pairString, pairRow, Holds, fits, pairPasses, upperPasses, lowestBadUpper}
 use Rattle.numeration.proofs.Agreement.{agree-sound, agree-complete}
 use Rattle.numeration.proofs.Leaves.{leafOf-begins}

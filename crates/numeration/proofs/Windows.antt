@@ -6,7 +6,8 @@ use native.Mathlib.Omega.{arith}
 use lib.ListN.{getD, set}
 use lib.Seq.{getD-set-other}
 use Rattle.numeration.specs.Group.{Operations}
-use Rattle.numeration.specs.Code.{Code, Inputs, Begins, depth}
+use Rattle.numeration.specs.Code.{Code, Inputs, Begins}
+use Rattle.numeration.specs.LeafOf.{depth}
 use Rattle.numeration.specs.Prefix.{Below, Separate}
 use Rattle.numeration.specs.Conversion.{window, weightInto, weightAt, convert}
 use Rattle.numeration.proofs.Leaves.{leafOf-ext, leafOf-unique, getD-inputs}

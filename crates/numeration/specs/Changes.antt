@@ -1,4 +1,4 @@
--- Changes of single digits of rows, and the rows with the changes that are taken stored in turn. Rows, changes and digits are any types.
+-- For the laws only: changes of single digits of rows, and the rows with the changes that are taken stored in turn. Rows, changes and digits are any types.
 use mathlib.Core.Bool.{Bool, true, false}
 use mathlib.Core.List.{List, [], _∷_}
 use Prim.Native.Nat.{ℕ}

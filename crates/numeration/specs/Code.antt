@@ -1,11 +1,8 @@
 -- Words, leaves and windows. A digit here is an input index; a string is a function from places, its first digit at place 0.
 use mathlib.Core.Path.{_≡_}
-use mathlib.Core.Bool.{Bool, not}
 use mathlib.Core.List.{List}
-use Prim.Native.Nat.{ℕ, zero, suc, _<_, min, max}
-use lib.Dec.{eqb}
+use Prim.Native.Nat.{ℕ, _<_, min}
 use lib.ListN.{length, getD}
-use Rattle.lists.specs.Scan.{firstFailing, every}
 
 -- "Leaves": how many, each one's word (its length, its digits) and its weight
 pub record Code (A : Type 0) : Type 0 where
@@ -14,10 +11,7 @@ pub record Code (A : Type 0) : Type 0 where
   pub digit : ℕ → ℕ → ℕ
   pub weight : ℕ → A
 
--- two strings agree at the first n places: as a test, and as a statement
-unfoldable pub agree : (ℕ → ℕ) → (ℕ → ℕ) → ℕ → Bool
-agree v w n = every (λ i. eqb (v i) (w i)) 0 n
-
+-- two strings agree at the first n places
 abbrev pub Agree : (ℕ → ℕ) → (ℕ → ℕ) → ℕ → Type 0
 Agree v w n = (i : ℕ) → i < n → v i ≡ w i
 
@@ -29,26 +23,10 @@ Lower v w n = (i : ℕ) × (i < n) × Agree v w i × (v i < w i)
 abbrev pub Inputs : ℕ → List ℕ → Type 0
 Inputs m row = (i : ℕ) → i < length row → getD row i 0 < m
 
--- the largest of the n numbers f 0, f 1, ..
-unfoldable pub largest : (ℕ → ℕ) → ℕ → ℕ
-largest f zero = 0
-largest f (suc n) = max (largest f n) (f n)
-
 module _ {A : Type 0} (c : Code A) where
   -- "begins": the leaf's word is the start of the string
-  unfoldable pub begins : ℕ → (ℕ → ℕ) → Bool
-  begins k w = agree (c .digit k) w (c .size k)
-
   abbrev pub Begins : ℕ → (ℕ → ℕ) → Type 0
   Begins k w = Agree (c .digit k) w (c .size k)
-
-  -- "the one leaf whose word begins": the first that does
-  unfoldable pub leafOf : (ℕ → ℕ) → ℕ
-  leafOf w = firstFailing (λ k. not (begins k w)) 0 (c .leaves)
-
-  -- "The depth h is the longest word length"
-  unfoldable pub depth : ℕ
-  depth = largest (c .size) (c .leaves)
 
   -- "in increasing order of index at the first place where neighbours differ", and neither word begins the other
   abbrev pub Precedes : ℕ → ℕ → Type 0

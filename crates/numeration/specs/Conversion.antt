@@ -1,10 +1,10 @@
 -- Conversion of a row of input digits: windows, weights and the digits that come out.
 use mathlib.Core.List.{List}
-use Prim.Native.Nat.{ℕ, zero, suc, _+_}
-use lib.ListN.{length, getD}
-use Rattle.lists.specs.Span.{span}
+use Prim.Native.Nat.{ℕ, zero, suc}
+use lib.ListN.{getD}
 use Rattle.numeration.specs.Group.{Operations}
-use Rattle.numeration.specs.Code.{Code, leafOf, depth}
+use Rattle.numeration.specs.Code.{Code}
+use Rattle.numeration.specs.LeafOf.{leafOf}
 
 -- w(j−1), w(j−2), ..: the row's input indexes read downward from below place j, zeros outside the row
 unfoldable pub window : List ℕ → ℕ → ℕ → ℕ
@@ -29,7 +29,3 @@ module _ {A : Type 0} (o : Operations A) (input : ℕ → A) (c : Code A) where
   -- z(j) = w(j) + q(j−1) − β·q(j)
   unfoldable pub convert : List ℕ → ℕ → A
   convert row j = outDigit o (input (getD row j 0)) (weightInto c row j) (weightAt c row j)
-
-  -- the digits z(j) for j from 0 to n + h − 1
-  unfoldable pub convertRow : List ℕ → List A
-  convertRow row = span (convert row) 0 (length row + depth c)

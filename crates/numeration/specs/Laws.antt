@@ -1,8 +1,23 @@
--- For the laws only: what they ask of the operations, and of input digits and weights.
+-- For the laws only: what they ask of the operations, and of input digits and weights; rows of digits and pairs of leaves.
 use mathlib.Core.Path.{_≡_}
-use Prim.Native.Nat.{ℕ}
+use mathlib.Core.List.{List}
+use Prim.Native.Nat.{ℕ, _+_, _<_}
+use lib.IntN.{ℤ}
+use lib.ListN.{length, getD}
+use Rattle.lists.specs.Span.{span}
 use Rattle.numeration.specs.Group.{Operations}
 use Rattle.numeration.specs.Code.{Code}
+use Rattle.numeration.specs.LeafOf.{depth}
+use Rattle.numeration.specs.Conversion.{convert}
+use Rattle.numeration.specs.Pairs.{Fits, pairDigit}
+
+-- an element of degree d has d parts
+abbrev pub HasParts : ℕ → List ℤ → Type 0
+HasParts d x = length x ≡ d
+
+-- every entry of a list is an element
+abbrev pub Elements : {A : Type 0} → Operations A → (A → Type 0) → List A → Type 0
+Elements o Element xs = (k : ℕ) → Element (getD xs k (o .none))
 
 -- the laws, for the values of A that are elements
 pub record AdditiveGroup {A : Type 0} (o : Operations A) (Element : A → Type 0) : Type 0 where
@@ -22,3 +37,12 @@ pub record InGroup {A : Type 0} (o : Operations A) (Element : A → Type 0) (inp
   pub element-weight : (k : ℕ) → Element (c .weight k)
   pub input-zero : input 0 ≡ o .none
   pub weight-zero : c .weight 0 ≡ o .none
+
+module _ {A : Type 0} (o : Operations A) (input : ℕ → A) (c : Code A) where
+  -- the digits z(j) for j from 0 to n + h − 1
+  unfoldable pub convertRow : List ℕ → List A
+  convertRow row = span (convert o input c row) 0 (length row + depth c)
+
+  -- every fitting pair gives an alphabet digit
+  abbrev pub PairsConvert : (A → Type 0) → Type 0
+  PairsConvert Alphabet = (u l : ℕ) → u < c .leaves → l < c .leaves → Fits c u l → Alphabet (pairDigit o input c u l)

@@ -1,8 +1,8 @@
 pub mod Group
 pub mod Code
+pub mod LeafOf
 pub mod Prefix
 pub mod Conversion
-pub mod Laws
 pub mod Pairs
 pub mod PairTests
 pub mod Runs
@@ -10,3 +10,4 @@ pub mod Value
 pub mod Changes
 pub mod Renewal
 pub mod Elements
+pub mod Laws

@@ -9,7 +9,8 @@ use lib.ListN.{length, getD}
 use Rattle.lists.specs.Span.{span}
 use Rattle.lists.specs.Scan.{firstFailing, every}
 use Rattle.numeration.specs.Group.{Operations}
-use Rattle.numeration.specs.Code.{Code, agree}
+use Rattle.numeration.specs.Code.{Code}
+use Rattle.numeration.specs.LeafOf.{agree}
 use Rattle.numeration.specs.Conversion.{window}
 use Rattle.numeration.specs.Pairs.{tail, pairDigit}
 

@@ -1,5 +1,5 @@
 -- Fitting pairs of leaves, an upper u and a lower l, and the digit that such a pair gives.
-use Prim.Native.Nat.{ℕ, suc, _<_, min, pred}
+use Prim.Native.Nat.{ℕ, suc, min, pred}
 use mathlib.Core.List.{List}
 use Rattle.numeration.specs.Group.{Operations}
 use Rattle.numeration.specs.Code.{Code, Agree, Inputs}
@@ -20,10 +20,6 @@ module _ {A : Type 0} (o : Operations A) (input : ℕ → A) (c : Code A) where
   pairDigit u l = outDigit o (input (c .digit u 0)) (c .weight l) (c .weight u)
 
   module _ (Alphabet : A → Type 0) where
-    -- every fitting pair gives an alphabet digit
-    abbrev pub PairsConvert : Type 0
-    PairsConvert = (u l : ℕ) → u < c .leaves → l < c .leaves → Fits c u l → Alphabet (pairDigit u l)
-
     -- every finite row of the m input digits is converted into alphabet digits at every place
     abbrev pub RowsConvert : ℕ → Type 0
     RowsConvert m = (row : List ℕ) → Inputs m row → (j : ℕ) → Alphabet (convert o input c row j)

@@ -8,7 +8,8 @@ use lib.ListN.{length, take, drop, set}
 use Rattle.lists.specs.Span.{span}
 use Rattle.lists.specs.Scan.{every}
 use Rattle.numeration.specs.Group.{Operations}
-use Rattle.numeration.specs.Code.{Code, Inputs, depth}
+use Rattle.numeration.specs.Code.{Code, Inputs}
+use Rattle.numeration.specs.LeafOf.{depth}
 use Rattle.numeration.specs.Conversion.{convert}
 use Rattle.numeration.specs.Changes.{Changes, storeAll}
 

@@ -2,7 +2,8 @@
 use mathlib.Core.Bool.{true, false}
 use Prim.Native.Nat.{ℕ, pred}
 use lib.Dec.{ltb}
-use Rattle.numeration.specs.Code.{Code, leafOf}
+use Rattle.numeration.specs.Code.{Code}
+use Rattle.numeration.specs.LeafOf.{leafOf}
 use Rattle.numeration.specs.Pairs.{tail}
 
 module _ {A : Type 0} (c : Code A) where

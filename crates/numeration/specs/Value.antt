@@ -1,12 +1,7 @@
 -- The value of a row of elements, lowest place first.
 use mathlib.Core.List.{List, [], _∷_}
 use Prim.Native.Nat.{ℕ, zero, suc}
-use lib.ListN.{getD}
 use Rattle.numeration.specs.Group.{Operations}
-
--- every entry of a list is an element
-abbrev pub Elements : {A : Type 0} → Operations A → (A → Type 0) → List A → Type 0
-Elements o Element xs = (k : ℕ) → Element (getD xs k (o .none))
 
 module _ {A : Type 0} (o : Operations A) where
   -- β to the power j, times an element

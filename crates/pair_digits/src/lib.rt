@@ -1,10 +1,11 @@
 // The digit of a fitting pair, and whether it is an alphabet digit: rule 14 for one pair.
 ghost use mathlib.Core.Path.{_≡_};
 ghost use lib.ListN.{getD};
-ghost use Rattle.ring.specs.Element.{plus, Within};
+ghost use Rattle.ring.specs.Element.{plus};
+ghost use Rattle.ring.specs.Tests.{Within};
 ghost use Rattle.ring.specs.Tests.{RowsWithin};
 ghost use Rattle.digit_rules.specs.Record.{elementCount};
-ghost use Rattle.leaf_rules.specs.Leaf.{wordGiven, weightGiven};
+ghost use Rattle.leaf_rules.specs.Given.{wordGiven, weightGiven};
 ghost use mathlib.Core.Bool.{true};
 ghost use Rattle.pair_digits.specs.Slots.{Slotted};
 ghost use Rattle.table_rules.specs.Pairs.{inAlphabet, upperPart};

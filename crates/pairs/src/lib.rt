@@ -5,7 +5,7 @@ ghost use Rattle.ring.specs.Tests.{RowsWithin};
 ghost use Rattle.layout_rules.specs.Section.{degree};
 ghost use Rattle.digit_rules.specs.Digits.{BasePart};
 ghost use Rattle.digit_rules.specs.Record.{recordAt, elementCount};
-ghost use Rattle.numeration.specs.Code.{agree};
+ghost use Rattle.numeration.specs.LeafOf.{agree};
 ghost use Rattle.numeration.specs.Elements.{elements};
 ghost use Rattle.numeration.specs.PairTests.{pairPasses};
 ghost use Rattle.leaf_rules.specs.Leaf.{leafCount, codeOf};

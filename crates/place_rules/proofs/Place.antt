@@ -18,11 +18,13 @@ use Rattle.digit_rules.specs.Formed.{DigitsFormed}
 use Rattle.digit_rules.proofs.Index.{index-high, index-is}
 use Rattle.digit_rules.proofs.Formed.{sum-index-is}
 use Rattle.numeration.specs.Group.{Operations}
-use Rattle.numeration.specs.Code.{Code, HasLeaf, leafOf}
+use Rattle.numeration.specs.Code.{Code, HasLeaf}
+use Rattle.numeration.specs.LeafOf.{leafOf}
 use Rattle.numeration.specs.Conversion.{window, outDigit, weightInto, weightAt, convert}
 use Rattle.numeration.proofs.Leaves.{leafOf-ext, depth-reached}
 use Rattle.numeration.proofs.Windows.{window-by-place}
-use Rattle.leaf_rules.specs.Leaf.{codeOf, weightGiven}
+use Rattle.leaf_rules.specs.Leaf.{codeOf}
+use Rattle.leaf_rules.specs.Given.{weightGiven}
 use Rattle.leaf_rules.specs.Window.{digits, LookedUp}
 use Rattle.leaf_rules.proofs.Leaf.{weight-there}
 use Rattle.table_rules.specs.Pairs.{inAlphabet}

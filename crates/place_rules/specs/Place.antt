@@ -1,12 +1,12 @@
--- Conversion place by place (document 01, "Conversion and addition"): a row of input indexes, and the digits that come out of it.
+-- Pinned by input-is and index-names (proofs/Place.antt): a reader may skip this file. Conversion place by place (document 01, "Conversion
+-- and addition"): a row of input indexes, and the digits that come out of it.
 use mathlib.Core.Bool.{Bool}
 use mathlib.Core.List.{List}
 use Prim.Native.Nat.{ℕ}
 use lib.ListN.{getD}
 use lib.IntN.{ℤ}
 use Rattle.digit_rules.specs.Record.{recordAt, elementCount}
-use Rattle.digit_rules.specs.Digits.{indexIn}
-use Rattle.digit_rules.specs.Digits.{sumIndex}
+use Rattle.digit_rules.specs.Digits.{indexIn, sumIndex}
 use Rattle.numeration.specs.Group.{Operations}
 use Rattle.numeration.specs.Conversion.{convert}
 use Rattle.leaf_rules.specs.Leaf.{codeOf}

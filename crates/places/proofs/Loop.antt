@@ -12,7 +12,7 @@ use Rattle.lists.specs.Scan.{firstFailing}
 use Rattle.lists.specs.Overwrite.{overwrite}
 use Rattle.lists.proofs.Scan.{scan-on, scan-here, scan-out}
 use Rattle.lists.proofs.Overwrite.{overwrite-none}
-use Rattle.ring.specs.Element.{Within}
+use Rattle.ring.specs.Tests.{Within}
 use Rattle.digit_rules.specs.Record.{elementCount}
 use Rattle.numeration.specs.Group.{Operations}
 use Rattle.numeration.specs.Conversion.{weightInto}

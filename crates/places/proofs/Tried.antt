@@ -16,7 +16,8 @@ use Rattle.digit_rules.proofs.Index.{index-is, index-first}
 use Rattle.numeration.specs.Code.{Begins}
 use Rattle.numeration.specs.Conversion.{window, weightInto}
 use Rattle.numeration.proofs.Leaves.{ordered-separate, leafOf-unique}
-use Rattle.leaf_rules.specs.Leaf.{leafCount, codeOf, weightGiven}
+use Rattle.leaf_rules.specs.Leaf.{leafCount, codeOf}
+use Rattle.leaf_rules.specs.Given.{weightGiven}
 use Rattle.leaf_rules.proofs.Leaf.{weight-there}
 use Rattle.place_rules.specs.Place.{alphabetIndex}
 use Rattle.place_rules.specs.Helpers.{Begun}

@@ -13,7 +13,8 @@ use borrow.Author.Tests.{ltb-true, ltb-false}
 use Rattle.lists.specs.Span.{span}
 use Rattle.lists.proofs.Span.{length-span, getD-span}
 use Rattle.lists.proofs.Test.{clash, not-passed}
-use Rattle.faults.specs.Rule.{Kept, rule, Exact}
+use Rattle.faults.specs.Rule.{Kept, rule}
+use Rattle.faults.specs.Exact.{Exact}
 use Rattle.faults.proofs.Rule.{Decided, exact, judge-decided, places-decided, then-decided}
 use Rattle.ring.specs.Element.{zeros}
 use Rattle.ring.specs.Tests.{same}

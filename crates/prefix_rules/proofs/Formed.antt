@@ -9,7 +9,8 @@ use borrow.Author.Tests.{ltb-true}
 use Rattle.faults.specs.Check.{none, _then_}
 use Rattle.faults.proofs.Check.{then-kept, judge-passed}
 use Rattle.ring.proofs.Element.{same→≡}
-use Rattle.numeration.specs.Code.{Code, Agree, Inputs, Precedes, HasLeaf, leafOf, depth}
+use Rattle.numeration.specs.Code.{Code, Agree, Inputs, Precedes, HasLeaf}
+use Rattle.numeration.specs.LeafOf.{leafOf, depth}
 use Rattle.numeration.specs.Prefix.{Separate, OrderedCode, PrefixCode}
 use Rattle.numeration.proofs.Leaves.{ordered-separate, leafOf-unique, leafOf-ext, size-depth, depth-reached, prefix-code, getD-inputs}
 use Rattle.leaf_rules.specs.Leaf.{leafCount, wordStart, wordLength, codeOf}

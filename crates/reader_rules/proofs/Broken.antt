@@ -5,7 +5,8 @@ use mathlib.Core.Logic.{⊎-elim}
 use Prim.Native.Nat.{ℕ, _<_, _≤_}
 use native.Mathlib.Omega.{arith}
 use Rattle.faults.specs.Outcome.{Group, author, refused}
-use Rattle.faults.specs.Rule.{AllKept, FirstBroken, Exact}
+use Rattle.faults.specs.Rule.{AllKept, FirstBroken}
+use Rattle.faults.specs.Exact.{Exact}
 use Rattle.faults.proofs.Rule.{Decided, exact, then-decided}
 use Rattle.faults.proofs.Numbers.{number-of}
 use Rattle.calls.specs.Answers.{stage, Answers}

@@ -20,9 +20,11 @@ use Rattle.layout_rules.proofs.Number.{part-signed}
 use Rattle.layout_rules.proofs.Laid.{Laid, laid, part-length}
 use Rattle.layout_rules.proofs.Broken.{follows-expected, length-means}
 use Rattle.layout_rules.proofs.Passed.{within}
-use Rattle.ring.specs.Element.{part, Within}
+use Rattle.ring.specs.Element.{part}
+use Rattle.ring.specs.Tests.{Within}
 use Rattle.ring.proofs.Parts.{within-part}
-use Rattle.digit_rules.specs.Record.{elementAt, elementCount, RecordsWithin}
+use Rattle.digit_rules.specs.Record.{elementAt, elementCount}
+use Rattle.digit_rules.specs.Digits.{RecordsWithin}
 use Rattle.digit_rules.proofs.Record.{element-part}
 use Rattle.digit_rules.proofs.Passed.{element-within, records-within}
 use Rattle.digit_rules.proofs.Formed.{formed as digits-formed, formed-passes as digits-pass}

@@ -6,8 +6,9 @@ use Prim.Native.Nat.{ℕ, _<_, _≤_}
 use lib.ListN.{length}
 use Rattle.layout_rules.specs.Section.{sectionLength, sectionEnd}
 use Rattle.layout_rules.specs.Broken.{PairFollows, Allowed}
-use Rattle.ring.specs.Element.{Within}
-use Rattle.digit_rules.specs.Record.{RecordsWithin, elementCount}
+use Rattle.ring.specs.Tests.{Within}
+use Rattle.digit_rules.specs.Record.{elementCount}
+use Rattle.digit_rules.specs.Digits.{RecordsWithin}
 use Rattle.digit_rules.specs.Formed.{DigitsFormed}
 use Rattle.leaf_rules.specs.Leaf.{leafCount, weightOf}
 use Rattle.prefix_rules.specs.Formed.{LeavesFormed}

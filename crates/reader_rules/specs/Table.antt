@@ -3,7 +3,8 @@ use mathlib.Core.List.{List, map}
 use Prim.Native.Nat.{ℕ}
 use Rattle.layout_rules.specs.Section.{degree, sectionStart, sectionEnd, partOf, recordCount}
 use Rattle.digit_rules.specs.Record.{elementCount, recordAt}
-use Rattle.numeration.specs.Code.{depth, Code}
+use Rattle.numeration.specs.Code.{Code}
+use Rattle.numeration.specs.LeafOf.{depth}
 use Rattle.leaf_rules.specs.Leaf.{codeOf}
 use Rattle.reader_rules.specs.declared.Part.{Part}
 use Rattle.reader_rules.specs.declared.Table.{Table}

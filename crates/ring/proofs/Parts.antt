@@ -10,7 +10,8 @@ use Rattle.lists.specs.Span.{span}
 use Rattle.lists.proofs.Span.{listed}
 use Rattle.integers.specs.Test.{eqZ}
 use Rattle.integers.proofs.Machine.{Term, leaf, _⊕_, _⊖_, _⊗_, plain-bound}
-use Rattle.ring.specs.Element.{part, plus, negative, minus, Within}
+use Rattle.ring.specs.Element.{part, plus, negative, minus}
+use Rattle.ring.specs.Tests.{Within}
 use Rattle.ring.specs.Tests.{same}
 use Rattle.ring.specs.Base.{baseTrace, baseNorm}
 use Rattle.ring.specs.Tests.{BaseLimits}

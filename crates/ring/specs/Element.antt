@@ -1,9 +1,9 @@
 -- Elements of the ring: the list of an element's parts, lowest power of ω first ("Ring and base" of document 01, for every
 -- degree). The degree is the length of r, the parts of ω to the power of the degree; at degree two r is (t, s).
 use mathlib.Core.List.{List, [], _∷_, map}
-use Prim.Native.Nat.{ℕ, _-_, _≤_}
+use Prim.Native.Nat.{ℕ, _-_}
 use lib.ListN.{length, getD, take, replicate}
-use lib.IntN.{ℤ, pos, negℤ, natAbs, _+ℤ_, _*ℤ_}
+use lib.IntN.{ℤ, pos, negℤ, _+ℤ_, _*ℤ_}
 
 -- the part at a power of ω; zero past the last
 abbrev pub part : List ℤ → ℕ → ℤ
@@ -38,7 +38,3 @@ product r (a ∷ x) y = plus (scale a y) (timesOmega r (product r x y))
 
 unfoldable pub unit : ℕ → List ℤ
 unit d = pos 1 ∷ zeros (d - 1)
-
--- every part is at most n in size
-unfoldable pub Within : ℕ → List ℤ → Type 0
-Within n x = (k : ℕ) → natAbs (part x k) ≤ n

@@ -7,7 +7,11 @@ use Rattle.ring.specs.Base.{baseTrace, baseNorm}
 use mathlib.Core.List.{List, [], _∷_}
 use Rattle.integers.specs.Test.{eqZ}
 use lib.ListN.{getD}
-use Rattle.ring.specs.Element.{Within}
+use Rattle.ring.specs.Element.{part}
+
+-- every part is at most n in size
+unfoldable pub Within : ℕ → List ℤ → Type 0
+Within n x = (k : ℕ) → natAbs (part x k) ≤ n
 
 -- every entry of every row is at most n in size
 unfoldable pub RowsWithin : ℕ → List (List ℤ) → Type 0

@@ -10,11 +10,13 @@ use lib.Dec.{leb, ltb}
 use borrow.Author.Tests.{ltb-true, ltb-false, leb-true, leb-false, eqb-false}
 use Rattle.lists.proofs.Test.{not-both}
 use Rattle.faults.specs.Check.{none}
-use Rattle.faults.specs.Rule.{rule, Exact}
+use Rattle.faults.specs.Rule.{rule}
+use Rattle.faults.specs.Exact.{Exact}
 use Rattle.faults.proofs.Rule.{Decided, exact, places-decided, once-decided, then-decided}
 use Rattle.row_rules.specs.Check.{judgeOne, lengthsAllowed, indexAllowed, indexCheck, roomAllowed, rowCheck, oneRowCheck, editCheck}
 use Rattle.row_rules.specs.Broken.{Broken20, NoIndex, rowRules, oneRowRules, editRules}
-use Rattle.row_rules.specs.Fit.{RowFits, RowsFit, EditFits}
+use Rattle.row_rules.specs.Fit.{EditFits}
+use Rattle.row_rules.specs.Rows.{RowFits, RowsFit}
 use Rattle.row_rules.proofs.Fit.{lengths-say}
 
 -- rule 20

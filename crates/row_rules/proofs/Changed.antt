@@ -9,7 +9,8 @@ use lib.Seq.{getD-set-same, getD-set-other}
 use borrow.Author.Tests.{eq-eqb, ne-eqb}
 use Rattle.row_rules.specs.declared.Change.{Change}
 use Rattle.row_rules.specs.Changed.{changed, noChange}
-use Rattle.row_rules.specs.Fit.{Indexes, RowsFit}
+use Rattle.row_rules.specs.Fit.{Indexes}
+use Rattle.row_rules.specs.Rows.{RowsFit}
 
 module _ (change : Change) (number : ℕ) (row : List ℕ) where
   pub changed-own : change .row ≡ number → changed change number row ≡ set row (change .place) (change .digit)

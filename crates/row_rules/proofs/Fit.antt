@@ -11,7 +11,8 @@ use Rattle.lists.proofs.Test.{both}
 use Rattle.faults.specs.Check.{_then_}
 use Rattle.faults.proofs.Check.{then-kept, judge-passed}
 use Rattle.row_rules.specs.Check.{judgeOne, lengthsAllowed, indexAllowed, indexCheck, roomAllowed, rowCheck, oneRowCheck, editCheck}
-use Rattle.row_rules.specs.Fit.{Indexes, RowFits, RowsFit, EditFits}
+use Rattle.row_rules.specs.Fit.{Indexes, EditFits}
+use Rattle.row_rules.specs.Rows.{RowFits, RowsFit}
 
 -- what the tests say
 pub lengths-say : (n m : ℕ) → lengthsAllowed n m ≡ true → (n ≤ 256) × (m ≡ n)

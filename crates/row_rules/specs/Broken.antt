@@ -14,16 +14,9 @@ Broken20 first second p = (p ≡ 0) × ((256 < length first) ⊎ (256 < length s
 abbrev pub Broken20-one : List ℕ → ℕ → Type 0
 Broken20-one row p = (p ≡ 0) × (256 < length row)
 
--- a byte of the row is no alphabet index (place)
+-- 21, 22: a byte of the first, second row is no alphabet index (place)
 abbrev pub NoIndex : ℕ → List ℕ → ℕ → Type 0
 NoIndex digits row p = (p < length row) × ¬ (getD row p 0 < digits)
-
--- 21, 22: a byte of the first, second row is no alphabet index (place)
-abbrev pub Broken21 : ℕ → List ℕ → ℕ → Type 0
-Broken21 digits first p = NoIndex digits first p
-
-abbrev pub Broken22 : ℕ → List ℕ → ℕ → Type 0
-Broken22 digits second p = NoIndex digits second p
 
 -- 23: sum buffer under n + h bytes
 abbrev pub Broken23 : ℕ → ℕ → ℕ → ℕ → Type 0
@@ -45,13 +38,13 @@ Broken26 digit digits p = (p ≡ 0) × ¬ (digit < digits)
 abbrev pub rowRules : List ℕ → List ℕ → ℕ → ℕ → ℕ → List Rule
 rowRules first second sum digits depth =
     rule 20 (Broken20 first second)
-    ∷ rule 21 (Broken21 digits first)
-    ∷ rule 22 (Broken22 digits second)
+    ∷ rule 21 (NoIndex digits first)
+    ∷ rule 22 (NoIndex digits second)
     ∷ rule 23 (Broken23 (length first) depth sum)
     ∷ []
 
 abbrev pub oneRowRules : List ℕ → ℕ → List Rule
-oneRowRules row digits = rule 20 (Broken20-one row) ∷ rule 21 (Broken21 digits row) ∷ []
+oneRowRules row digits = rule 20 (Broken20-one row) ∷ rule 21 (NoIndex digits row) ∷ []
 
 abbrev pub editRules : ℕ → ℕ → ℕ → ℕ → ℕ → List Rule
 editRules row place digit n digits = rule 24 (Broken24 row) ∷ rule 25 (Broken25 place n) ∷ rule 26 (Broken26 digit digits) ∷ []

@@ -2,3 +2,4 @@ pub mod Check
 pub mod Changed
 pub mod Broken
 pub mod Fit
+pub mod Rows

@@ -11,7 +11,8 @@ use lib.Signed.{ltZ, leZ}
 use lib.Dec.{leb}
 use borrow.Author.Tests.{ltb-true, ltb-false, leb-true, leb-false, le-leb, lt-leb}
 use Rattle.lists.proofs.Test.{clash, both, not-both}
-use Rattle.ring.specs.Element.{part, Within}
+use Rattle.ring.specs.Element.{part}
+use Rattle.ring.specs.Tests.{Within}
 use Rattle.ring.proofs.Parts.{two-parts}
 use Rattle.row_value_rules.specs.Total.{totalLimit, limited}
 

@@ -8,7 +8,8 @@ use native.Mathlib.Omega.{arith}
 use lib.IntN.{ℤ}
 use lib.ListN.{length}
 use Rattle.ring.specs.Element.{zeros, plus}
-use Rattle.numeration.specs.Elements.{elements, HasParts}
+use Rattle.numeration.specs.Elements.{elements}
+use Rattle.numeration.specs.Laws.{HasParts}
 use Rattle.numeration.proofs.Elements.{elements-group}
 use Rattle.numeration.proofs.Sums.{base-none}
 use Rattle.faults.specs.Outcome.{facts, refused, rows}

@@ -6,13 +6,9 @@ use lib.IntN.{ℤ, natAbs}
 use Rattle.ring.specs.Element.{part}
 use Rattle.numeration.specs.Value.{topDown}
 use Rattle.numeration.specs.Elements.{elements}
-use Rattle.faults.specs.declared.Refusal.{Refusal}
-use Rattle.faults.specs.Check.{refusal, none}
-use Rattle.faults.specs.Outcome.{Outcome, facts, refused}
 use Rattle.faults.specs.Rule.{Rule, rule}
 use Rattle.layout_rules.specs.Section.{degree}
 use Rattle.digit_rules.specs.Record.{recordAt}
-use Rattle.row_value_rules.specs.Total.{worthOf}
 
 -- the digits of a row
 abbrev pub digitsOf : List ℕ → List ℕ → List (List ℤ)
@@ -33,11 +29,3 @@ Broken28 base alphabet row p = OutsideAt base alphabet row p × ((q : ℕ) → p
 
 abbrev pub valueRules : List (List ℤ) → List ℕ → List ℕ → List Rule
 valueRules base alphabet row = rule 28 (Broken28 base alphabet row) ∷ []
-
--- the outcome as what a stage finds
-unfoldable pub refusalOf : {F : Type 0} → Outcome F → Refusal
-refusalOf (facts x) = none
-refusalOf (refused whose n p) = refusal n p
-
-unfoldable pub worthCheck : List (List ℤ) → List ℕ → List ℕ → Refusal
-worthCheck base alphabet row = refusalOf (worthOf base alphabet row)

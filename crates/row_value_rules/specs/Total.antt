@@ -8,6 +8,8 @@ use lib.IntN.{ℤ, natAbs}
 use lib.Dec.{leb}
 use Rattle.ring.specs.Element.{zeros, plus}
 use Rattle.ring.specs.Matrix.{times}
+use Rattle.faults.specs.declared.Refusal.{Refusal}
+use Rattle.faults.specs.Check.{refusal, none}
 use Rattle.faults.specs.Outcome.{Outcome, facts, refused, rows}
 use Rattle.layout_rules.specs.Section.{degree}
 use Rattle.digit_rules.specs.Record.{recordAt}
@@ -40,3 +42,11 @@ worthFrom base digit (suc p) total =
 -- "starting from zero and from the top place down"
 unfoldable pub worthOf : List (List ℤ) → List ℕ → List ℕ → Outcome (List ℤ)
 worthOf base alphabet row = worthFrom base (placeDigit alphabet row) (length row) (zeros degree)
+
+-- the outcome as what a stage finds
+unfoldable pub refusalOf : {F : Type 0} → Outcome F → Refusal
+refusalOf (facts x) = none
+refusalOf (refused whose n p) = refusal n p
+
+unfoldable pub worthCheck : List (List ℤ) → List ℕ → List ℕ → Refusal
+worthCheck base alphabet row = refusalOf (worthOf base alphabet row)

@@ -1,7 +1,7 @@
 // A slot for each element, so that one among many is found at once.
 ghost use mathlib.Core.Path.{_≡_};
 ghost use Prim.Native.Nat.{_<_, _^_};
-ghost use Rattle.ring.specs.Element.{Within};
+ghost use Rattle.ring.specs.Tests.{Within};
 ghost use Rattle.slots.specs.Slot.{slotOf};
 
 const SLOTS: usize = 256;

@@ -11,7 +11,8 @@ use borrow.Author.Tests.{ltb-true, lt-ltb}
 use Rattle.lists.proofs.Scan.{every-sound, every-fails}
 use Rattle.lists.proofs.Test.{clash}
 use Rattle.faults.specs.Check.{judge, _then_}
-use Rattle.faults.specs.Rule.{Rule, rule, Exact}
+use Rattle.faults.specs.Rule.{Rule, rule}
+use Rattle.faults.specs.Exact.{Exact}
 use Rattle.faults.specs.Outcome.{facts, author}
 use Rattle.faults.specs.Unless.{unless}
 use Rattle.faults.specs.declared.Refusal.{Refusal}
@@ -24,7 +25,8 @@ use Rattle.digit_rules.specs.Record.{recordAt, elementCount}
 use Rattle.digit_rules.specs.Digits.{indexIn}
 use Rattle.digit_rules.specs.Broken.{Listed}
 use Rattle.digit_rules.proofs.Index.{index-is, index-first}
-use Rattle.numeration.specs.Pairs.{Fits, pairDigit, PairsConvert, RowsConvert}
+use Rattle.numeration.specs.Pairs.{Fits, pairDigit, RowsConvert}
+use Rattle.numeration.specs.Laws.{PairsConvert}
 use Rattle.numeration.specs.PairTests.{fits, pairPasses, upperPasses}
 use Rattle.numeration.proofs.Agreement.{agree-sound, agree-complete}
 use Rattle.numeration.proofs.Pairs.{pairs-rows}

@@ -20,7 +20,8 @@ use Rattle.ring.specs.Matrix.{times}
 use Rattle.ring.proofs.Element.{plus-assoc, plus-comm}
 use Rattle.layout_rules.specs.Section.{degree}
 use Rattle.digit_rules.specs.Record.{recordAt}
-use Rattle.numeration.specs.Code.{Code, agree, Inputs}
+use Rattle.numeration.specs.Code.{Code, Inputs}
+use Rattle.numeration.specs.LeafOf.{agree}
 use Rattle.numeration.specs.Prefix.{PrefixCode}
 use Rattle.numeration.specs.Conversion.{outDigit}
 use Rattle.numeration.specs.Elements.{elements}
@@ -29,7 +30,8 @@ use Rattle.numeration.specs.PairTests.{fits, pairPasses}
 use Rattle.numeration.specs.Runs.{tailThenZeros, lowestFit}
 use Rattle.numeration.proofs.Agreement.{agree-sound, agree-complete}
 use Rattle.numeration.proofs.Runs.{run-first, run-below, run-on, unfit-passes, in-tail, behind-tail, string-inputs}
-use Rattle.leaf_rules.specs.Leaf.{leafCount, wordLength, weightOf, codeOf, wordGiven, weightGiven}
+use Rattle.leaf_rules.specs.Leaf.{leafCount, wordLength, weightOf, codeOf}
+use Rattle.leaf_rules.specs.Given.{wordGiven, weightGiven}
 use Rattle.prefix_rules.specs.Formed.{LeavesFormed}
 use Rattle.leaf_rules.specs.Window.{digits, LookedUp}
 use Rattle.leaf_rules.proofs.Leaf.{word-length, word-digit, weight-there}

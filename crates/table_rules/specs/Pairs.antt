@@ -14,7 +14,8 @@ use Rattle.ring.specs.Matrix.{times}
 use Rattle.digit_rules.specs.Record.{recordAt, elementCount}
 use Rattle.digit_rules.specs.Digits.{indexIn}
 use Rattle.numeration.specs.PairTests.{pairPasses, upperPasses}
-use Rattle.leaf_rules.specs.Leaf.{leafCount, codeOf, wordGiven, weightGiven}
+use Rattle.leaf_rules.specs.Leaf.{leafCount, codeOf}
+use Rattle.leaf_rules.specs.Given.{wordGiven, weightGiven}
 use Rattle.reader_rules.specs.Table.{system}
 use Rattle.table_rules.specs.declared.Pair.{Pair}
 

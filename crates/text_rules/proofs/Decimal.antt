@@ -12,7 +12,8 @@ use lib.IntN.{ℤ, pos, negsuc, natAbs}
 use lib.Signed.{ltZ}
 use borrow.Author.Tests.{lt-ltb, le-ltb, ltb-true}
 use Rattle.lists.proofs.Test.{clash}
-use Rattle.text_rules.specs.Decimal.{digitByte, decimalWithin, decimal, decimalZ, readOn}
+use Rattle.text_rules.specs.Decimal.{digitByte, decimalWithin, decimal, decimalZ}
+use Rattle.text_rules.specs.Read.{readOn}
 
 within-one : (fuel n : ℕ) → n < 10 → decimalWithin fuel n ≡ digitByte n ∷ []
 unfolding decimalWithin

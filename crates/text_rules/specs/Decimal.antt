@@ -1,7 +1,7 @@
 -- Decimal text: "no plus sign, no needless zero and no minus before 0" (document 01, "Value, midpoint, program").
 use mathlib.Core.Bool.{true, false}
 use mathlib.Core.List.{List, [], _∷_, _++_}
-use Prim.Native.Nat.{ℕ, zero, suc, _+_, _-_, _*_, _/_, _%_}
+use Prim.Native.Nat.{ℕ, zero, suc, _+_, _/_, _%_}
 use lib.Dec.{ltb}
 use lib.IntN.{ℤ, pos, negsuc}
 
@@ -22,8 +22,3 @@ decimal n = decimalWithin n n
 unfoldable pub decimalZ : ℤ → List ℕ
 decimalZ (pos n) = decimal n
 decimalZ (negsuc n) = 45 ∷ decimal (suc n)
-
--- the number that decimal digits say, read from the left behind a number
-unfoldable pub readOn : ℕ → List ℕ → ℕ
-readOn n [] = n
-readOn n (byte ∷ text) = readOn (10 * n + (byte - 48)) text

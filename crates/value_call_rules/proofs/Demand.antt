@@ -22,7 +22,7 @@ use Rattle.reader_rules.specs.Table.{valueOf}
 use Rattle.reader_rules.proofs.Broken.{table-decided}
 use Rattle.row_rules.specs.Check.{oneRowCheck}
 use Rattle.row_rules.proofs.Broken.{one-row-decided}
-use Rattle.row_value_rules.specs.Broken.{worthCheck}
+use Rattle.row_value_rules.specs.Total.{worthCheck}
 use Rattle.row_value_rules.proofs.Broken.{worth-decided, worth-outcome}
 use Rattle.value_call_rules.specs.Value.{rowOutcome, valueOutcome}
 use Rattle.value_call_rules.specs.Broken.{lenderRules, valueStages}

@@ -1,5 +1,5 @@
 -- The sum: the table's fault by the reader is passed on, then the rows' by rules 20 to 23, then 27; else the digits are written.
-use Rattle.row_rules.specs.Fit.{RowsFit}
+use Rattle.row_rules.specs.Rows.{RowsFit}
 use Rattle.adder_rules.proofs.Rows.{few-places}
 use mathlib.Core.Path.{_≡_, sym, ap, _∙_}
 use Prim.Native.Nat.{ℕ, _+_}

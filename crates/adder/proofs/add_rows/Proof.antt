@@ -2,7 +2,8 @@
 use Rattle.faults.specs.Outcome.{author}
 use Rattle.numeration.specs.Code.{Inputs}
 use Rattle.reader_rules.specs.Table.{inputCount}
-use Rattle.adder_rules.specs.Sum.{inputRow, placeCount, digitCount}
+use Rattle.adder_rules.specs.Sum.{placeCount, digitCount}
+use Rattle.adder_rules.specs.Input.{inputRow}
 use Rattle.adder_rules.specs.Add.{digitsOutcome, sumRow}
 use lib.ListN.{getD, length, take, length-replicate}
 use Prim.Native.Nat.{_≤_, ℕ}

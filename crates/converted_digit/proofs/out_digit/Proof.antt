@@ -2,7 +2,8 @@
 use mathlib.Core.Path.{_≡_, sym, ap₂, subst, _∙_}
 use Prim.Native.Nat.{_^_, _+_}
 use lib.Dec.{lit≤}
-use Rattle.ring.specs.Element.{Within, minus}
+use Rattle.ring.specs.Element.{minus}
+use Rattle.ring.specs.Tests.{Within}
 use Rattle.ring.proofs.Element.{within-plus, within-le}
 use Rattle.numeration.specs.Conversion.{outDigit}
 use Rattle.numeration.specs.Elements.{elements}

@@ -1,7 +1,7 @@
 -- The links are followed from the slot of the sum.
 use Rattle.digit_sums.specs.Marks.{located}
 use Rattle.ring.proofs.Element.{within-le, within-plus}
-use Rattle.ring.specs.Element.{Within}
+use Rattle.ring.specs.Tests.{Within}
 use native.Mathlib.Omega.{arith}
 use Prim.Native.Nat.{_^_}
 use mathlib.Core.Path.{sym, subst, _∙_}

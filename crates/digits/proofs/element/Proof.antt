@@ -4,7 +4,7 @@ use borrow.Author.Needs.{needs}
 use mir.Syntax.{w64}
 use mir.ValLaws.{toZ-ofZ}
 use Rattle.lists.proofs.Cons.{cons≡}
-use Rattle.ring.specs.Element.{Within}
+use Rattle.ring.specs.Tests.{Within}
 use Rattle.ring.proofs.Parts.{within-two}
 use Rattle.digit_rules.proofs.Record.{element-two}
 use Rattle.digits.proofs.element.Statement.{statement}

@@ -6,7 +6,7 @@ use mir.Syntax.{w64}
 use mir.ValLaws.{toZ-ofZ}
 use borrow.Author.Needs.{needs}
 use Rattle.lists.proofs.Cons.{cons≡}
-use Rattle.ring.specs.Element.{Within}
+use Rattle.ring.specs.Tests.{Within}
 use Rattle.ring.proofs.Parts.{within-row, within-two, times-two}
 use Rattle.elements.proofs.times_base.Statement.{statement}
 use Rattle.elements.proofs.times_base.Tie as tie

@@ -4,7 +4,7 @@ use mathlib.Core.Path.{_≡_, refl}
 use Prim.Native.Nat.{_≤_, _-_}
 use native.Mathlib.Omega.{arith}
 use borrow.Author.Needs.{needs}
-use Rattle.numeration.specs.Code.{largest}
+use Rattle.numeration.specs.LeafOf.{largest}
 use Rattle.leaf_rules.specs.Leaf.{wordLength}
 use Rattle.leaf_rules.proofs.Leaf.{largest-next, depth-end}
 use Rattle.leaves.proofs.depth.Statement.{statement}

@@ -2,7 +2,8 @@
 use Rattle.table_rules.specs.Pairs.{inAlphabet}
 use Rattle.digit_rules.specs.Digits.{indexIn}
 use Rattle.ring.proofs.Element.{within-plus, within-le}
-use Rattle.ring.specs.Element.{plus, Within}
+use Rattle.ring.specs.Element.{plus}
+use Rattle.ring.specs.Tests.{Within}
 use lib.Dec.{ltb, lit≤}
 use Prim.Native.Nat.{_+_, _^_}
 use mathlib.Core.Path.{_≡_, sym, ap, subst, _∙_}

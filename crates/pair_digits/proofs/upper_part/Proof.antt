@@ -2,7 +2,8 @@
 use Rattle.digit_rules.specs.Record.{recordAt, elementCount}
 use Rattle.ring.proofs.Element.{within-minus, within-le}
 use Rattle.ring.specs.Matrix.{times}
-use Rattle.ring.specs.Element.{minus, Within}
+use Rattle.ring.specs.Element.{minus}
+use Rattle.ring.specs.Tests.{Within}
 use lib.ListN.{getD}
 use lib.Dec.{lit≤}
 use Prim.Native.Nat.{ℕ, _+_, _^_, _<_}

@@ -1,5 +1,5 @@
 -- All upper leaves passed so far pass: the weights of all that fit one are among those that give digits with it.
-use Rattle.leaf_rules.specs.Leaf.{weightGiven}
+use Rattle.leaf_rules.specs.Given.{weightGiven}
 use borrow.Author.Tests.{not-false}
 use Rattle.digit_rules.specs.Record.{elementCount}
 use Rattle.weight_sets.proofs.Weights.{zeros-none}

@@ -13,11 +13,12 @@ use Rattle.lists.specs.Span.{span}
 use Rattle.ring.specs.Element.{plus}
 use Rattle.layout_rules.specs.Section.{degree}
 use Rattle.digit_rules.specs.Record.{recordAt, elementCount}
-use Rattle.numeration.specs.Code.{agree}
+use Rattle.numeration.specs.LeafOf.{agree}
 use Rattle.numeration.specs.Elements.{elements}
 use Rattle.numeration.specs.PairTests.{fits, pairPasses}
 use Rattle.numeration.specs.Runs.{lowestFit}
-use Rattle.leaf_rules.specs.Leaf.{leafCount, codeOf, wordGiven, weightGiven}
+use Rattle.leaf_rules.specs.Leaf.{leafCount, codeOf}
+use Rattle.leaf_rules.specs.Given.{wordGiven, weightGiven}
 use Rattle.leaf_rules.specs.Window.{LookedUp}
 use Rattle.prefix_rules.specs.Formed.{LeavesFormed}
 use Rattle.prefix_rules.proofs.Formed.{formed}

@@ -5,7 +5,7 @@ use Prim.Native.Nat.{ℕ, _+_, _-_, _<_, _≤_, min, pred}
 use native.Mathlib.Omega.{arith}
 use lib.ListN.{length, getD}
 use borrow.Author.Count.{below-more}
-use Rattle.numeration.specs.Code.{agree}
+use Rattle.numeration.specs.LeafOf.{agree}
 use Rattle.numeration.proofs.Agreement.{agree-sound, agree-complete}
 use Rattle.pairs.proofs.fit.Statement.{statement}
 use Rattle.pairs.proofs.fit.Tie as tie

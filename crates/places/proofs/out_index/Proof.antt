@@ -2,7 +2,7 @@
 use Prim.Native.Nat.{_^_}
 use mathlib.Core.Path.{sym, ap, subst, _∙_}
 use Rattle.place_rules.specs.Place.{alphabetIndex}
-use Rattle.ring.specs.Element.{Within}
+use Rattle.ring.specs.Tests.{Within}
 use Rattle.numeration.specs.Elements.{elements}
 use Rattle.numeration.specs.Conversion.{outDigit}
 use Rattle.layout_rules.specs.Section.{degree}

@@ -1,7 +1,7 @@
 -- Five sections and the depth, field by field.
 use Rattle.reader_rules.specs.Table.{wordPart, tableFacts}
 use Rattle.leaf_rules.specs.Leaf.{codeOf}
-use Rattle.numeration.specs.Code.{depth}
+use Rattle.numeration.specs.LeafOf.{depth}
 use mathlib.Core.Path.{_≡_, ap, _∙_}
 use Rattle.reader_rules.proofs.Kept.{layout-kept}
 use lib.Dec.{lit<}

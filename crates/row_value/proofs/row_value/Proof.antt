@@ -2,7 +2,8 @@
 use Rattle.row_value_rules.proofs.Total.{turn, stop, end, zeros-passed}
 use Rattle.row_value_rules.proofs.Limit.{limited-within}
 use Rattle.row_value_rules.specs.Total.{totalLimit, placeDigit, nextTotal, worthFrom, worthOf}
-use Rattle.ring.specs.Element.{Within, plus}
+use Rattle.ring.specs.Element.{plus}
+use Rattle.ring.specs.Tests.{Within}
 use Rattle.ring.proofs.Parts.{within-two}
 use Rattle.ring.proofs.Element.{within-le}
 use Rattle.faults.specs.Outcome.{facts}

@@ -1,5 +1,5 @@
 -- What is kept was judged for the same first digit and weight, so for the same part; else it is judged now and kept.
-use Rattle.leaf_rules.specs.Leaf.{wordGiven}
+use Rattle.leaf_rules.specs.Given.{wordGiven}
 use Rattle.weight_sets.proofs.Weights.{judged-next}
 use Rattle.weight_sets.specs.Weights.{Good}
 use Rattle.digit_rules.specs.Record.{recordAt}

@@ -5,7 +5,7 @@ use lib.IntN.{ℤ, natAbs}
 use mir.Val.{SFits, toZ, ofZ}
 use mir.ValLaws.{toZ-ofZ}
 use Rattle.ring.specs.Tests.{BaseLimits}
-use Rattle.ring.specs.Element.{Within}
+use Rattle.ring.specs.Tests.{Within}
 use Rattle.exercises.proofs.Product.{within-more, rows-more, entries, product-within}
 use Rattle.ring.proofs.Parts.{entry, within-two}
 use Rattle.integers.proofs.Machine.{plain-fits, stored-is}

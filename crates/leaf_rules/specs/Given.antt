@@ -1,0 +1,23 @@
+-- For helpers' contracts only: the word and the weight of a leaf, given its number (document 01, "Conversion and addition").
+use mathlib.Core.List.{List, []}
+use mathlib.Core.Bool.{true, false, _&&_}
+use Prim.Native.Nat.{ℕ, _-_}
+use lib.ListN.{length, take, drop}
+use lib.IntN.{ℤ}
+use lib.Dec.{ltb, leb}
+use Rattle.ring.specs.Element.{zeros}
+use Rattle.layout_rules.specs.Section.{degree}
+use Rattle.leaf_rules.specs.Leaf.{leafCount, wordStart, wordEnd, weightOf}
+
+-- "From the number, one helper gives back its word as that part of the table itself": for any number and any bytes, nothing where
+-- there is no such leaf or its record points outside section 4
+unfoldable pub wordGiven : List ℕ → List ℕ → ℕ → List ℕ
+wordGiven leaves words k =
+    elim (ltb k (leafCount leaves) && leb (wordEnd leaves k) (length words)) [
+      | true ↦ take (wordEnd leaves k - wordStart leaves k) (drop (wordStart leaves k) words)
+      | false ↦ []
+    ]
+
+-- "and another gives its weight": zero where there is no such leaf
+unfoldable pub weightGiven : List ℕ → ℕ → List ℤ
+weightGiven leaves k = elim (ltb k (leafCount leaves)) [ true ↦ weightOf leaves k | false ↦ zeros degree ]
