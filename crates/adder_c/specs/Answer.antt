@@ -6,7 +6,7 @@ use lib.Dec.{ltb}
 use lib.IntN.{ℤ, pos}
 use lib.ListN.{length}
 use Rattle.lists.specs.Overwrite.{overwrite}
-use Rattle.faults.specs.Outcome.{Outcome, facts, refused, whose}
+use Rattle.faults.specs.Outcome.{Outcome, facts, refused}
 use Rattle.table_rules.specs.declared.Facts.{Facts}
 use Rattle.adder_rules.specs.declared.AddedFacts.{AddedFacts}
 use Rattle.edit_rules.specs.declared.EditedFacts.{EditedFacts}

@@ -9,7 +9,7 @@ use Rattle.lists.specs.Scan.{firstFailing}
 use Rattle.lists.specs.Overwrite.{overwrite}
 use Rattle.faults.specs.declared.Refusal.{Refusal}
 use Rattle.faults.specs.Outcome.{Group, Outcome, facts, refused, author, rows, atExit}
-use Rattle.faults.proofs.Exit.{exit-lent, exit-written}
+use Rattle.faults.proofs.Exit.{exit-lent}
 use Rattle.faults.specs.Unless.{unless}
 use Rattle.faults.specs.Check.{refusal, none}
 use Rattle.faults.proofs.Unless.{unless-found, unless-none}

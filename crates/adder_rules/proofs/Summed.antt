@@ -4,7 +4,7 @@ use mathlib.Core.List.{List, map}
 use Prim.Native.Nat.{ℕ, _+_, _<_, _≤_, _-_}
 use native.Mathlib.Nat.{zero-add}
 use native.Mathlib.Omega.{arith}
-use lib.ListN.{length, getD, take, drop, length-take, List·getD-eq-default}
+use lib.ListN.{length, getD, take, List·getD-eq-default}
 use lib.IntN.{ℤ}
 use borrow.Author.Tests.{ltb-true}
 use Rattle.lists.specs.Span.{span}
@@ -19,15 +19,13 @@ use Rattle.layout_rules.specs.Section.{degree}
 use Rattle.ring.specs.Element.{plus}
 use Rattle.digit_rules.specs.Record.{recordAt, elementCount}
 use Rattle.digit_rules.proofs.Record.{element-parts}
-use Rattle.numeration.specs.Laws.{convertRow}
+use Rattle.numeration.specs.Laws.{convertRow, HasParts}
 use Rattle.numeration.specs.Elements.{elements}
-use Rattle.numeration.specs.Laws.{HasParts}
 use Rattle.numeration.specs.Value.{value}
 use Rattle.numeration.proofs.Laws.{same-value}
 use Rattle.numeration.proofs.Sums.{value-sum}
-use Rattle.reader_rules.specs.Table.{basePart, alphabetPart, inputPart, leafPart, wordPart, tableFacts}
+use Rattle.reader_rules.specs.Table.{basePart, alphabetPart, inputPart, leafPart, wordPart, tableFacts, operationsOf, inputCount, leavesIn, valueOf}
 use Rattle.reader_rules.specs.Check.{tableCheck}
-use Rattle.reader_rules.specs.Table.{operationsOf, inputCount, leavesIn, valueOf}
 use Rattle.reader_rules.proofs.Formed.{well-formed}
 use Rattle.reader_rules.proofs.Ready.{ready-passed}
 use Rattle.row_rules.specs.Check.{rowCheck}

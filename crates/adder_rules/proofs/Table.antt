@@ -11,10 +11,9 @@ use Rattle.digit_rules.proofs.Base.{base-within}
 use Rattle.numeration.specs.Code.{Inputs}
 use Rattle.numeration.specs.Conversion.{window}
 use Rattle.numeration.proofs.Windows.{window-below}
-use Rattle.reader_rules.specs.Table.{basePart, alphabetPart, inputPart, leafPart, wordPart}
+use Rattle.reader_rules.specs.Table.{basePart, alphabetPart, inputPart, leafPart, wordPart, inputCount}
 use Rattle.reader_rules.specs.Check.{tableCheck}
 use Rattle.reader_rules.specs.Ready.{Ready}
-use Rattle.reader_rules.specs.Table.{inputCount}
 use Rattle.reader_rules.proofs.Kept.{layout-kept, table-kept}
 use Rattle.reader_rules.proofs.Ready.{ready-passed}
 use Rattle.place_rules.specs.Helpers.{Begun}

@@ -6,8 +6,7 @@ use lib.ListN.{length, getD, take}
 use Rattle.layout_rules.specs.Section.{degree}
 use Rattle.ring.specs.Element.{zeros, plus}
 use Rattle.digit_rules.specs.Record.{recordAt}
-use Rattle.reader_rules.specs.Table.{alphabetPart, inputPart}
-use Rattle.reader_rules.specs.Table.{operationsOf, valueOf}
+use Rattle.reader_rules.specs.Table.{alphabetPart, inputPart, operationsOf, valueOf}
 use Rattle.adder_rules.specs.Sum.{digitCount, placeCount, rowDigit}
 use Rattle.adder_rules.specs.Input.{inputRow, rowIndex}
 use Rattle.adder_rules.specs.Add.{addSum}

@@ -1,7 +1,7 @@
 -- Pinned by listed (proofs/Listed.antt; Contents.antt has what it says): a reader may skip this file. TERN and BIN as files, from
 -- document 01's words ("Table file", "Carried tables"). Their elements are whole numbers: the second
 -- part is zero.
-use mathlib.Core.Bool.{Bool, true, false, cond, _||_}
+use mathlib.Core.Bool.{cond, _||_}
 use mathlib.Core.List.{List, [], _∷_, _++_, map}
 use Prim.Native.Nat.{ℕ, _+_, _-_, _/_, _%_}
 use lib.IntN.{ℤ, pos, negsuc, negℤ}

@@ -9,9 +9,8 @@ use lib.ListN.{length}
 use lib.IntN.{ℤ, natAbs, _*ℤ_}
 use Rattle.integers.proofs.Size.{natAbs-+, natAbs-*≤}
 use Rattle.ring.specs.Element.{plus}
-use Rattle.ring.specs.Tests.{Within}
+use Rattle.ring.specs.Tests.{Within, RowsWithin}
 use Rattle.ring.specs.Matrix.{dot, times}
-use Rattle.ring.specs.Tests.{RowsWithin}
 use Rattle.ring.proofs.Element.{within-plus, within-minus, within-le}
 use Rattle.layout_rules.specs.Section.{degree}
 use Rattle.numeration.specs.Conversion.{outDigit}

@@ -1,8 +1,7 @@
 // Conversion at one place.
 ghost use mathlib.Core.Path.{_≡_};
 ghost use Prim.Native.Nat.{_^_};
-ghost use Rattle.ring.specs.Tests.{Within};
-ghost use Rattle.ring.specs.Tests.{RowsWithin};
+ghost use Rattle.ring.specs.Tests.{Within, RowsWithin};
 ghost use Rattle.layout_rules.specs.Section.{degree};
 ghost use Rattle.numeration.specs.Conversion.{outDigit};
 ghost use Rattle.numeration.specs.Elements.{elements};

@@ -3,8 +3,7 @@ ghost use mathlib.Core.Path.{_≡_};
 ghost use Prim.Native.Nat.{_+_, _<_};
 ghost use Rattle.ring.specs.Tests.{Within};
 ghost use Rattle.digit_rules.specs.Record.{elementCount};
-ghost use Rattle.digit_rules.specs.Digits.{BasePart, baseCheck};
-ghost use Rattle.digit_rules.specs.Digits.{alphabetCheck, sumsListed, allSumsListed, isSum, inputAllowed, inputCheck, digitCheck};
+ghost use Rattle.digit_rules.specs.Digits.{BasePart, baseCheck, alphabetCheck, sumsListed, allSumsListed, isSum, inputAllowed, inputCheck, digitCheck};
 use faults::Refusal;
 
 // The sections of digits.

@@ -16,8 +16,7 @@ use Rattle.layout_rules.specs.Section.{degree}
 use Rattle.ring.specs.Element.{zeros, minus}
 use Rattle.ring.specs.Tests.{same}
 use Rattle.digit_rules.specs.Record.{recordAt, elementCount}
-use Rattle.digit_rules.specs.Digits.{indexIn}
-use Rattle.digit_rules.specs.Digits.{recordAllowed, sumIndex, sumListed, allSumsListed, noSumWith, inputAllowed, inputsAllowed, inputCheck}
+use Rattle.digit_rules.specs.Digits.{indexIn, recordAllowed, sumIndex, sumListed, allSumsListed, noSumWith, inputAllowed, inputsAllowed, inputCheck}
 use Rattle.digit_rules.proofs.Index.{index-high}
 
 module _ (part : List ℕ) (k : ℕ) (x : List ℤ) (reads : x ≡ recordAt part k) where

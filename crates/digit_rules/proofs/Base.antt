@@ -9,11 +9,9 @@ use Rattle.integers.proofs.Machine.{_⊕_, _⊗_, plain-bound}
 use Rattle.faults.specs.Check.{refusal, none, judge}
 use Rattle.faults.proofs.Check.{once-broken, once-kept, then-found, then-next}
 use Rattle.ring.specs.Element.{part}
-use Rattle.ring.specs.Tests.{Within}
+use Rattle.ring.specs.Tests.{Within, RowsWithin, BaseLimits, perfectSquare, expanding}
 use Rattle.ring.specs.Matrix.{matrixOf}
-use Rattle.ring.specs.Tests.{RowsWithin}
 use Rattle.ring.specs.Base.{discriminant}
-use Rattle.ring.specs.Tests.{BaseLimits, perfectSquare, expanding}
 use Rattle.ring.proofs.Parts.{within-part, within-two, s-term, t-term, u-term, v-term}
 use Rattle.ring.proofs.Base.{rows-of-two}
 use Rattle.lists.specs.Span.{span}

@@ -14,8 +14,7 @@ use Rattle.faults.specs.Exact.{Exact}
 use Rattle.faults.proofs.Rule.{Decided, exact, places-decided, then-decided}
 use Rattle.ring.proofs.Base.{expanding-test, square-test}
 use Rattle.digit_rules.specs.Record.{recordAt, elementCount}
-use Rattle.digit_rules.specs.Digits.{discriminantAllowed, expandingBase, baseCheck}
-use Rattle.digit_rules.specs.Digits.{recordAllowed, alphabetCheck, isSum, inputAllowed, inputsAllowed, inputCheck, digitCheck}
+use Rattle.digit_rules.specs.Digits.{discriminantAllowed, expandingBase, baseCheck, recordAllowed, alphabetCheck, isSum, inputAllowed, inputsAllowed, inputCheck, digitCheck}
 use Rattle.digit_rules.specs.Broken.{Broken5, Broken6, Broken7, Sum, Broken8, digitRules}
 use Rattle.digit_rules.proofs.Record.{element-parts}
 use Rattle.digit_rules.proofs.Allowed.{at-record, after-records}

@@ -18,9 +18,7 @@ use Rattle.ring.specs.Element.{zeros, plus}
 use Rattle.ring.proofs.Element.{same→≡, zeros-plus}
 use Rattle.ring.proofs.Base.{expanding-test, square-test}
 use Rattle.digit_rules.specs.Record.{recordAt, elementCount}
-use Rattle.digit_rules.specs.Digits.{indexIn}
-use Rattle.digit_rules.specs.Digits.{discriminantAllowed, expandingBase, baseCheck}
-use Rattle.digit_rules.specs.Digits.{recordAllowed, alphabetCheck, sumIndex, inputsAllowed, inputCheck, digitCheck}
+use Rattle.digit_rules.specs.Digits.{indexIn, discriminantAllowed, expandingBase, baseCheck, recordAllowed, alphabetCheck, sumIndex, inputsAllowed, inputCheck, digitCheck}
 use Rattle.digit_rules.specs.Broken.{Broken7, Broken8}
 use Rattle.digit_rules.specs.Formed.{DigitList, DigitsFormed}
 use Rattle.digit_rules.proofs.Record.{element-parts}

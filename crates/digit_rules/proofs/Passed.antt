@@ -7,17 +7,15 @@ use native.Mathlib.Omega.{arith}
 use lib.IntN.{natAbs}
 use Rattle.lists.proofs.Each.{each}
 use Rattle.layout_rules.specs.Number.{signedAt}
-use Rattle.layout_rules.specs.Section.{degree, elementSize, recordSize, partOf}
+use Rattle.layout_rules.specs.Section.{degree, elementSize, recordSize, partOf, sectionLengths}
 use Rattle.layout_rules.specs.Directory.{directoryCheck}
 use Rattle.layout_rules.specs.Length.{lengthCheck}
-use Rattle.layout_rules.specs.Section.{sectionLengths}
 use Rattle.layout_rules.specs.Limit.{sizeLimit, limitCheck}
 use Rattle.layout_rules.proofs.Passed.{whole-records, within-element}
 use Rattle.ring.specs.Tests.{Within}
 use Rattle.ring.proofs.Parts.{within-two}
 use Rattle.digit_rules.specs.Record.{elementAt}
-use Rattle.digit_rules.specs.Digits.{RecordsWithin}
-use Rattle.digit_rules.specs.Digits.{BasePart}
+use Rattle.digit_rules.specs.Digits.{RecordsWithin, BasePart}
 use Rattle.digit_rules.proofs.Record.{element-two}
 
 pub element-within : (bytes : List ℕ) (at n : ℕ) → ((k : ℕ) → k < degree → natAbs (signedAt bytes (at + 2 * k)) ≤ n) → Within n (elementAt bytes at)

@@ -17,8 +17,7 @@ use Rattle.ring.specs.Element.{zeros, plus, minus}
 use Rattle.ring.specs.Tests.{same}
 use Rattle.ring.proofs.Element.{plus-comm, minus-plus, plus-minus, same-refl, same→≡}
 use Rattle.digit_rules.specs.Record.{recordAt, elementCount}
-use Rattle.digit_rules.specs.Digits.{indexIn}
-use Rattle.digit_rules.specs.Digits.{recordAllowed, sumIndex, sumListed, sumsListed, allSumsListed, noSumWith, isSum}
+use Rattle.digit_rules.specs.Digits.{indexIn, recordAllowed, sumIndex, sumListed, sumsListed, allSumsListed, noSumWith, isSum}
 use Rattle.digit_rules.specs.Broken.{Broken7, Sum, Listed}
 use Rattle.digit_rules.proofs.Record.{element-parts}
 use Rattle.digit_rules.proofs.Index.{index-is, index-first, index-high}

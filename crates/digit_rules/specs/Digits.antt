@@ -10,8 +10,7 @@ use Rattle.faults.specs.declared.Refusal.{Refusal}
 use Rattle.faults.specs.Check.{judge, _then_}
 use Rattle.layout_rules.specs.Section.{degree}
 use Rattle.ring.specs.Element.{zeros, plus, minus, part}
-use Rattle.ring.specs.Tests.{Within}
-use Rattle.ring.specs.Tests.{same, expanding, perfectSquare}
+use Rattle.ring.specs.Tests.{Within, same, expanding, perfectSquare}
 use Rattle.digit_rules.specs.Record.{recordAt, elementCount}
 use Rattle.digit_rules.specs.Base.{sOf, tOf, uOf, vOf}
 use mathlib.Core.Path.{_≡_}

@@ -10,7 +10,6 @@ use native.Mathlib.Omega.{arith}
 use lib.ListN.{getD, set, replicate}
 use lib.Seq.{getD-set-other}
 use lib.IntN.{ℤ}
-use lib.Dec.{T}
 use borrow.Author.Tests.{lt-ltb, le-ltb}
 use Rattle.lists.proofs.Scan.{scan-all}
 use Rattle.lists.proofs.Test.{clash}
@@ -20,8 +19,7 @@ use Rattle.ring.specs.Element.{plus}
 use Rattle.ring.specs.Tests.{same}
 use Rattle.ring.proofs.Element.{same→≡}
 use Rattle.digit_rules.specs.Record.{recordAt, elementCount}
-use Rattle.digit_rules.specs.Digits.{indexIn}
-use Rattle.digit_rules.specs.Digits.{recordAllowed, sumIndex, sumListed, allSumsListed, inputAllowed, inputsAllowed, inputCheck}
+use Rattle.digit_rules.specs.Digits.{indexIn, recordAllowed, sumIndex, sumListed, allSumsListed, inputAllowed, inputsAllowed, inputCheck}
 use Rattle.digit_rules.specs.Broken.{Broken7}
 use Rattle.slots.specs.Slot.{slotOf}
 use Rattle.digit_sums.specs.Marks.{followed, located, FoundAt, Marked}

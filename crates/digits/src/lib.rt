@@ -5,10 +5,8 @@ ghost use Prim.Native.Nat.{_+_, _≤_, _<_};
 ghost use lib.ListN.{length};
 ghost use Rattle.ring.specs.Tests.{Within};
 ghost use Rattle.digit_rules.specs.Record.{elementAt, recordAt, elementCount};
-ghost use Rattle.digit_rules.specs.Digits.{indexIn};
+ghost use Rattle.digit_rules.specs.Digits.{indexIn, BasePart, recordAllowed, sumIndex};
 ghost use Rattle.digit_rules.specs.Base.{baseMatrix};
-ghost use Rattle.digit_rules.specs.Digits.{BasePart};
-ghost use Rattle.digit_rules.specs.Digits.{recordAllowed, sumIndex};
 
 // The bytes of an element.
 const ELEMENT: usize = 4;

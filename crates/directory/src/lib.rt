@@ -1,6 +1,6 @@
 // Rules 1 to 3 of document 01, callable apart: `directory` is rules 1 and 2, `lengths` rule 3.
 ghost use mathlib.Core.Path.{_≡_};
-ghost use Prim.Native.Nat.{_+_, _≤_, _<_};
+ghost use Prim.Native.Nat.{_≤_, _<_};
 ghost use lib.ListN.{length};
 ghost use Rattle.lists.specs.Scan.{firstFailing};
 ghost use Rattle.layout_rules.specs.Directory.{expectedStart, pairAllowed, directoryCheck};

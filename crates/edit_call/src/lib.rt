@@ -1,6 +1,5 @@
 // The digit edit as a call: the table, the rows and what the editor asks for are checked, then the edit is made.
 ghost use mathlib.Core.Path.{_≡_};
-ghost use Prim.Native.Nat.{_-_};
 ghost use Rattle.faults.specs.Outcome.{refused, rows, editor};
 ghost use Rattle.edit_rules.specs.Edit.{editOutcome, editState};
 ghost use Rattle.edit_rules.specs.State.{state};

@@ -3,7 +3,7 @@
 use mathlib.Core.Path.{_≡_, subst}
 use mathlib.Core.List.{List}
 use mathlib.Core.Logic.{inl, inr}
-use Prim.Native.Nat.{ℕ, _<_, _≤_}
+use Prim.Native.Nat.{ℕ, _≤_}
 use native.Mathlib.Omega.{arith}
 use lib.ListN.{length, drop}
 use lib.Seq.{take-all}
@@ -13,8 +13,7 @@ use Rattle.faults.specs.Rule.{Rule, AllKept}
 use Rattle.faults.proofs.Numbers.{number-of}
 use Rattle.calls.specs.Answers.{FirstFault}
 use Rattle.numeration.specs.Code.{Inputs}
-use Rattle.reader_rules.specs.Table.{tableFacts}
-use Rattle.reader_rules.specs.Table.{inputCount}
+use Rattle.reader_rules.specs.Table.{tableFacts, inputCount}
 use Rattle.reader_rules.specs.Broken.{tableRules}
 use Rattle.reader_rules.proofs.Kept.{no-number}
 use Rattle.row_rules.specs.declared.Change.{Change}
@@ -29,8 +28,7 @@ use Rattle.table_rules.proofs.Demand.{demand-2}
 use Rattle.adder_rules.specs.Sum.{digitCount, placeCount}
 use Rattle.adder_rules.proofs.Accepted.{row-inputs, accepted-passes}
 use Rattle.edit_rules.specs.Edit.{editOutcome}
-use Rattle.edit_rules.specs.State.{newInputs}
-use Rattle.edit_rules.specs.State.{State}
+use Rattle.edit_rules.specs.State.{newInputs, State}
 use Rattle.edit_rules.specs.Broken.{editStages}
 use Rattle.edit_rules.specs.Run.{run}
 use Rattle.edit_rules.specs.Follows.{Follows, ListFollows}

@@ -14,8 +14,7 @@ use Rattle.adder_rules.specs.Sum.{digitCount}
 use Rattle.adder_rules.proofs.Demand.{digits-decided}
 use Rattle.edit_rules.specs.declared.EditedFacts.{EditedFacts}
 use Rattle.edit_rules.specs.Edit.{count, renewOutcome, editOutcome, editState}
-use Rattle.edit_rules.specs.State.{newInputs}
-use Rattle.edit_rules.specs.State.{State, reach}
+use Rattle.edit_rules.specs.State.{newInputs, State, reach}
 use Rattle.edit_rules.specs.Broken.{editStages}
 use Rattle.edit_rules.proofs.Stages.{state-lent}
 

@@ -16,13 +16,12 @@ use Rattle.lists.proofs.Span.{length-span, getD-span, span-ext}
 use Rattle.lists.proofs.Test.{both, clash}
 use Rattle.faults.specs.Outcome.{Outcome, facts}
 use Rattle.faults.proofs.Exit.{exit-written}
-use Rattle.digit_rules.specs.Record.{recordAt, elementCount}
+use Rattle.digit_rules.specs.Record.{recordAt}
 use Rattle.digit_rules.specs.Digits.{sumIndex}
 use Rattle.numeration.specs.Changes.{Changes, storeTaken, storeAll}
 use Rattle.numeration.specs.Renewal.{Local, digitRow, renewed}
 use Rattle.numeration.proofs.Changes.{stored-taken, stored-other, renewed-right, valid-storeTaken, valid-storeAll}
-use Rattle.reader_rules.specs.Table.{alphabetPart, inputPart, tableFacts}
-use Rattle.reader_rules.specs.Table.{valueOf}
+use Rattle.reader_rules.specs.Table.{alphabetPart, inputPart, tableFacts, valueOf}
 use Rattle.reader_rules.proofs.Kept.{no-number}
 use Rattle.row_rules.specs.declared.Change.{Change}
 use Rattle.row_rules.specs.Changed.{changed, noChange}

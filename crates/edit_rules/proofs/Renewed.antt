@@ -17,9 +17,8 @@ use Rattle.faults.specs.Unless.{unless}
 use Rattle.faults.proofs.Exit.{exit-lent, exit-written}
 use Rattle.faults.proofs.Unless.{unless-found, unless-none}
 use Rattle.numeration.specs.Code.{Inputs}
-use Rattle.reader_rules.specs.Table.{tableFacts}
+use Rattle.reader_rules.specs.Table.{tableFacts, inputCount}
 use Rattle.reader_rules.specs.Check.{tableCheck}
-use Rattle.reader_rules.specs.Table.{inputCount}
 use Rattle.reader_rules.proofs.Ready.{ready-passed}
 use Rattle.row_rules.specs.declared.Change.{Change}
 use Rattle.row_rules.specs.Changed.{changed}
@@ -36,8 +35,7 @@ use Rattle.adder_rules.proofs.Part.{check-refused, check-kept, part-found, part
 use Rattle.edit_rules.specs.declared.EditedFacts.{EditedFacts}
 use Rattle.edit_rules.specs.Count.{differing}
 use Rattle.edit_rules.specs.Edit.{newSum, written, count, renewOutcome, renewState}
-use Rattle.edit_rules.specs.State.{newInputs}
-use Rattle.edit_rules.specs.State.{State, reach}
+use Rattle.edit_rules.specs.State.{newInputs, State, reach}
 use Rattle.edit_rules.proofs.Count.{failing-ext}
 
 -- the digits at a count of places

@@ -36,8 +36,7 @@ use Rattle.adder_rules.proofs.Accepted.{row-inputs, accepted-passes, digits-kep
 use Rattle.edit_rules.specs.declared.EditedFacts.{EditedFacts}
 use Rattle.edit_rules.specs.Count.{failing, differing}
 use Rattle.edit_rules.specs.Edit.{newSum, written, count, editOutcome, editState}
-use Rattle.edit_rules.specs.State.{newInputs}
-use Rattle.edit_rules.specs.State.{State, reach}
+use Rattle.edit_rules.specs.State.{newInputs, State, reach}
 use Rattle.edit_rules.specs.Follows.{Step}
 use Rattle.edit_rules.proofs.Count.{failing-zero, failing-add}
 use Rattle.edit_rules.proofs.Renewed.{part-long, renew-given, new-fit, part-fits}

@@ -10,8 +10,7 @@ use Rattle.row_rules.specs.declared.Change.{Change}
 use Rattle.row_rules.specs.Broken.{rowRules, editRules}
 use Rattle.adder_rules.specs.Sum.{digitCount}
 use Rattle.adder_rules.specs.Broken.{outputRules}
-use Rattle.edit_rules.specs.State.{newInputs}
-use Rattle.edit_rules.specs.State.{State, reach}
+use Rattle.edit_rules.specs.State.{newInputs, State, reach}
 
 -- 1 to 13, 20 to 23, 24 to 26, and "in the edit over p to p + h": 27
 abbrev pub editStages : List ℕ → Change → State → List Stage

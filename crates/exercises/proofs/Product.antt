@@ -3,13 +3,11 @@ use mathlib.Core.Path.{_≡_}
 use mathlib.Core.List.{List, [], _∷_}
 use Prim.Native.Nat.{ℕ, zero, suc, _≤_, zero-le}
 use native.Mathlib.Omega.{arith}
-use lib.IntN.{ℤ, natAbs, _+ℤ_, _*ℤ_}
+use lib.IntN.{ℤ, _+ℤ_, _*ℤ_}
 use lib.ListN.{length, getD}
 use Rattle.integers.proofs.Machine.{_⊕_, _⊗_, plain-bound}
-use Rattle.ring.specs.Tests.{Within}
+use Rattle.ring.specs.Tests.{Within, RowsWithin, BaseLimits}
 use Rattle.ring.specs.Matrix.{times, matrixOf}
-use Rattle.ring.specs.Tests.{RowsWithin}
-use Rattle.ring.specs.Tests.{BaseLimits}
 use Rattle.ring.proofs.Parts.{within-two, s-term, t-term, u-term, v-term}
 use Rattle.ring.proofs.Base.{rows-of-two}
 use Rattle.ring.proofs.Matrix.{within-times}

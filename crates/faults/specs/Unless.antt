@@ -2,7 +2,7 @@
 use mathlib.Core.Bool.{true, false}
 use lib.Dec.{eqb}
 use Rattle.faults.specs.declared.Refusal.{Refusal}
-use Rattle.faults.specs.Outcome.{Group, Outcome, facts, refused}
+use Rattle.faults.specs.Outcome.{Group, Outcome, refused}
 
 -- refused in the group's name where the check found something, else what follows
 unfoldable pub unless : {F : Type 0} → Group → Refusal → Outcome F → Outcome F

@@ -1,9 +1,7 @@
 -- The laws of a commutative ring that lib.IntN lacks, and a rule set of them for identities.
 use mathlib.Core.Path.{_≡_, sym, ap, ap₂, _∙_}
 use Prim.Native.Nat.{zero, suc}
-use lib.IntN.{ℤ, pos, negsuc, sucℤ, predℤ, negℤ, _+ℤ_, _-ℤ_, _*ℤ_, one}
-use lib.IntN.{+ℤ-assoc, +ℤ-comm, +ℤ-idl, *ℤ-comm, *ℤ-one, zero-*ℤ, sucℤ-*ℤ, predℤ-*ℤ}
-use lib.IntN.{negℤ-+ℤ, negℤ-sucℤ, negℤ-predℤ, negℤ-negℤ, -ℤ-+ℤ-cancel}
+use lib.IntN.{ℤ, pos, negsuc, sucℤ, predℤ, negℤ, _+ℤ_, _-ℤ_, _*ℤ_, one, +ℤ-assoc, +ℤ-comm, +ℤ-idl, *ℤ-comm, *ℤ-one, zero-*ℤ, sucℤ-*ℤ, predℤ-*ℤ, negℤ-+ℤ, negℤ-sucℤ, negℤ-predℤ, negℤ-negℤ, -ℤ-+ℤ-cancel}
 
 -- from zero, one up and one down reach every integer
 pub each : (P : ℤ → Type 0) → P (pos zero) → ((k : ℤ) → P k → P (sucℤ k)) → ((k : ℤ) → P k → P (predℤ k)) → (k : ℤ) → P k

@@ -5,8 +5,7 @@ ghost use Prim.Native.Nat.{_+_, _≤_, _<_};
 ghost use lib.ListN.{length};
 ghost use lib.IntN.{natAbs};
 ghost use Rattle.layout_rules.specs.Number.{unsignedAt, signedAt};
-ghost use Rattle.layout_rules.specs.Section.{recordSize, recordCount, sectionStart, sectionLength, sectionEnd};
-ghost use Rattle.layout_rules.specs.Section.{sectionLengths};
+ghost use Rattle.layout_rules.specs.Section.{recordSize, recordCount, sectionStart, sectionLength, sectionEnd, sectionLengths};
 
 // The degree of the ring; every record size goes through it.
 pub const DEGREE: usize = 2;

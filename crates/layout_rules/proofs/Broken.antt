@@ -15,10 +15,9 @@ use Rattle.faults.specs.Check.{judge, _then_}
 use Rattle.faults.specs.Rule.{rule}
 use Rattle.faults.specs.Exact.{Exact}
 use Rattle.faults.proofs.Rule.{Decided, exact, places-decided, then-decided}
-use Rattle.layout_rules.specs.Section.{recordSize, sectionStart, sectionLength, sectionEnd}
+use Rattle.layout_rules.specs.Section.{recordSize, sectionStart, sectionLength, sectionEnd, sectionLengths}
 use Rattle.layout_rules.specs.Directory.{sizeAllowed, expectedStart, pairAllowed, directoryCheck}
 use Rattle.layout_rules.specs.Length.{leastRecords, mostRecords, lengthAllowed, sectionAllowed, lengthCheck}
-use Rattle.layout_rules.specs.Section.{sectionLengths}
 use Rattle.layout_rules.specs.Limit.{limitCheck}
 use Rattle.layout_rules.specs.Broken.{Broken1, PairFollows, Broken2, Allowed, Broken3, directoryRules, lengthRules, limitRules}
 use Rattle.layout_rules.proofs.Laid.{size-says, Placed, pair-says, laid}

@@ -12,12 +12,10 @@ use Rattle.lists.proofs.Each.{each}
 use Rattle.lists.proofs.Span.{getD-span}
 use Rattle.faults.proofs.Check.{judge-passed, turn-kept}
 use Rattle.layout_rules.specs.Number.{signedAt}
-use Rattle.layout_rules.specs.Section.{degree, elementSize, recordSize, recordCount, sectionLength, sectionEnd, partOf}
-use Rattle.layout_rules.specs.Limit.{elementStart}
+use Rattle.layout_rules.specs.Section.{degree, elementSize, recordSize, recordCount, sectionLength, sectionEnd, partOf, sectionLengths}
+use Rattle.layout_rules.specs.Limit.{elementStart, sizeLimit, numberCount, numberAllowed, limitCheckIn, limitCheckOf, limitCheck}
 use Rattle.layout_rules.specs.Directory.{directoryCheck}
 use Rattle.layout_rules.specs.Length.{leastRecords, mostRecords, lengthAllowed, sectionAllowed, lengthCheck}
-use Rattle.layout_rules.specs.Section.{sectionLengths}
-use Rattle.layout_rules.specs.Limit.{sizeLimit, numberCount, numberAllowed, limitCheckIn, limitCheckOf, limitCheck}
 use Rattle.layout_rules.proofs.Laid.{Laid, laid, part-length}
 use Rattle.layout_rules.proofs.Length.{sized}
 use Rattle.layout_rules.proofs.Limit.{element-held, number-of, number-counted}

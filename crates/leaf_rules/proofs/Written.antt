@@ -1,5 +1,5 @@
 -- Leaves, read back from bytes as document 01 has them written: offset and length of the word, then the weight (a, b), 16 bits a number.
-use mathlib.Core.Path.{_≡_, refl, ap, _∙_}
+use mathlib.Core.Path.{_≡_, ap, _∙_}
 use mathlib.Core.List.{List, [], _∷_}
 use Prim.Native.Nat.{ℕ, _+_, _*_, _<_}
 use native.Mathlib.Omega.{arith}

@@ -1,7 +1,7 @@
 // The leaves of a table: their words and weights, the depth, and the look-up. Sections 3 and 4 come as two parts, of a file or not.
 ghost use mathlib.Core.Path.{_≡_};
 ghost use mathlib.Core.List.{List};
-ghost use Prim.Native.Nat.{ℕ, _+_, _-_, _<_, _≤_, min};
+ghost use Prim.Native.Nat.{ℕ, _+_, _-_, _<_, _≤_};
 ghost use mathlib.Core.Bool.{true};
 ghost use lib.ListN.{length, getD};
 ghost use lib.Dec.{eqb};

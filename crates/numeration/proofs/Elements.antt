@@ -7,9 +7,8 @@ use lib.ListN.{length, length-replicate}
 use lib.IntN.{ℤ, pos}
 use Rattle.ring.proofs.Element.{plus-assoc, plus-comm, plus-parts, minus-parts, minus-plus, zeros-plus}
 use Rattle.ring.proofs.Matrix.{times-plus, length-times}
-use Rattle.numeration.specs.Laws.{AdditiveGroup}
+use Rattle.numeration.specs.Laws.{AdditiveGroup, HasParts}
 use Rattle.numeration.specs.Elements.{elements}
-use Rattle.numeration.specs.Laws.{HasParts}
 
 pub elements-group : (d : ℕ) (matrix : List (List ℤ)) → length matrix ≡ d → AdditiveGroup (elements d matrix) (HasParts d)
 unfolding elements

@@ -10,21 +10,16 @@ use Rattle.ring.specs.Element.{product}
 use Rattle.ring.specs.Matrix.{matrixOf}
 use Rattle.ring.proofs.Matrix.{length-matrix, matrix-product}
 use Rattle.numeration.specs.Group.{Operations}
-use Rattle.numeration.specs.Laws.{AdditiveGroup}
+use Rattle.numeration.specs.Laws.{AdditiveGroup, HasParts, convertRow, InGroup, PairsConvert, Elements}
 use Rattle.numeration.specs.Elements.{elements}
-use Rattle.numeration.specs.Laws.{HasParts}
 use Rattle.numeration.proofs.Elements.{elements-group}
 use Rattle.numeration.specs.Code.{Code, Begins}
 use Rattle.numeration.specs.LeafOf.{leafOf, depth}
 use Rattle.numeration.specs.Prefix.{Below, OrderedCode, PrefixCode}
 use Rattle.numeration.specs.Conversion.{weightInto, weightAt, convert}
-use Rattle.numeration.specs.Laws.{convertRow}
-use Rattle.numeration.specs.Laws.{InGroup}
 use Rattle.numeration.specs.Pairs.{Fits, pairDigit, RowsConvert}
-use Rattle.numeration.specs.Laws.{PairsConvert}
 use Rattle.numeration.specs.PairTests.{pairString, Holds}
 use Rattle.numeration.specs.Value.{value, topDown}
-use Rattle.numeration.specs.Laws.{Elements}
 use Rattle.numeration.specs.Changes.{Changes}
 use Rattle.numeration.specs.Renewal.{Local, rowChanges, InputRow, SumFollows}
 use Rattle.numeration.proofs.Leaves.{prefix-code, leafOf-begins, leafOf-unique}

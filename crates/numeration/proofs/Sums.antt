@@ -9,10 +9,9 @@ use lib.ListN.{List·getD-eq-default}
 use Rattle.lists.specs.Span.{span}
 use Rattle.lists.proofs.Span.{length-span, getD-span}
 use Rattle.numeration.specs.Group.{Operations}
-use Rattle.numeration.specs.Laws.{AdditiveGroup}
+use Rattle.numeration.specs.Laws.{AdditiveGroup, Elements}
 use Rattle.numeration.specs.Conversion.{outDigit}
 use Rattle.numeration.specs.Value.{power, valueFrom, value, topDown}
-use Rattle.numeration.specs.Laws.{Elements}
 
 module _ {A : Type 0} (o : Operations A) (Element : A → Type 0) (g : AdditiveGroup o Element) where
   pub unit-right : {x : A} → Element x → o .sum x (o .none) ≡ x

@@ -2,8 +2,7 @@
 ghost use mathlib.Core.Path.{_≡_};
 ghost use lib.ListN.{getD};
 ghost use Rattle.ring.specs.Element.{plus};
-ghost use Rattle.ring.specs.Tests.{Within};
-ghost use Rattle.ring.specs.Tests.{RowsWithin};
+ghost use Rattle.ring.specs.Tests.{Within, RowsWithin};
 ghost use Rattle.digit_rules.specs.Record.{elementCount};
 ghost use Rattle.leaf_rules.specs.Given.{wordGiven, weightGiven};
 ghost use mathlib.Core.Bool.{true};

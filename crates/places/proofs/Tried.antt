@@ -8,8 +8,6 @@ use native.Mathlib.Omega.{arith}
 use lib.ListN.{length, getD, set, replicate, length-set, List·getD-eq-default}
 use lib.Seq.{getD-set-same, getD-set-other}
 use lib.IntN.{ℤ}
-use lib.Dec.{T}
-use Rattle.integers.proofs.Machine.{leaf}
 use Rattle.ring.specs.Tests.{same}
 use Rattle.digit_rules.specs.Record.{recordAt, elementCount}
 use Rattle.digit_rules.proofs.Index.{index-is, index-first}

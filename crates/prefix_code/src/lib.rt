@@ -1,7 +1,7 @@
 // The leaves of a table as a complete prefix code: rules 9 to 13 of document 01 by a quick look that says yes or nothing, in front of the
 // scans. Sections 3 and 4 come as two parts, of a file or not.
 ghost use mathlib.Core.Path.{_≡_};
-ghost use Prim.Native.Nat.{ℕ, _+_, _-_, _≤_, _<_};
+ghost use Prim.Native.Nat.{ℕ, _+_, _≤_, _<_};
 ghost use mathlib.Core.Bool.{true};
 ghost use lib.ListN.{length, getD};
 ghost use Rattle.leaf_rules.specs.Leaf.{leafCount, codeOf};

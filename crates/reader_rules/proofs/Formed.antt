@@ -12,9 +12,8 @@ use Rattle.faults.specs.Outcome.{facts}
 use Rattle.faults.proofs.Check.{then-next, judge-passed}
 use Rattle.faults.proofs.Rule.{exact}
 use Rattle.layout_rules.specs.Number.{signedAt}
-use Rattle.layout_rules.specs.Section.{elementSize, leafSize, sectionStart, sectionLength, sectionEnd, partOf}
+use Rattle.layout_rules.specs.Section.{elementSize, leafSize, sectionStart, sectionLength, sectionEnd, partOf, sectionLengths}
 use Rattle.layout_rules.specs.Length.{sectionAllowed, lengthCheck}
-use Rattle.layout_rules.specs.Section.{sectionLengths}
 use Rattle.layout_rules.specs.Broken.{Allowed, Broken1, Broken2, Outside, Broken4}
 use Rattle.layout_rules.proofs.Number.{part-signed}
 use Rattle.layout_rules.proofs.Laid.{Laid, laid, part-length}

@@ -6,10 +6,9 @@ use lib.ListN.{length}
 use Rattle.faults.specs.declared.Refusal.{Refusal}
 use Rattle.faults.specs.Check.{none, _then_}
 use Rattle.faults.proofs.Check.{then-kept}
-use Rattle.layout_rules.specs.Section.{sectionEnd}
+use Rattle.layout_rules.specs.Section.{sectionEnd, sectionLengths}
 use Rattle.layout_rules.specs.Directory.{directoryCheck}
 use Rattle.layout_rules.specs.Length.{lengthCheck}
-use Rattle.layout_rules.specs.Section.{sectionLengths}
 use Rattle.layout_rules.specs.Limit.{limitCheck}
 use lib.Dec.{lit<}
 use Rattle.layout_rules.proofs.Laid.{laid}

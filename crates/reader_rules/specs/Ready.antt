@@ -7,12 +7,10 @@ use Rattle.layout_rules.specs.Section.{degree}
 use Rattle.ring.specs.Element.{zeros}
 use Rattle.digit_rules.specs.Record.{recordAt, elementCount}
 use Rattle.digit_rules.specs.Digits.{BasePart}
-use Rattle.numeration.specs.Laws.{AdditiveGroup}
-use Rattle.numeration.specs.Laws.{HasParts}
+use Rattle.numeration.specs.Laws.{AdditiveGroup, HasParts, InGroup}
 use Rattle.numeration.specs.Code.{Agree, Inputs}
 use Rattle.numeration.specs.LeafOf.{leafOf}
 use Rattle.numeration.specs.Prefix.{OrderedCode, PrefixCode}
-use Rattle.numeration.specs.Laws.{InGroup}
 use Rattle.leaf_rules.specs.Leaf.{leafCount, wordLength, weightOf}
 use Rattle.leaf_rules.specs.Window.{digits, LookedUp}
 use Rattle.reader_rules.specs.declared.Part.{Part}

@@ -11,12 +11,9 @@ use Rattle.lists.proofs.Span.{listed}
 use Rattle.integers.specs.Test.{eqZ}
 use Rattle.integers.proofs.Machine.{Term, leaf, _⊕_, _⊖_, _⊗_, plain-bound}
 use Rattle.ring.specs.Element.{part, plus, negative, minus}
-use Rattle.ring.specs.Tests.{Within}
-use Rattle.ring.specs.Tests.{same}
+use Rattle.ring.specs.Tests.{Within, same, BaseLimits, RowsWithin}
 use Rattle.ring.specs.Base.{baseTrace, baseNorm}
-use Rattle.ring.specs.Tests.{BaseLimits}
 use Rattle.ring.specs.Matrix.{dot, times}
-use Rattle.ring.specs.Tests.{RowsWithin}
 
 pub within-part : (n : ℕ) (x : List ℤ) → Within n x → (k : ℕ) → natAbs (part x k) ≤ n
 unfolding Within

@@ -14,9 +14,8 @@ use lib.IntN.{ℤ, pos}
 use Rattle.ring.specs.Element.{zeros}
 use Rattle.ring.proofs.Parts.{within-part}
 use Rattle.numeration.specs.Value.{value, topDown}
-use Rattle.numeration.specs.Laws.{Elements}
+use Rattle.numeration.specs.Laws.{Elements, HasParts}
 use Rattle.numeration.specs.Elements.{elements}
-use Rattle.numeration.specs.Laws.{HasParts}
 use Rattle.numeration.proofs.Elements.{elements-group}
 use Rattle.numeration.proofs.Sums.{value-topDown}
 use Rattle.faults.specs.Outcome.{Outcome, facts, refused, rows}
@@ -28,9 +27,8 @@ use Rattle.faults.proofs.Rule.{Decided, passes, refuses, exact}
 use Rattle.layout_rules.specs.Section.{degree, elementSize}
 use Rattle.digit_rules.specs.Record.{recordAt}
 use Rattle.digit_rules.proofs.Record.{element-parts}
-use Rattle.row_value_rules.specs.Total.{totalLimit, limited, placeDigit, nextTotal, worthFrom, worthOf}
+use Rattle.row_value_rules.specs.Total.{totalLimit, limited, placeDigit, nextTotal, worthFrom, worthOf, refusalOf, worthCheck}
 use Rattle.row_value_rules.specs.Broken.{digitsOf, totalAt, OutsideAt, Broken28, valueRules}
-use Rattle.row_value_rules.specs.Total.{refusalOf, worthCheck}
 use Rattle.row_value_rules.proofs.Limit.{limited-within, limited-fails}
 use Rattle.row_value_rules.proofs.Total.{worth-end, worth-next, worth-stops}
 

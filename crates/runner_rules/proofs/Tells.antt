@@ -1,10 +1,10 @@
 -- The three numbers of an answer: what they tell, and that no other answer has them.
-use mathlib.Core.Path.{_≡_, refl, ap}
+use mathlib.Core.Path.{_≡_, ap}
 use mathlib.Core.List.{List}
-use Prim.Native.Nat.{ℕ, _<_}
+use Prim.Native.Nat.{ℕ}
 use native.Mathlib.Omega.{arith}
 use lib.ListN.{getD, List·getD-map}
-use Rattle.faults.specs.Outcome.{Group, Outcome, facts, refused, author, rows, editor}
+use Rattle.faults.specs.Outcome.{Outcome, facts, refused, author, rows, editor}
 use Rattle.edit_rules.specs.declared.EditedFacts.{EditedFacts}
 use Rattle.runner_rules.specs.declared.Told.{Told}
 use Rattle.faults.proofs.Outcome.{group-number, some-group}

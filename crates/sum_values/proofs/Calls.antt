@@ -12,9 +12,8 @@ use Rattle.faults.specs.Outcome.{facts, refused, author, rows}
 use Rattle.faults.specs.Check.{refusal}
 use Rattle.faults.proofs.Unless.{unless-none, unless-found}
 use Rattle.digit_rules.specs.Record.{elementCount}
-use Rattle.reader_rules.specs.Table.{alphabetPart}
+use Rattle.reader_rules.specs.Table.{alphabetPart, operationsOf}
 use Rattle.reader_rules.specs.Check.{tableCheck}
-use Rattle.reader_rules.specs.Table.{operationsOf}
 use Rattle.row_rules.specs.declared.Change.{Change}
 use Rattle.row_rules.specs.Check.{oneRowCheck}
 use Rattle.row_rules.proofs.Broken.{one-row-exact}

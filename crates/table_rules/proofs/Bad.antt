@@ -1,14 +1,14 @@
 -- The failing pair that rule 14 names.
-use mathlib.Core.Path.{_≡_, refl, sym, ap, subst, _∙_}
+use mathlib.Core.Path.{_≡_, sym, ap, _∙_}
 use mathlib.Core.Bool.{Bool, true, false}
 use mathlib.Core.List.{List}
 use Prim.Native.Nat.{ℕ, _+_, _<_, _≤_}
 use native.Mathlib.Omega.{arith}
 use native.Mathlib.Decide.{decLt}
 use native.Mathlib.Nat.{le-antisymm}
-use lib.Dec.{ltb, eqb}
-use borrow.Author.Tests.{lt-ltb, le-ltb, eq-eqb, ne-eqb}
-use Rattle.lists.specs.Scan.{firstFailing, every}
+use lib.Dec.{ltb}
+use borrow.Author.Tests.{lt-ltb, le-ltb}
+use Rattle.lists.specs.Scan.{every}
 use Rattle.lists.proofs.Scan.{scan-all, scan-unique, scan-high, every-below, every-reached}
 use Rattle.digit_rules.specs.Record.{recordAt}
 use Rattle.numeration.specs.PairTests.{upperPasses}

@@ -3,16 +3,15 @@
 use mathlib.Core.Path.{_≡_, refl, sym, ap, subst, _∙_}
 use mathlib.Core.Bool.{Bool, true, false}
 use mathlib.Core.Logic.{_↔_}
-use mathlib.Core.List.{List, [], _∷_, _++_}
-use Prim.Native.Nat.{ℕ, _+_, _<_, _≤_}
+use mathlib.Core.List.{List, [], _∷_}
+use Prim.Native.Nat.{ℕ}
 use native.Mathlib.Omega.{arith}
 use lib.IntN.{ℤ}
 use borrow.Author.Tests.{ltb-true, lt-ltb}
 use Rattle.lists.proofs.Scan.{every-sound, every-fails}
 use Rattle.lists.proofs.Test.{clash}
 use Rattle.faults.specs.Check.{judge, _then_}
-use Rattle.faults.specs.Rule.{Rule, rule}
-use Rattle.faults.specs.Exact.{Exact}
+use Rattle.faults.specs.Rule.{rule}
 use Rattle.faults.specs.Outcome.{facts, author}
 use Rattle.faults.specs.Unless.{unless}
 use Rattle.faults.specs.declared.Refusal.{Refusal}
@@ -25,20 +24,19 @@ use Rattle.digit_rules.specs.Record.{recordAt, elementCount}
 use Rattle.digit_rules.specs.Digits.{indexIn}
 use Rattle.digit_rules.specs.Broken.{Listed}
 use Rattle.digit_rules.proofs.Index.{index-is, index-first}
-use Rattle.numeration.specs.Pairs.{Fits, pairDigit, RowsConvert}
+use Rattle.numeration.specs.Pairs.{Fits, pairDigit}
 use Rattle.numeration.specs.Laws.{PairsConvert}
 use Rattle.numeration.specs.PairTests.{fits, pairPasses, upperPasses}
 use Rattle.numeration.proofs.Agreement.{agree-sound, agree-complete}
 use Rattle.numeration.proofs.Pairs.{pairs-rows}
 use Rattle.leaf_rules.specs.Leaf.{leafCount, codeOf}
-use Rattle.reader_rules.specs.Table.{basePart, alphabetPart, inputPart, leafPart, wordPart}
+use Rattle.reader_rules.specs.Table.{basePart, alphabetPart, inputPart, leafPart, wordPart, system}
 use Rattle.reader_rules.specs.Check.{tableCheck}
 use Rattle.reader_rules.specs.Formed.{WellFormed}
 use Rattle.reader_rules.proofs.Broken.{table-decided}
 use Rattle.reader_rules.proofs.Formed.{well-formed}
 use Rattle.reader_rules.proofs.Ready.{ready-passed}
 use Rattle.table_rules.specs.Pairs.{inAlphabet, pairCheck}
-use Rattle.reader_rules.specs.Table.{system}
 use Rattle.table_rules.specs.Check.{pairCheckOf, checkFacts, checkOutcome}
 use Rattle.table_rules.specs.Broken.{Broken14, checkRules, checkStages, RowsConverted}
 

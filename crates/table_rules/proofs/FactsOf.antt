@@ -1,13 +1,11 @@
 -- An accepted table's facts are what document 01 calls them.
 use mathlib.Core.Path.{_≡_, sym, ap, subst, _∙_}
 use mathlib.Core.List.{List}
-use Prim.Native.Nat.{ℕ, _*_, _<_, _≤_}
+use Prim.Native.Nat.{ℕ}
 use native.Mathlib.Omega.{arith}
 use Rattle.faults.specs.Outcome.{facts}
-use Rattle.layout_rules.specs.Section.{recordSize, sectionLength}
 use Rattle.layout_rules.proofs.Passed.{whole-records}
-use Rattle.leaf_rules.specs.Leaf.{wordLength}
-use Rattle.reader_rules.specs.Table.{leafPart, tableFacts, partFacts}
+use Rattle.reader_rules.specs.Table.{tableFacts, partFacts}
 use Rattle.reader_rules.specs.Check.{tableCheck}
 use Rattle.reader_rules.proofs.Kept.{layout-kept, table-kept}
 use Rattle.reader_rules.proofs.Formed.{well-formed}

@@ -1,6 +1,6 @@
 -- Rule 14 by runs: on leaves and words that pass rules 9 to 13 the lower leaves that fit an upper one are met from the leaf of
 -- its tail on, until the first that doesn't fit.
-use mathlib.Core.Path.{_≡_, refl, sym, ap, subst, _∙_}
+use mathlib.Core.Path.{_≡_, sym, ap, subst, _∙_}
 use mathlib.Core.Bool.{Bool, true, false}
 use mathlib.Core.List.{List}
 use Prim.Native.Nat.{ℕ, suc, _+_, _<_, _≤_, min, pred}
@@ -29,8 +29,8 @@ use Rattle.numeration.specs.Pairs.{tail, Fits, pairDigit}
 use Rattle.numeration.specs.PairTests.{fits, pairPasses}
 use Rattle.numeration.specs.Runs.{tailThenZeros, lowestFit}
 use Rattle.numeration.proofs.Agreement.{agree-sound, agree-complete}
-use Rattle.numeration.proofs.Runs.{run-first, run-below, run-on, unfit-passes, in-tail, behind-tail, string-inputs}
-use Rattle.leaf_rules.specs.Leaf.{leafCount, wordLength, weightOf, codeOf}
+use Rattle.numeration.proofs.Runs.{run-below, run-on, unfit-passes, in-tail, behind-tail, string-inputs}
+use Rattle.leaf_rules.specs.Leaf.{leafCount, wordLength, codeOf}
 use Rattle.leaf_rules.specs.Given.{wordGiven, weightGiven}
 use Rattle.prefix_rules.specs.Formed.{LeavesFormed}
 use Rattle.leaf_rules.specs.Window.{digits, LookedUp}

@@ -8,9 +8,8 @@ use Rattle.digit_rules.specs.Record.{recordAt, elementCount}
 use Rattle.digit_rules.specs.Broken.{Listed}
 use Rattle.numeration.specs.Pairs.{Fits, pairDigit, RowsConvert}
 use Rattle.leaf_rules.specs.Leaf.{leafCount, codeOf}
-use Rattle.reader_rules.specs.Table.{basePart, alphabetPart, inputPart, leafPart, wordPart}
+use Rattle.reader_rules.specs.Table.{basePart, alphabetPart, inputPart, leafPart, wordPart, system}
 use Rattle.reader_rules.specs.Broken.{tableRules}
-use Rattle.reader_rules.specs.Table.{system}
 
 -- 14: two fitting leaves give no alphabet digit (lowest U)
 abbrev pub Broken14 : List ℕ → List ℕ → List ℕ → List ℕ → List ℕ → ℕ → Type 0

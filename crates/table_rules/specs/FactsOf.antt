@@ -3,7 +3,7 @@ use mathlib.Core.Path.{_≡_}
 use mathlib.Core.List.{List}
 use Prim.Native.Nat.{ℕ, _*_, _<_, _≤_}
 use Rattle.layout_rules.specs.Section.{elementSize, leafSize, sectionLength}
-use Rattle.leaf_rules.specs.Leaf.{leafCount, wordLength}
+use Rattle.leaf_rules.specs.Leaf.{wordLength}
 use Rattle.reader_rules.specs.Table.{leafPart}
 use Rattle.table_rules.specs.declared.Facts.{Facts}
 

@@ -1,9 +1,8 @@
 // Text written into a lent buffer.
 ghost use mathlib.Core.Path.{_≡_};
 ghost use mathlib.Core.List.{_++_};
-ghost use Prim.Native.Nat.{_+_, _^_, _≤_, _<_};
+ghost use Prim.Native.Nat.{_+_, _≤_, _<_};
 ghost use lib.ListN.{length};
-ghost use lib.IntN.{natAbs};
 ghost use Rattle.lists.specs.Overwrite.{overwrite};
 ghost use Rattle.text_rules.specs.Decimal.{decimal, decimalZ};
 ghost use Rattle.text_rules.specs.Hex.{hexByte, hexDigits, hex};

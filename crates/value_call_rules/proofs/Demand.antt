@@ -17,8 +17,7 @@ use Rattle.layout_rules.specs.Section.{degree}
 use Rattle.digit_rules.specs.Base.{baseMatrix}
 use Rattle.digit_rules.specs.Record.{elementCount}
 use Rattle.digit_rules.proofs.Base.{matrix-of-two}
-use Rattle.reader_rules.specs.Table.{basePart, alphabetPart}
-use Rattle.reader_rules.specs.Table.{valueOf}
+use Rattle.reader_rules.specs.Table.{basePart, alphabetPart, valueOf}
 use Rattle.reader_rules.proofs.Broken.{table-decided}
 use Rattle.row_rules.specs.Check.{oneRowCheck}
 use Rattle.row_rules.proofs.Broken.{one-row-decided}

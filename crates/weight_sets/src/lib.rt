@@ -2,10 +2,9 @@
 ghost use mathlib.Core.Path.{_≡_};
 ghost use mathlib.Core.Bool.{true};
 ghost use mathlib.Core.List.{List};
-ghost use Prim.Native.Nat.{ℕ, _+_, _-_, _<_, _≤_, _^_};
+ghost use Prim.Native.Nat.{ℕ, _+_, _<_, _≤_, _^_};
 ghost use lib.ListN.{length, getD};
-ghost use Rattle.ring.specs.Tests.{Within};
-ghost use Rattle.ring.specs.Tests.{RowsWithin};
+ghost use Rattle.ring.specs.Tests.{Within, RowsWithin};
 ghost use Rattle.digit_rules.specs.Record.{elementCount};
 ghost use Rattle.leaf_rules.specs.Leaf.{leafCount};
 ghost use Rattle.leaf_rules.specs.Given.{wordGiven, weightGiven};

@@ -2,7 +2,7 @@
 use Rattle.row_rules.specs.Rows.{RowsFit}
 use Rattle.adder_rules.proofs.Rows.{few-places}
 use mathlib.Core.Path.{_≡_, sym, ap, _∙_}
-use Prim.Native.Nat.{ℕ, _+_}
+use Prim.Native.Nat.{_+_}
 use native.Mathlib.Omega.{arith}
 use lib.ListN.{length}
 use Rattle.faults.specs.Outcome.{rows, whose, numberOf, placeOf}

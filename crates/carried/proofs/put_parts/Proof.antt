@@ -1,5 +1,5 @@
 -- The three parts, one behind the other.
-use Rattle.lists.proofs.Overwrite.{Written, written-none, written-more}
+use Rattle.lists.proofs.Overwrite.{written-none, written-more}
 use lib.ListN.{length-append}
 use native.Mathlib.Omega.{arith}
 use mathlib.Core.List.{[], _++_}

@@ -1,5 +1,5 @@
 -- Every part on the way is far inside 64 bits.
-use mathlib.Core.Path.{_≡_, sym, ap₂, subst, _∙_}
+use mathlib.Core.Path.{sym, ap₂, subst, _∙_}
 use Prim.Native.Nat.{_^_, _+_}
 use lib.Dec.{lit≤}
 use Rattle.ring.specs.Element.{minus}

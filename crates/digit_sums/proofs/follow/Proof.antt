@@ -4,7 +4,7 @@ use Rattle.digit_sums.specs.Marks.{followed}
 use denote.Ref.{now}
 use borrow.Author.Needs.{needs}
 use native.Mathlib.Omega.{arith}
-use Prim.Native.Nat.{_≤_, _-_}
+use Prim.Native.Nat.{_≤_}
 use mathlib.Core.Path.{_≡_, sym, ap, _∙_}
 use Rattle.digit_sums.proofs.follow.Statement.{statement}
 use Rattle.digit_sums.proofs.follow.Tie as tie

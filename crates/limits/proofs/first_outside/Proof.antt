@@ -6,7 +6,6 @@ use Rattle.layout_rules.specs.Limit.{numberAllowed}
 use Rattle.lists.proofs.Scan.{scan-on, scan-here, scan-out}
 use Rattle.lists.specs.Scan.{firstFailing}
 use native.Mathlib.Omega.{arith}
-use mathlib.Core.Path.{_≡_, sym, _∙_}
 use Prim.Native.Nat.{_≤_, _-_}
 use lib.ListN.{length}
 use denote.Ref.{now}

@@ -6,7 +6,7 @@ use Rattle.ring.specs.Element.{plus}
 use Rattle.ring.specs.Tests.{Within}
 use lib.Dec.{ltb, lit≤}
 use Prim.Native.Nat.{_+_, _^_}
-use mathlib.Core.Path.{_≡_, sym, ap, subst, _∙_}
+use mathlib.Core.Path.{sym, ap, subst, _∙_}
 use borrow.Author.Needs.{needs}
 use Rattle.pair_digits.proofs.gives_digit.Statement.{statement}
 use Rattle.pair_digits.proofs.gives_digit.Tie as tie

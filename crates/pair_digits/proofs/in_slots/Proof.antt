@@ -4,8 +4,8 @@ use Rattle.ring.specs.Tests.{same}
 use lib.ListN.{getD}
 use denote.Ref.{now}
 use native.Mathlib.Omega.{arith}
-use Prim.Native.Nat.{ℕ, _<_, _≤_}
-use mathlib.Core.Path.{_≡_, ap, _∙_}
+use Prim.Native.Nat.{ℕ}
+use mathlib.Core.Path.{ap, _∙_}
 use borrow.Author.Needs.{needs}
 use Rattle.pair_digits.proofs.in_slots.Statement.{statement}
 use Rattle.pair_digits.proofs.in_slots.Tie as tie

@@ -5,11 +5,10 @@ use Rattle.pair_digits.specs.Slots.{SlottedBefore}
 use Rattle.ring.proofs.Element.{within-le}
 use Rattle.lists.proofs.Test.{clash}
 use borrow.Author.Needs.{needs}
-use lib.ListN.{length, getD}
 use lib.Dec.{lit≤}
 use native.Mathlib.Omega.{arith}
-use Prim.Native.Nat.{ℕ, _≤_, _-_, _^_}
-use mathlib.Core.Path.{_≡_, refl, ap, _∙_}
+use Prim.Native.Nat.{_≤_, _-_, _^_}
+use mathlib.Core.Path.{refl, ap, _∙_}
 use Rattle.pair_digits.proofs.slot_digits.Statement.{statement}
 use Rattle.pair_digits.proofs.slot_digits.Tie as tie
 

@@ -7,7 +7,7 @@ use Rattle.ring.specs.Tests.{Within}
 use lib.ListN.{getD}
 use lib.Dec.{lit≤}
 use Prim.Native.Nat.{ℕ, _+_, _^_, _<_}
-use mathlib.Core.Path.{_≡_, sym, ap, subst, _∙_}
+use mathlib.Core.Path.{sym, ap, subst, _∙_}
 use borrow.Author.Needs.{needs}
 use Rattle.pair_digits.proofs.upper_part.Statement.{statement}
 use Rattle.pair_digits.proofs.upper_part.Tie as tie

@@ -1,8 +1,6 @@
 -- Yes is said only where the look at few or at many leaves says it.
 use Rattle.lists.proofs.Test.{clash}
 use mathlib.Core.Path.{refl}
-use Prim.Native.Nat.{_-_}
-use borrow.Author.Needs.{needs}
 use borrow.Author.Needs.{needs}
 use Rattle.pair_sets.proofs.all_pass.Statement.{statement}
 use Rattle.pair_sets.proofs.all_pass.Tie as tie

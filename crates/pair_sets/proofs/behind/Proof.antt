@@ -5,7 +5,6 @@ use Prim.Native.Nat.{ℕ, _+_, _-_, _*_, _/_, _^_, pred}
 use native.Mathlib.Omega.{arith}
 use lib.ListN.{length}
 use borrow.Author.Needs.{needs}
-use borrow.Author.Needs.{needs}
 use Rattle.pair_sets.proofs.behind.Statement.{statement}
 use Rattle.pair_sets.proofs.behind.Tie as tie
 

@@ -6,7 +6,6 @@ use Prim.Native.Nat.{ℕ, _-_, _*_, _%_, _^_, pred}
 use native.Mathlib.Omega.{arith}
 use lib.ListN.{length, getD, set}
 use borrow.Author.Needs.{needs}
-use borrow.Author.Needs.{needs}
 use Rattle.pair_sets.proofs.fitting.Statement.{statement}
 use Rattle.pair_sets.proofs.fitting.Tie as tie
 

@@ -1,13 +1,12 @@
 -- The leaves passed have their words' numbers.
 use Rattle.radix.specs.Number.{aligned}
-use Rattle.pair_sets.specs.Runs.{wordNumber}
+use Rattle.pair_sets.specs.Runs.{wordNumber, Keyed}
 use Rattle.weight_sets.proofs.Weights.{entry-next}
 use mathlib.Core.Path.{_≡_, refl, _∙_}
 use Prim.Native.Nat.{_+_, _-_}
 use native.Mathlib.Omega.{arith}
 use lib.ListN.{length, getD, set, length-set}
 use borrow.Author.Needs.{needs}
-use Rattle.pair_sets.specs.Runs.{Keyed}
 use Rattle.pair_sets.proofs.keys_of.Statement.{statement}
 use Rattle.pair_sets.proofs.keys_of.Tie as tie
 

@@ -1,7 +1,6 @@
 -- The weights are numbered, the words are numbers and the eights cover their leaves, which is what the look at all pairs asks for.
 use Rattle.pair_sets.specs.Runs.{AllPass}
 use Rattle.pair_sets.proofs.Keys.{ready-words}
-use Rattle.pair_sets.specs.Runs.{AllPass}
 use Rattle.prefix_rules.proofs.Formed.{formed}
 use Rattle.leaf_rules.specs.Leaf.{leafCount}
 use Rattle.digit_rules.proofs.Base.{base-within}
@@ -9,10 +8,9 @@ use Rattle.digit_rules.specs.Record.{elementCount}
 use Rattle.ring.specs.Tests.{RowsWithin}
 use Rattle.lists.proofs.Test.{clash}
 use mathlib.Core.Path.{refl, sym, subst}
-use Prim.Native.Nat.{_-_, _^_}
+use Prim.Native.Nat.{_^_}
 use native.Mathlib.Omega.{arith}
-use lib.ListN.{length, set}
-use borrow.Author.Needs.{needs}
+use lib.ListN.{length}
 use borrow.Author.Needs.{needs}
 use Rattle.pair_sets.proofs.look.Statement.{statement}
 use Rattle.pair_sets.proofs.look.Tie as tie

@@ -1,6 +1,6 @@
 -- All lower leaves before the run and in it so far pass, with every base that gives the upper leaf's part.
-use mathlib.Core.Path.{_≡_, refl, sym, ap, subst, _∙_}
-use mathlib.Core.Bool.{Bool, true, false}
+use mathlib.Core.Path.{_≡_, sym, ap, subst, _∙_}
+use mathlib.Core.Bool.{true, false}
 use mathlib.Core.List.{List}
 use Prim.Native.Nat.{ℕ, _+_, _-_, _<_, _≤_, min, pred}
 use native.Mathlib.Omega.{arith}
@@ -18,7 +18,7 @@ use Rattle.numeration.specs.Elements.{elements}
 use Rattle.numeration.specs.PairTests.{fits, pairPasses}
 use Rattle.numeration.specs.Runs.{lowestFit}
 use Rattle.leaf_rules.specs.Leaf.{leafCount, codeOf}
-use Rattle.leaf_rules.specs.Given.{wordGiven, weightGiven}
+use Rattle.leaf_rules.specs.Given.{weightGiven}
 use Rattle.leaf_rules.specs.Window.{LookedUp}
 use Rattle.prefix_rules.specs.Formed.{LeavesFormed}
 use Rattle.prefix_rules.proofs.Formed.{formed}

@@ -1,5 +1,5 @@
 -- The word's digits passed are the window's; the first of them is given.
-use mathlib.Core.Path.{refl}
+use mathlib.Core.Path.{refl, _≡_, sym, ap, _∙_}
 use Rattle.numeration.specs.Conversion.{window}
 use Rattle.lists.proofs.Test.{clash}
 use borrow.Author.Count.{below-more}
@@ -7,7 +7,6 @@ use lib.ListN.{getD}
 use native.Mathlib.Omega.{arith}
 use native.Mathlib.Nat.{add-zero}
 use Prim.Native.Nat.{ℕ, _+_, _-_, _<_, _≤_}
-use mathlib.Core.Path.{_≡_, sym, ap, _∙_}
 use Rattle.places.proofs.begins_below.Statement.{statement}
 use Rattle.places.proofs.begins_below.Tie as tie
 

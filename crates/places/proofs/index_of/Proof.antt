@@ -2,7 +2,7 @@
 use native.Mathlib.Omega.{arith}
 use Prim.Native.Nat.{ℕ, _^_}
 use lib.Dec.{lit≤}
-use mathlib.Core.Path.{_≡_, sym, ap, _∙_}
+use mathlib.Core.Path.{sym, ap, _∙_}
 use Rattle.digit_rules.specs.Record.{recordAt}
 use Rattle.digit_rules.specs.Digits.{indexIn}
 use Rattle.ring.proofs.Element.{same→≡, within-le}

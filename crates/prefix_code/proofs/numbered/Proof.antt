@@ -4,8 +4,7 @@ use lib.ListN.{getD}
 use native.Mathlib.Omega.{arith}
 use borrow.Author.Tests.{not-false, eqb-true}
 use Rattle.lists.proofs.Test.{clash}
-use Rattle.prefix_code.proofs.Quick.{strings-room, strings-all}
-use Rattle.prefix_code.proofs.Quick.{SoFar, so-far-first, so-far-next, floor-room, share-small, all-kept}
+use Rattle.prefix_code.proofs.Quick.{strings-room, strings-all, SoFar, so-far-first, so-far-next, floor-room, share-small, all-kept}
 use Prim.Native.Nat.{_-_}
 use Rattle.prefix_code.proofs.numbered.Statement.{statement}
 use Rattle.prefix_code.proofs.numbered.Tie as tie

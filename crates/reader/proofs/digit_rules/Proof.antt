@@ -1,13 +1,10 @@
 -- The stage on the parts that the sections are.
 use Rattle.reader_rules.proofs.Kept.{layout-kept}
-use Rattle.reader_rules.specs.Table.{basePart, alphabetPart, inputPart}
 use Rattle.reader_rules.specs.Check.{digitCheckOf}
 use Rattle.digit_rules.proofs.Passed.{base-ready}
-use Rattle.digit_rules.specs.Digits.{digitCheck}
-use Rattle.digit_rules.specs.Digits.{BasePart}
+use Rattle.digit_rules.specs.Digits.{digitCheck, BasePart}
 use lib.Dec.{lit<}
-use Prim.Native.Nat.{ℕ}
-use mathlib.Core.Path.{_≡_, sym, ap, subst, _∙_}
+use mathlib.Core.Path.{sym, subst, _∙_}
 use Rattle.reader.proofs.digit_rules.Statement.{statement}
 use Rattle.reader.proofs.digit_rules.Tie as tie
 

@@ -6,8 +6,7 @@ use Rattle.layout_rules.specs.Length.{lengthCheck}
 use Rattle.layout_rules.specs.Section.{sectionLengths}
 use Rattle.faults.proofs.Check.{found-first, found-next}
 use Rattle.layout_rules.specs.Directory.{directoryCheck}
-use Rattle.faults.specs.Check.{_then_}
-use mathlib.Core.Path.{_≡_, ap, _∙_}
+use mathlib.Core.Path.{ap, _∙_}
 use borrow.Author.Needs.{needs}
 use Rattle.reader.proofs.layout_rules.Statement.{statement}
 use Rattle.reader.proofs.layout_rules.Tie as tie

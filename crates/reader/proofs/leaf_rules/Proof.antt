@@ -4,7 +4,7 @@ use Rattle.reader_rules.proofs.Kept.{layout-kept}
 use Rattle.reader_rules.specs.Check.{leafCheckOf}
 use Rattle.prefix_rules.specs.Check.{leafCheck}
 use lib.Dec.{lit<}
-use mathlib.Core.Path.{_≡_, ap, _∙_}
+use mathlib.Core.Path.{ap, _∙_}
 use borrow.Author.Needs.{needs}
 use Rattle.reader.proofs.leaf_rules.Statement.{statement}
 use Rattle.reader.proofs.leaf_rules.Tie as tie

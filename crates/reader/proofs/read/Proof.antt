@@ -1,12 +1,11 @@
 -- Where nothing is found the facts, else the fault in the author's name.
 use Rattle.reader_rules.proofs.Kept.{stage-nothing, table-kept}
 use Rattle.reader_rules.specs.Table.{tableFacts}
-use Rattle.reader_rules.specs.Check.{layoutCheck, digitCheckOf, leafCheckOf, tableCheck, readOutcome}
-use Rattle.faults.proofs.Check.{then-kept}
+use Rattle.reader_rules.specs.Check.{tableCheck, readOutcome}
 use Rattle.faults.proofs.Unless.{unless-found, unless-none}
 use Rattle.faults.specs.Outcome.{author, facts, refused}
 use Rattle.faults.specs.declared.Refusal.{Refusal}
-use mathlib.Core.Path.{_≡_, refl, sym, ap, _∙_}
+use mathlib.Core.Path.{sym, ap, _∙_}
 use borrow.Author.Needs.{needs}
 use Rattle.reader.proofs.read.Statement.{statement}
 use Rattle.reader.proofs.read.Tie as tie

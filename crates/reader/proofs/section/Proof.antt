@@ -3,7 +3,7 @@ use Rattle.reader_rules.proofs.Kept.{directory-room, section-room}
 use lib.ListN.{take, drop}
 use native.Mathlib.Omega.{arith}
 use Prim.Native.Nat.{ℕ, _-_}
-use mathlib.Core.Path.{_≡_, ap₂, _∙_}
+use mathlib.Core.Path.{ap₂}
 use borrow.Author.Needs.{needs}
 use Rattle.reader.proofs.section.Statement.{statement}
 use Rattle.reader.proofs.section.Tie as tie

@@ -1,7 +1,7 @@
 -- Start, end and count as they are read.
 use Rattle.reader_rules.specs.Table.{partFacts}
 use Rattle.layout_rules.specs.Section.{recordCount}
-use mathlib.Core.Path.{_≡_, ap, _∙_}
+use mathlib.Core.Path.{ap, _∙_}
 use Rattle.reader_rules.proofs.Kept.{layout-kept, directory-room}
 use borrow.Author.Needs.{needs}
 use Rattle.reader.proofs.section_facts.Statement.{statement}

@@ -2,7 +2,7 @@
 use Rattle.reader_rules.specs.Table.{wordPart, tableFacts}
 use Rattle.leaf_rules.specs.Leaf.{codeOf}
 use Rattle.numeration.specs.LeafOf.{depth}
-use mathlib.Core.Path.{_≡_, ap, _∙_}
+use mathlib.Core.Path.{ap, _∙_}
 use Rattle.reader_rules.proofs.Kept.{layout-kept}
 use lib.Dec.{lit<}
 use borrow.Author.Needs.{needs}

@@ -3,7 +3,7 @@ use Rattle.digit_rules.specs.Record.{recordAt}
 use Rattle.ring.proofs.Element.{same→≡}
 use borrow.Author.Tests.{not-false}
 use native.Mathlib.Omega.{arith}
-use mathlib.Core.Path.{_≡_, sym, ap, _∙_}
+use mathlib.Core.Path.{sym, ap, _∙_}
 use borrow.Author.Needs.{needs}
 use Rattle.row_value.proofs.counted_places.Statement.{statement}
 use Rattle.row_value.proofs.counted_places.Tie as tie

@@ -1,5 +1,4 @@
 -- One check, and the next where it found nothing.
-use mathlib.Core.Path.{_∙_}
 use borrow.Author.Needs.{needs}
 use Rattle.faults.proofs.Check.{found-first, found-next}
 use Rattle.row_rules.specs.Check.{editCheck}

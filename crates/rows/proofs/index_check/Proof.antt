@@ -4,7 +4,6 @@ use Rattle.row_rules.specs.Check.{indexAllowed, indexCheck}
 use Rattle.faults.proofs.Check.{judge-broken, judge-kept}
 use Rattle.lists.proofs.Scan.{scan-all}
 use borrow.Author.Tests.{lt-ltb}
-use lib.ListN.{length, getD}
 use native.Mathlib.Omega.{arith}
 use native.Mathlib.Nat.{zero-add}
 use mathlib.Core.Path.{sym, _∙_}

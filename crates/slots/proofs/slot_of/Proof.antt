@@ -8,9 +8,8 @@ use mir.Syntax.{w64}
 use lib.Signed.{ltZ}
 use lib.IntN.{pos, natAbs}
 use native.Mathlib.Omega.{arith}
-use Prim.Native.Nat.{ℕ, _+_, _*_, _%_, _^_, _<_}
-use mathlib.Core.Bool.{true, false}
-use mathlib.Core.Path.{_≡_, refl, sym, ap, _∙_}
+use Prim.Native.Nat.{_%_, _^_}
+use mathlib.Core.Path.{refl, sym, ap, _∙_}
 use borrow.Author.Needs.{needs}
 use Rattle.slots.proofs.slot_of.Statement.{statement}
 use Rattle.slots.proofs.slot_of.Tie as tie

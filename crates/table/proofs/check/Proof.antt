@@ -3,14 +3,12 @@ use Rattle.table_rules.specs.Check.{pairCheckOf, checkFacts, checkOutcome}
 use Rattle.table_rules.specs.declared.Facts.{Facts}
 use Rattle.reader_rules.proofs.Answer.{read-facts, read-fault}
 use Rattle.reader_rules.proofs.Kept.{stage-nothing}
-use Rattle.reader_rules.specs.Table.{tableFacts}
 use Rattle.reader_rules.specs.Check.{readAs, tableCheck}
-use Rattle.reader_rules.specs.declared.Table.{Table}
 use Rattle.faults.proofs.Unless.{unless-found, unless-none}
 use Rattle.faults.specs.Unless.{unless}
-use Rattle.faults.specs.Outcome.{Outcome, facts, author, refused, whose, numberOf, placeOf}
+use Rattle.faults.specs.Outcome.{facts, author, refused, whose, numberOf, placeOf}
 use Rattle.faults.specs.declared.Refusal.{Refusal}
-use mathlib.Core.Path.{_≡_, sym, ap, _∙_}
+use mathlib.Core.Path.{sym, ap, _∙_}
 use borrow.Author.Needs.{needs}
 use Rattle.table.proofs.check.Statement.{statement}
 use Rattle.table.proofs.check.Tie as tie

@@ -5,9 +5,9 @@ use Rattle.reader_rules.proofs.Kept.{layout-kept, table-kept, sections}
 use Rattle.prefix_rules.specs.Check.{leafCheck}
 use Rattle.digit_rules.specs.Record.{elementCount}
 use Rattle.digit_rules.specs.Digits.{BasePart}
-use Prim.Native.Nat.{ℕ, _<_}
+use Prim.Native.Nat.{_<_}
 use lib.Dec.{lit<}
-use mathlib.Core.Path.{_≡_, sym, subst, _∙_}
+use mathlib.Core.Path.{sym, subst, _∙_}
 use Rattle.table.proofs.file_pairs.Statement.{statement}
 use Rattle.table.proofs.file_pairs.Tie as tie
 

@@ -4,13 +4,13 @@ use Rattle.text_rules.specs.Fault.{refusedWord, placeWord}
 use Rattle.text_rules.specs.Bytes.{bytesOf}
 use Rattle.text_rules.specs.Decimal.{decimal}
 use Rattle.text_rules.proofs.Fault.{item-room}
-use Rattle.lists.proofs.Overwrite.{Written, written-none, written-more}
+use Rattle.lists.proofs.Overwrite.{written-none, written-more}
 use Rattle.lists.specs.Overwrite.{overwrite}
 use lib.ListN.{length, length-append}
 use native.Mathlib.Omega.{arith}
-use Prim.Native.Nat.{ℕ, _+_}
+use Prim.Native.Nat.{ℕ}
 use mathlib.Core.List.{List, [], append-assoc, _++_}
-use mathlib.Core.Path.{_≡_, refl, sym, ap, _∙_}
+use mathlib.Core.Path.{_≡_, ap, _∙_}
 use borrow.Author.Needs.{needs}
 use Rattle.table.proofs.refused_line.Statement.{statement}
 use Rattle.table.proofs.refused_line.Tie as tie

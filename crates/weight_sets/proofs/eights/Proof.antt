@@ -1,7 +1,5 @@
 -- Sets of one leaf, doubled three times, are sets of eight.
-use Prim.Native.Nat.{_-_}
 use lib.ListN.{length}
-use borrow.Author.Needs.{needs}
 use borrow.Author.Needs.{needs}
 use Rattle.weight_sets.proofs.eights.Statement.{statement}
 use Rattle.weight_sets.proofs.eights.Tie as tie

@@ -6,9 +6,8 @@ use Rattle.digit_rules.specs.Record.{recordAt}
 use Rattle.ring.specs.Matrix.{times}
 use Rattle.ring.specs.Element.{minus}
 use mathlib.Core.Path.{sym, ap, subst, _∙_}
-use Prim.Native.Nat.{ℕ, _+_, _-_}
+use Prim.Native.Nat.{ℕ, _+_}
 use lib.ListN.{getD, set}
-use borrow.Author.Needs.{needs}
 use borrow.Author.Needs.{needs}
 use Rattle.weight_sets.proofs.judged.Statement.{statement}
 use Rattle.weight_sets.proofs.judged.Tie as tie

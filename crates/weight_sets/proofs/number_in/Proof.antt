@@ -1,9 +1,7 @@
 -- A number below the count is told only where its leaf was found to have the same weight.
 use Rattle.ring.proofs.Element.{same→≡}
-use mathlib.Core.Path.{_≡_, sym, _∙_}
-use Prim.Native.Nat.{_-_}
+use mathlib.Core.Path.{sym, _∙_}
 use native.Mathlib.Omega.{arith}
-use borrow.Author.Needs.{needs}
 use borrow.Author.Needs.{needs}
 use Rattle.weight_sets.proofs.number_in.Statement.{statement}
 use Rattle.weight_sets.proofs.number_in.Tie as tie

@@ -2,8 +2,7 @@
 use Rattle.weight_sets.specs.Bits.{Has}
 use Rattle.weight_sets.proofs.Bits.{single-has, has-none}
 use mathlib.Core.Path.{subst}
-use Prim.Native.Nat.{ℕ, _-_}
-use borrow.Author.Needs.{needs}
+use Prim.Native.Nat.{ℕ}
 use borrow.Author.Needs.{needs}
 use Rattle.weight_sets.proofs.single_if.Statement.{statement}
 use Rattle.weight_sets.proofs.single_if.Tie as tie

@@ -1,11 +1,10 @@
 -- The bytes passed are a number below the power of 256.
-use Prim.Native.Nat.{_*_, _+_}
+use Prim.Native.Nat.{_*_, _+_, ℕ, _≤_, _<_, _-_, _^_}
 use native.Mathlib.Nat.{pow-zero}
 use Rattle.radix.proofs.Order.{number-zero}
 use Rattle.word_numbers.proofs.Shift.{from, more-bytes, few-small, more-small}
 use Rattle.radix.specs.Number.{number}
 use native.Mathlib.Omega.{arith}
-use Prim.Native.Nat.{ℕ, _≤_, _<_, _-_, _^_}
 use mathlib.Core.Path.{_≡_, sym, ap, _∙_}
 use Rattle.word_numbers.proofs.few.Statement.{statement}
 use Rattle.word_numbers.proofs.few.Tie as tie

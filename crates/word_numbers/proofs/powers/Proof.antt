@@ -1,7 +1,6 @@
 -- The entries passed are powers of the base.
 use Rattle.word_numbers.proofs.Filled.{Filled, filled-first, filled-next, filled-small}
 use native.Mathlib.Omega.{arith}
-use Prim.Native.Nat.{_-_}
 use Rattle.word_numbers.proofs.powers.Statement.{statement}
 use Rattle.word_numbers.proofs.powers.Tie as tie
 
