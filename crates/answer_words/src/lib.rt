@@ -37,7 +37,8 @@ pub fn put(answer: &mut [i64], words: &[i64])
 // Writes whose fault it is, its number and its place; what the call returns.
 fn put_fault(answer: &mut [i64], whose: i64, number: usize, place: usize) -> u64
     requires { ⌜ 8 ≤ length (now answer) ⌝ }
-    ensures { λ r. ⌜ (r ≡ 1) × (now (answer .exit) ≡ overwrite (now (answer .entry)) 0 (whose ∷ wordOf number ∷ wordOf place ∷ [])) ⌝ }
+    ensures status { λ r. ⌜ r ≡ 1 ⌝ }
+    ensures answer { λ r. ⌜ now (answer .exit) ≡ overwrite (now (answer .entry)) 0 (whose ∷ wordOf number ∷ wordOf place ∷ []) ⌝ }
 {
     put(answer, &[whose, word(number), word(place)]);
     1
@@ -45,7 +46,8 @@ fn put_fault(answer: &mut [i64], whose: i64, number: usize, place: usize) -> u64
 
 pub fn refuse(answer: &mut [i64], fault: Fault) -> u64
     requires { ⌜ 8 ≤ length (now answer) ⌝ }
-    ensures { λ r. ⌜ (r ≡ 1) × (now (answer .exit) ≡ overwrite (now (answer .entry)) 0 (faultWords fault)) ⌝ }
+    ensures status { λ r. ⌜ r ≡ 1 ⌝ }
+    ensures answer { λ r. ⌜ now (answer .exit) ≡ overwrite (now (answer .entry)) 0 (faultWords fault) ⌝ }
 {
     match fault {
         Fault::Author { number, place } => put_fault(answer, 1, number, place),
@@ -57,7 +59,8 @@ pub fn refuse(answer: &mut [i64], fault: Fault) -> u64
 // Writes the parts of an element as facts; what the call returns.
 pub fn put_element(answer: &mut [i64], x: Element) -> u64
     requires { ⌜ 8 ≤ length (now answer) ⌝ }
-    ensures { λ r. ⌜ (r ≡ 0) × (now (answer .exit) ≡ overwrite (now (answer .entry)) 0 (pos 0 ∷ parts x)) ⌝ }
+    ensures status { λ r. ⌜ r ≡ 0 ⌝ }
+    ensures answer { λ r. ⌜ now (answer .exit) ≡ overwrite (now (answer .entry)) 0 (pos 0 ∷ parts x) ⌝ }
 {
     put(answer, &[0, x.a as i64, x.b as i64]);
     0

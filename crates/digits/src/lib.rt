@@ -17,7 +17,8 @@ const INPUTS: usize = 2;
 // The element whose first byte stands at a place.
 pub fn element(bytes: &[u8], at: usize) -> [i64; 2]
     requires { ⌜ at + 4 ≤ length (now bytes) ⌝ }
-    ensures { λ r. ⌜ (r ≡ elementAt (now (bytes .entry)) at) × Within 32768 r ⌝ }
+    ensures element { λ r. ⌜ r ≡ elementAt (now (bytes .entry)) at ⌝ }
+    ensures within { λ r. ⌜ Within 32768 r ⌝ }
 {
     [layout::signed(bytes, at), layout::signed(bytes, at + 2)]
 }
@@ -25,7 +26,8 @@ pub fn element(bytes: &[u8], at: usize) -> [i64; 2]
 // Record k of a section of elements.
 pub fn record_at(part: &[u8], k: usize) -> [i64; 2]
     requires { ⌜ k < elementCount (now part) ⌝ }
-    ensures { λ r. ⌜ (r ≡ recordAt (now (part .entry)) k) × Within 32768 r ⌝ }
+    ensures element { λ r. ⌜ r ≡ recordAt (now (part .entry)) k ⌝ }
+    ensures within { λ r. ⌜ Within 32768 r ⌝ }
 {
     element(part, k * ELEMENT)
 }

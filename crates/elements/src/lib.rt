@@ -10,7 +10,8 @@ ghost use Rattle.ring.specs.Matrix.{dot, times, matrixOf};
 // One part of matrix times element.
 fn dot_product(row: [i64; 2], x: [i64; 2]) -> i64
     requires { ⌜ Within (2 ^ 24) row × Within (2 ^ 32) x ⌝ }
-    ensures { λ r. ⌜ (r ≡ dot row x) × (natAbs r ≤ 2 ^ 57) ⌝ }
+    ensures product { λ r. ⌜ r ≡ dot row x ⌝ }
+    ensures within { λ r. ⌜ natAbs r ≤ 2 ^ 57 ⌝ }
 {
     row[0] * x[0] + row[1] * x[1]
 }
@@ -18,7 +19,8 @@ fn dot_product(row: [i64; 2], x: [i64; 2]) -> i64
 // Multiplication by the base: its matrix times an element.
 pub fn times_base(base: [[i64; 2]; 2], x: [i64; 2]) -> [i64; 2]
     requires { ⌜ RowsWithin (2 ^ 24) base × Within (2 ^ 32) x ⌝ }
-    ensures { λ r. ⌜ (r ≡ times base x) × Within (2 ^ 57) r ⌝ }
+    ensures product { λ r. ⌜ r ≡ times base x ⌝ }
+    ensures within { λ r. ⌜ Within (2 ^ 57) r ⌝ }
 {
     [dot_product(base[0], x), dot_product(base[1], x)]
 }

@@ -20,7 +20,8 @@ const RECORDS: [usize; 5] = [ELEMENT, ELEMENT, ELEMENT, LEAF, 1];
 // The unsigned 16-bit number at a place.
 pub fn unsigned(bytes: &[u8], at: usize) -> usize
     requires { ⌜ at + 1 < length (now bytes) ⌝ }
-    ensures { λ r. ⌜ (r ≡ unsignedAt (now (bytes .entry)) at) × (r < 65536) ⌝ }
+    ensures number { λ r. ⌜ r ≡ unsignedAt (now (bytes .entry)) at ⌝ }
+    ensures within { λ r. ⌜ r < 65536 ⌝ }
 {
     octets::wide(bytes[at]) + 256 * octets::wide(bytes[at + 1])
 }
@@ -28,7 +29,8 @@ pub fn unsigned(bytes: &[u8], at: usize) -> usize
 // The signed 16-bit number at a place.
 pub fn signed(bytes: &[u8], at: usize) -> i64
     requires { ⌜ at + 1 < length (now bytes) ⌝ }
-    ensures { λ r. ⌜ (r ≡ signedAt (now (bytes .entry)) at) × (natAbs r ≤ 32768) ⌝ }
+    ensures number { λ r. ⌜ r ≡ signedAt (now (bytes .entry)) at ⌝ }
+    ensures within { λ r. ⌜ natAbs r ≤ 32768 ⌝ }
 {
     ((unsigned(bytes, at) + 32768) % 65536) as i64 - 32768
 }
@@ -36,14 +38,16 @@ pub fn signed(bytes: &[u8], at: usize) -> i64
 // Where a section starts, its length and where it ends, as its pair of the directory says.
 pub fn section_start(file: &[u8], section: usize) -> usize
     requires { ⌜ (section < 5) × (20 ≤ length (now file)) ⌝ }
-    ensures { λ r. ⌜ (r ≡ sectionStart (now (file .entry)) section) × (r < 65536) ⌝ }
+    ensures start { λ r. ⌜ r ≡ sectionStart (now (file .entry)) section ⌝ }
+    ensures within { λ r. ⌜ r < 65536 ⌝ }
 {
     unsigned(file, 4 * section)
 }
 
 pub fn section_length(file: &[u8], section: usize) -> usize
     requires { ⌜ (section < 5) × (20 ≤ length (now file)) ⌝ }
-    ensures { λ r. ⌜ (r ≡ sectionLength (now (file .entry)) section) × (r < 65536) ⌝ }
+    ensures size { λ r. ⌜ r ≡ sectionLength (now (file .entry)) section ⌝ }
+    ensures within { λ r. ⌜ r < 65536 ⌝ }
 {
     unsigned(file, 4 * section + 2)
 }

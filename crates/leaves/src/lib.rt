@@ -29,14 +29,16 @@ pub fn leaf_count(leaves: &[u8]) -> usize
 // Where a leaf's word starts in section 4, and its length.
 pub fn word_start(leaves: &[u8], leaf: usize) -> usize
     requires { ⌜ leaf < leafCount (now leaves) ⌝ }
-    ensures { λ r. ⌜ (r ≡ wordStart (now (leaves .entry)) leaf) × (r < 65536) ⌝ }
+    ensures start { λ r. ⌜ r ≡ wordStart (now (leaves .entry)) leaf ⌝ }
+    ensures within { λ r. ⌜ r < 65536 ⌝ }
 {
     layout::unsigned(leaves, leaf * LEAF)
 }
 
 pub fn word_length(leaves: &[u8], leaf: usize) -> usize
     requires { ⌜ leaf < leafCount (now leaves) ⌝ }
-    ensures { λ r. ⌜ (r ≡ wordLength (now (leaves .entry)) leaf) × (r < 65536) ⌝ }
+    ensures size { λ r. ⌜ r ≡ wordLength (now (leaves .entry)) leaf ⌝ }
+    ensures within { λ r. ⌜ r < 65536 ⌝ }
 {
     layout::unsigned(leaves, leaf * LEAF + 2)
 }
@@ -58,7 +60,8 @@ pub fn word<'a>(leaves: &[u8], words: &'a [u8], leaf: usize) -> &'a [u8]
 
 // A leaf's weight: zero where there is no such leaf.
 pub fn weight(leaves: &[u8], leaf: usize) -> [i64; 2]
-    ensures { λ r. ⌜ (r ≡ weightGiven (now (leaves .entry)) leaf) × Within 32768 r ⌝ }
+    ensures weight { λ r. ⌜ r ≡ weightGiven (now (leaves .entry)) leaf ⌝ }
+    ensures within { λ r. ⌜ Within 32768 r ⌝ }
 {
     if leaf < leaf_count(leaves) {
         return digits::element(leaves, leaf * LEAF + 4);

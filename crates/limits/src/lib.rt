@@ -56,7 +56,8 @@ fn first_outside(part: &[u8], size: usize, limit: usize, count: usize) -> usize
 
 // A byte in 32 bits.
 fn wide_32(x: u8) -> u32
-    ensures { λ r. ⌜ (r ≡ x) × (r < 256) ⌝ }
+    ensures same { λ r. ⌜ r ≡ x ⌝ }
+    ensures small { λ r. ⌜ r < 256 ⌝ }
 {
     x as u32
 }
@@ -71,7 +72,8 @@ fn raised(bytes: &[u8], at: usize, limit: u32) -> u32
 
 // A number that is at least each of two, without a branch.
 fn at_least(a: u32, b: u32) -> u32
-    ensures { λ r. ⌜ (a ≤ r) × (b ≤ r) ⌝ }
+    ensures one { λ r. ⌜ a ≤ r ⌝ }
+    ensures other { λ r. ⌜ b ≤ r ⌝ }
 {
     a | b
 }

@@ -39,7 +39,8 @@ fn is_limited(x: [i64; 2]) -> bool
 // The digit at a place of a row.
 fn digit_at(alphabet: &[u8], row: &[u8], place: usize) -> [i64; 2]
     requires { ⌜ (place < length (now row)) × Indexes (elementCount (now alphabet)) (now row) ⌝ }
-    ensures { λ r. ⌜ (r ≡ placeDigit (now (alphabet .entry)) (now (row .entry)) place) × Within 32768 r ⌝ }
+    ensures digit { λ r. ⌜ r ≡ placeDigit (now (alphabet .entry)) (now (row .entry)) place ⌝ }
+    ensures within { λ r. ⌜ Within 32768 r ⌝ }
 {
     digits::record_at(alphabet, row[place] as usize)
 }

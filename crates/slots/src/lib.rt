@@ -9,7 +9,8 @@ const SLOTS: usize = 256;
 // The slot of an element. Those of a square of 16 by 16 have different ones.
 pub fn slot_of(x: [i64; 2]) -> usize
     requires { ⌜ Within (2 ^ 58) x ⌝ }
-    ensures { λ r. ⌜ (r ≡ slotOf x) × (r < 256) ⌝ }
+    ensures slot { λ r. ⌜ r ≡ slotOf x ⌝ }
+    ensures within { λ r. ⌜ r < 256 ⌝ }
 {
     let place = x[0] + 16 * x[1] + 32768;
     if place < 0 {

@@ -8,7 +8,8 @@ ghost use Rattle.radix.specs.Number.{number, aligned};
 const LONGEST: usize = 8;
 
 fn wide(x: u8) -> u64
-    ensures { λ r. ⌜ (r ≡ x) × (r < 256) ⌝ }
+    ensures same { λ r. ⌜ r ≡ x ⌝ }
+    ensures small { λ r. ⌜ r < 256 ⌝ }
 {
     x as u64
 }
