@@ -60,7 +60,7 @@ pub fn highest(bytes: &[u8]) -> u8
 // The count of bytes that is left where the upper half is dropped as long as it is all 0.
 fn halved(bytes: &[u8]) -> usize
     ensures inside { λ r. ⌜ r ≤ length (now (bytes .entry)) ⌝ }
-    ensures zeros { λ r. ⌜ (k : ℕ) → r ≤ k → getD (now (bytes .entry)) k 0 ≡ 0 ⌝ }
+    ensures zeros { λ r. ⌜ ((k : ℕ) → r ≤ k → getD (now (bytes .entry)) k 0 ≡ 0) ⌝ }
 {
     let mut end = bytes.len();
     while FEW < end {
@@ -76,7 +76,7 @@ fn halved(bytes: &[u8]) -> usize
 // The count of bytes up to the last that isn't 0.
 pub fn significant(bytes: &[u8]) -> usize
     ensures inside { λ r. ⌜ r ≤ length (now (bytes .entry)) ⌝ }
-    ensures zeros { λ r. ⌜ (k : ℕ) → r ≤ k → getD (now (bytes .entry)) k 0 ≡ 0 ⌝ }
+    ensures zeros { λ r. ⌜ ((k : ℕ) → r ≤ k → getD (now (bytes .entry)) k 0 ≡ 0) ⌝ }
 {
     let mut end = halved(bytes);
     while 0 < end {
