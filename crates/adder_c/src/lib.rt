@@ -13,12 +13,8 @@ ghost use Rattle.edit_rules.specs.Edit.{editOutcome, editState};
 ghost use Rattle.edit_rules.specs.State.{state};
 ghost use Rattle.value_call_rules.specs.Value.{valueOutcome};
 ghost use Rattle.carried.specs.Tables.{ternFile, binFile};
-ghost use Rattle.adder_c.specs.Answer.{ifRoom, returned, answered, checkWords, addWords, editWords, elementWords};
-use adder::Added;
+ghost use Rattle.answer_rules.specs.Answer.{ifRoom, returned, answered, checkWords, addWords, editWords, elementWords};
 use midpoint::Element;
-use row_edit::Edited;
-use table::Checked;
-use value_call::Valued;
 
 mod run;
 
@@ -30,22 +26,7 @@ pub extern "C" fn yoyomyrtle_check(file: &[u8], answer: &mut [i64]) -> u64
     if answer.len() < 8 {
         return 2;
     }
-    let outcome = table::check(file);
-    match outcome {
-        Checked::Accepted(f) => {
-            answer_words::put(
-                answer,
-                &[
-                    0,
-                    answer_words::word(f.depth),
-                    answer_words::word(f.leaves),
-                    answer_words::word(f.digits),
-                ],
-            );
-            0
-        }
-        Checked::Refused(fault) => answer_words::refuse(answer, fault),
-    }
+    answers::checked(answer, table::check(file))
 }
 
 #[no_mangle]
@@ -66,14 +47,7 @@ pub extern "C" fn yoyomyrtle_add(
     if answer.len() < 8 {
         return 2;
     }
-    let outcome = adder::add(table, first, second, sum);
-    match outcome {
-        Added::Sum(f) => {
-            answer_words::put(answer, &[0, answer_words::word(f.places)]);
-            0
-        }
-        Added::Refused(fault) => answer_words::refuse(answer, fault),
-    }
+    answers::added(answer, adder::add(table, first, second, sum))
 }
 
 // The row number, the place and the digit have 64 bits, as usize has.
@@ -100,7 +74,7 @@ pub extern "C" fn yoyomyrtle_edit(
     if answer.len() < 8 {
         return 2;
     }
-    let outcome = edit_call::edit(
+    let given = edit_call::edit(
         table,
         first,
         second,
@@ -109,13 +83,7 @@ pub extern "C" fn yoyomyrtle_edit(
         place as usize,
         digit as usize,
     );
-    match outcome {
-        Edited::Count(f) => {
-            answer_words::put(answer, &[0, answer_words::word(f.count)]);
-            0
-        }
-        Edited::Refused(fault) => answer_words::refuse(answer, fault),
-    }
+    answers::edited(answer, given)
 }
 
 #[no_mangle]
@@ -126,11 +94,7 @@ pub extern "C" fn yoyomyrtle_value(table: &[u8], row: &[u8], answer: &mut [i64])
     if answer.len() < 8 {
         return 2;
     }
-    let outcome = value_call::value(table, row);
-    match outcome {
-        Valued::Value(x) => answer_words::put_element(answer, x),
-        Valued::Refused(fault) => answer_words::refuse(answer, fault),
-    }
+    answers::valued(answer, value_call::value(table, row))
 }
 
 #[no_mangle]

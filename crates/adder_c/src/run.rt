@@ -5,8 +5,7 @@ ghost use Rattle.edit_rules.specs.State.{state};
 ghost use Rattle.runner_rules.specs.Told.{groupsOf, numbersOf, valuesOf};
 ghost use Rattle.runner_rules.specs.Run.{askedEdits, runOutcome, runAll};
 ghost use Rattle.runner_rules.specs.Follows.{toldIn};
-ghost use Rattle.adder_c.specs.Answer.{ifRoom, returned, answered, runWords};
-use runner::Ran;
+ghost use Rattle.answer_rules.specs.Answer.{ifRoom, returned, answered, runWords};
 
 // The check, the addition and a list of edits, whose row numbers, places and digits are listed and whose answers are told, each in the
 // same entry of six slices; as many as the shortest of them has.
@@ -47,7 +46,7 @@ pub extern "C" fn yoyomyrtle_run(
     if answer.len() < 8 {
         return 2;
     }
-    let ran = runner::run(
+    let given = runner::run(
         table,
         first,
         second,
@@ -59,11 +58,5 @@ pub extern "C" fn yoyomyrtle_run(
         numbers,
         values,
     );
-    match ran {
-        Ran::Edits(f) => {
-            answer_words::put(answer, &[0, answer_words::word(f.edits)]);
-            0
-        }
-        Ran::Refused(fault) => answer_words::refuse(answer, fault),
-    }
+    answers::ran(answer, given)
 }

@@ -7,8 +7,8 @@ ghost use lib.ListN.{length};
 ghost use lib.IntN.{pos};
 ghost use Rattle.lists.specs.Overwrite.{overwrite};
 ghost use Rattle.midpoint.specs.Midpoint.{parts};
-ghost use Rattle.answer_words.specs.Word.{wordOf};
-ghost use Rattle.answer_words.specs.Fault.{faultWords};
+ghost use Rattle.answer_rules.specs.Word.{wordOf};
+ghost use Rattle.answer_rules.specs.Fault.{faultWords};
 use faults::Fault;
 use midpoint::Element;
 
@@ -54,6 +54,16 @@ pub fn refuse(answer: &mut [i64], fault: Fault) -> u64
         Fault::Rows { number, place } => put_fault(answer, 2, number, place),
         Fault::Editor { number, place } => put_fault(answer, 3, number, place),
     }
+}
+
+// Writes a number as a fact; what the call returns.
+pub fn put_number(answer: &mut [i64], n: usize) -> u64
+    requires { ⌜ 8 ≤ length (now answer) ⌝ }
+    ensures status { λ r. ⌜ r ≡ 0 ⌝ }
+    ensures answer { λ r. ⌜ now (answer .exit) ≡ overwrite (now (answer .entry)) 0 (pos 0 ∷ wordOf n ∷ []) ⌝ }
+{
+    put(answer, &[0, word(n)]);
+    0
 }
 
 // Writes the parts of an element as facts; what the call returns.

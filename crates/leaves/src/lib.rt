@@ -7,7 +7,8 @@ ghost use lib.ListN.{length, getD};
 ghost use lib.Dec.{eqb};
 ghost use Rattle.lists.specs.Scan.{firstFailing};
 ghost use Rattle.ring.specs.Tests.{Within};
-ghost use Rattle.numeration.specs.Code as code;
+ghost use Rattle.numeration.specs.Code.{Begins};
+ghost use Rattle.numeration.specs.LeafOf as depths;
 ghost use Rattle.numeration.specs.Prefix as prefixes;
 ghost use Rattle.leaf_rules.specs.Leaf.{leafCount, wordStart, wordLength, codeOf};
 ghost use Rattle.leaf_rules.specs.Given.{wordGiven, weightGiven};
@@ -71,7 +72,7 @@ pub fn weight(leaves: &[u8], leaf: usize) -> [i64; 2]
 
 // The depth: the longest word length.
 pub fn depth(leaves: &[u8]) -> usize
-    ensures { λ r. ⌜ ((words : List ℕ) → r ≡ code.depth (codeOf (now (leaves .entry)) words)) ⌝ }
+    ensures { λ r. ⌜ ((words : List ℕ) → r ≡ depths.depth (codeOf (now (leaves .entry)) words)) ⌝ }
 {
     let count = leaf_count(leaves);
     let mut longest = 0;
@@ -213,7 +214,7 @@ pub fn look_up_within(
 // Whether a leaf's word begins the window.
 fn begins(leaves: &[u8], words: &[u8], window: &[u8; 8], leaf: usize) -> bool
     requires { ⌜ leaf < leafCount (now leaves) ⌝ }
-    ensures { λ r. ⌜ (r ≡ true → code.Begins (codeOf (now (leaves .entry)) (now (words .entry))) leaf (windows.digits (now (window .entry)))) ⌝ }
+    ensures { λ r. ⌜ (r ≡ true → Begins (codeOf (now (leaves .entry)) (now (words .entry))) leaf (windows.digits (now (window .entry)))) ⌝ }
 {
     let start = word_start(leaves, leaf);
     let n = word_length(leaves, leaf);

@@ -1,6 +1,6 @@
 -- BIN, where it has room.
 use Rattle.carried.specs.Tables.{binFile}
-use Rattle.adder_c.proofs.Answer.{no-copy, copy}
+use Rattle.answer_rules.proofs.Answer.{no-copy, copy}
 use borrow.Author.Needs.{needs}
 use Rattle.adder_c.proofs.yoyomyrtle_bin.Statement.{statement}
 use Rattle.adder_c.proofs.yoyomyrtle_bin.Tie as tie

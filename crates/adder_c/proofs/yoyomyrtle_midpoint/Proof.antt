@@ -6,8 +6,8 @@ use mathlib.Core.Path.{sym, ap, ap₂, refl, _∙_}
 use mathlib.Core.List.{[], _∷_}
 use Rattle.midpoint.specs.Midpoint.{parts, midpointOf}
 use Rattle.faults.specs.Outcome.{facts}
-use Rattle.adder_c.specs.Answer.{elementWords}
-use Rattle.adder_c.proofs.Answer.{short, with-facts}
+use Rattle.answer_rules.specs.Answer.{elementWords}
+use Rattle.answer_rules.proofs.Answer.{short, with-facts}
 use borrow.Author.Needs.{needs}
 use Rattle.adder_c.proofs.yoyomyrtle_midpoint.Statement.{statement}
 use Rattle.adder_c.proofs.yoyomyrtle_midpoint.Tie as tie

@@ -1,6 +1,6 @@
 -- TERN, where it has room.
 use Rattle.carried.specs.Tables.{ternFile}
-use Rattle.adder_c.proofs.Answer.{no-copy, copy}
+use Rattle.answer_rules.proofs.Answer.{no-copy, copy}
 use borrow.Author.Needs.{needs}
 use Rattle.adder_c.proofs.yoyomyrtle_tern.Statement.{statement}
 use Rattle.adder_c.proofs.yoyomyrtle_tern.Tie as tie

@@ -2,7 +2,7 @@
 use mathlib.Core.Path.{refl, ap, _∙_}
 use Rattle.lists.proofs.Cons.{cons≡}
 use Rattle.lists.specs.Overwrite.{overwrite}
-use Rattle.answer_words.proofs.Bits.{narrow-fits, widened}
+use Rattle.answer_rules.proofs.Bits.{narrow-fits, widened}
 use borrow.Author.Needs.{needs}
 use Rattle.answer_words.proofs.put_element.Statement.{statement}
 use Rattle.answer_words.proofs.put_element.Tie as tie

@@ -4,7 +4,7 @@ use mir.Syntax.{w64}
 use mathlib.Core.Path.{refl, ap, _∙_}
 use Rattle.lists.proofs.Cons.{cons≡}
 use Rattle.lists.specs.Overwrite.{overwrite}
-use Rattle.answer_words.proofs.Bits.{kept}
+use Rattle.answer_rules.proofs.Bits.{kept}
 use borrow.Author.Needs.{needs}
 use Rattle.answer_words.proofs.put_fault.Statement.{statement}
 use Rattle.answer_words.proofs.put_fault.Tie as tie

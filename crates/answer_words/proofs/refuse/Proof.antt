@@ -1,6 +1,6 @@
 -- The words of the fault, by its case.
 use mathlib.Core.Path.{sym, ap, _∙_}
-use Rattle.answer_words.specs.Fault.{faultWords}
+use Rattle.answer_rules.specs.Fault.{faultWords}
 use Rattle.lists.specs.Overwrite.{overwrite}
 use borrow.Author.Needs.{needs}
 use Rattle.answer_words.proofs.refuse.Statement.{statement}

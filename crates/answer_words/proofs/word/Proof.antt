@@ -1,5 +1,5 @@
 -- The bits as they are, or what is missing to 2^64 - 1 taken from -1.
-use Rattle.answer_words.proofs.Bits.{cast-small, cast-large-fits, cast-large}
+use Rattle.answer_rules.proofs.Bits.{cast-small, cast-large-fits, cast-large}
 use borrow.Author.Needs.{needs}
 use Rattle.answer_words.proofs.word.Statement.{statement}
 use Rattle.answer_words.proofs.word.Tie as tie

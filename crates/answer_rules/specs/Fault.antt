@@ -4,7 +4,7 @@ use Prim.Native.Nat.{ℕ}
 use lib.IntN.{ℤ, pos}
 use Rattle.faults.specs.declared.Fault.{Fault}
 use Rattle.faults.specs.Outcome.{Group, groupNumber, whose, numberOf, placeOf}
-use Rattle.answer_words.specs.Word.{wordOf}
+use Rattle.answer_rules.specs.Word.{wordOf}
 
 -- the words of a fault: whose it is, its number and its place
 abbrev pub refusalWords : Group → ℕ → ℕ → List ℤ

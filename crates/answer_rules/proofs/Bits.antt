@@ -9,7 +9,7 @@ use lib.IntN.{ℤ, pos, negsuc, _-ℤ_}
 use mir.Syntax.{w32, w64}
 use mir.Val.{SFits, toZ, ofZ}
 use mir.Facts.{sfits-widen, toZ-pos, toZ-ofZ}
-use Rattle.answer_words.specs.Word.{wordOf}
+use Rattle.answer_rules.specs.Word.{wordOf}
 
 -- a word that was stored and read again
 pub kept : (z : ℤ) (n : ℕ) → mag z < 2 ^ 63 → z ≡ wordOf n → toZ w64 (ofZ w64 z) ≡ wordOf n

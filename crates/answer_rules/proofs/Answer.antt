@@ -1,5 +1,5 @@
 -- What a call for C returns and leaves in the answer: where the array is short, for facts, for a fault.
-use mathlib.Core.Path.{_≡_, ap, _∙_}
+use mathlib.Core.Path.{_≡_, refl, ap, _∙_}
 use mathlib.Core.List.{List, _∷_}
 use Prim.Native.Nat.{ℕ, _<_, _≤_}
 use borrow.Author.Tests.{lt-ltb, le-ltb}
@@ -7,14 +7,14 @@ use lib.IntN.{ℤ, pos}
 use lib.ListN.{length}
 use Rattle.lists.specs.Overwrite.{overwrite}
 use Rattle.faults.specs.declared.Fault.{Fault}
-use Rattle.faults.specs.Outcome.{Outcome, facts, refusedBy}
+use Rattle.faults.specs.Outcome.{Group, Outcome, facts, refused, refusedBy}
 use Rattle.row_rules.specs.declared.Change.{Change}
 use Rattle.edit_rules.specs.State.{State}
 use Rattle.runner_rules.specs.Told.{groupsOf, numbersOf, valuesOf}
 use Rattle.runner_rules.specs.Run.{runAll}
 use Rattle.runner_rules.specs.Follows.{toldIn}
-use Rattle.adder_c.specs.Answer.{outcomeWords, outcomeStatus, ifRoom, returned, answered}
-use Rattle.answer_words.specs.Fault.{faultWords}
+use Rattle.answer_rules.specs.Answer.{outcomeWords, outcomeStatus, ifRoom, returned, answered}
+use Rattle.answer_rules.specs.Fault.{faultWords}
 
 module _ {A : Type 0} where
   pub no-room : (wanted room : ℕ) (done short : A) → room < wanted → short ≡ ifRoom wanted room done short
@@ -29,15 +29,28 @@ module _ {F : Type 0} (words : F → List ℤ) (o : Outcome F) (answer : List �
   pub short : length answer < 8 → (2 ≡ returned o answer) × (answer ≡ answered words o answer)
   short h = (no-room 8 (length answer) (outcomeStatus o) 2 h, no-room 8 (length answer) (overwrite answer 0 (outcomeWords words o)) answer h)
 
-  pub with-facts : (f : F) (r : ℕ) (last : List ℤ) → 8 ≤ length answer → o ≡ facts f → r ≡ 0 → last ≡ overwrite answer 0 (pos 0 ∷ words f) → (r ≡ returned o answer) × (last ≡ answered words o answer)
-  unfolding outcomeStatus outcomeWords
-  with-facts f r last h e z l =
-      rw e (z ∙ some-room 8 (length answer) 0 2 h, l ∙ some-room 8 (length answer) (overwrite answer 0 (pos 0 ∷ words f)) answer h)
+  -- a call's answer told in words, where there is room
+  pub told : (given : Outcome F) (r : ℕ) (last : List ℤ) → 8 ≤ length answer → given ≡ o → r ≡ outcomeStatus given → last ≡ overwrite answer 0 (outcomeWords words given) → (r ≡ returned o answer) × (last ≡ answered words o answer)
+  told given r last h e z l =
+      rw (← e) (z ∙ some-room 8 (length answer) (outcomeStatus given) 2 h, l ∙ some-room 8 (length answer) (overwrite answer 0 (outcomeWords words given)) answer h)
 
-  pub with-fault : (fault : Fault) (r : ℕ) (last : List ℤ) → 8 ≤ length answer → o ≡ refusedBy fault → r ≡ 1 → last ≡ overwrite answer 0 (faultWords fault) → (r ≡ returned o answer) × (last ≡ answered words o answer)
+  -- facts and a fault in words, with what is returned for them
+  pub facts-told : (f : F) (r : ℕ) (last : List ℤ) → o ≡ facts f → r ≡ 0 → last ≡ overwrite answer 0 (pos 0 ∷ words f) → (r ≡ outcomeStatus o) × (last ≡ overwrite answer 0 (outcomeWords words o))
   unfolding outcomeStatus outcomeWords
-  with-fault fault r last h e z l =
-      rw e (z ∙ some-room 8 (length answer) 1 2 h, l ∙ some-room 8 (length answer) (overwrite answer 0 (faultWords fault)) answer h)
+  facts-told f r last e z l = rw e (z, l)
+
+  pub fault-told : (fault : Fault) (r : ℕ) (last : List ℤ) → o ≡ refusedBy fault → r ≡ 1 → last ≡ overwrite answer 0 (faultWords fault) → (r ≡ outcomeStatus o) × (last ≡ overwrite answer 0 (outcomeWords words o))
+  unfolding outcomeStatus outcomeWords
+  fault-told fault r last e z l = rw e (z, l)
+
+-- "it returns 0 for facts and 1 for a fault"
+pub returns-0 : {F : Type 0} (f : F) → outcomeStatus (facts f) ≡ 0
+unfolding outcomeStatus
+returns-0 f = refl
+
+pub returns-1 : {F : Type 0} (o : Outcome F) (g : Group) (n p : ℕ) → o ≡ refused g n p → outcomeStatus o ≡ 1
+unfolding outcomeStatus
+returns-1 o g n p e = rw e refl
 
 -- a run's buffers and its three slices of answers: where the answer array is short, and where they are as the run leaves them
 module _ (room : ℕ) (file : List ℕ) (s : State) (es : List Change) (whose numbers values : List ℕ) where

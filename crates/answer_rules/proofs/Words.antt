@@ -8,8 +8,8 @@ use lib.IntN.{pos}
 use Rattle.lists.proofs.Cons.{cons≡}
 use Rattle.faults.specs.Outcome.{Group, groupNumber, facts, author}
 use Rattle.calls.proofs.Answers.{unless-given}
-use Rattle.answer_words.specs.Fault.{refusalWords}
-use Rattle.answer_words.proofs.Bits.{word-small}
+use Rattle.answer_rules.specs.Fault.{refusalWords}
+use Rattle.answer_rules.proofs.Bits.{word-small}
 use Rattle.reader_rules.specs.Check.{tableCheck}
 use Rattle.reader_rules.proofs.Ready.{ready-passed}
 use Rattle.row_rules.specs.declared.Change.{Change}
@@ -25,7 +25,7 @@ use Rattle.edit_rules.specs.Count.{tally, failing}
 use Rattle.edit_rules.specs.Edit.{count, editOutcome}
 use Rattle.edit_rules.specs.State.{State, reach}
 use Rattle.edit_rules.proofs.Demand.{demand-1 as edit-demand-1}
-use Rattle.adder_c.specs.Answer.{checkWords, addWords, editWords}
+use Rattle.answer_rules.specs.Answer.{checkWords, addWords, editWords}
 
 -- a fault's number and place
 pub fault-words : (g : Group) (n p : ℕ) → n < 2 ^ 63 → p < 2 ^ 63 → refusalWords g n p ≡ pos (groupNumber g) ∷ pos n ∷ pos p ∷ []

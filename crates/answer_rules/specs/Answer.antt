@@ -11,8 +11,8 @@ use Rattle.table_rules.specs.declared.Facts.{Facts}
 use Rattle.adder_rules.specs.declared.AddedFacts.{AddedFacts}
 use Rattle.edit_rules.specs.declared.EditedFacts.{EditedFacts}
 use Rattle.runner_rules.specs.declared.RanFacts.{RanFacts}
-use Rattle.answer_words.specs.Word.{wordOf}
-use Rattle.answer_words.specs.Fault.{refusalWords}
+use Rattle.answer_rules.specs.Word.{wordOf}
+use Rattle.answer_rules.specs.Fault.{refusalWords}
 
 -- the words of an outcome, whose facts are given as words: 0 and the facts, or the fault
 unfoldable pub outcomeWords : {F : Type 0} → (F → List ℤ) → Outcome F → List ℤ

@@ -1,0 +1,82 @@
+// The answer of each call in the lent array for C: 0 and the facts, or the fault. What the call returns: 0 for facts, 1 for a fault.
+ghost use mathlib.Core.Path.{_≡_};
+ghost use Prim.Native.Nat.{_≤_};
+ghost use lib.ListN.{length};
+ghost use Rattle.lists.specs.Overwrite.{overwrite};
+ghost use Rattle.answer_rules.specs.Answer.{outcomeStatus, outcomeWords, checkWords, addWords, editWords, runWords, elementWords};
+ghost use Rattle.table.specs.Answer.{outcomeOf as checkedAs};
+ghost use Rattle.adder.specs.Answer.{outcomeOf as addedAs};
+ghost use Rattle.row_edit.specs.Answer.{outcomeOf as editedAs};
+ghost use Rattle.runner.specs.Answer.{outcomeOf as ranAs};
+ghost use Rattle.value_call.specs.Answer.{valuedAs};
+use adder::Added;
+use row_edit::Edited;
+use runner::Ran;
+use table::Checked;
+use value_call::Valued;
+
+pub fn checked(answer: &mut [i64], given: Checked) -> u64
+    requires { ⌜ 8 ≤ length (now answer) ⌝ }
+    ensures status { λ r. ⌜ r ≡ outcomeStatus (checkedAs given) ⌝ }
+    ensures answer { λ r. ⌜ now (answer .exit) ≡ overwrite (now (answer .entry)) 0 (outcomeWords checkWords (checkedAs given)) ⌝ }
+{
+    match given {
+        Checked::Accepted(f) => {
+            answer_words::put(
+                answer,
+                &[
+                    0,
+                    answer_words::word(f.depth),
+                    answer_words::word(f.leaves),
+                    answer_words::word(f.digits),
+                ],
+            );
+            0
+        }
+        Checked::Refused(fault) => answer_words::refuse(answer, fault),
+    }
+}
+
+pub fn added(answer: &mut [i64], given: Added) -> u64
+    requires { ⌜ 8 ≤ length (now answer) ⌝ }
+    ensures status { λ r. ⌜ r ≡ outcomeStatus (addedAs given) ⌝ }
+    ensures answer { λ r. ⌜ now (answer .exit) ≡ overwrite (now (answer .entry)) 0 (outcomeWords addWords (addedAs given)) ⌝ }
+{
+    match given {
+        Added::Sum(f) => answer_words::put_number(answer, f.places),
+        Added::Refused(fault) => answer_words::refuse(answer, fault),
+    }
+}
+
+pub fn edited(answer: &mut [i64], given: Edited) -> u64
+    requires { ⌜ 8 ≤ length (now answer) ⌝ }
+    ensures status { λ r. ⌜ r ≡ outcomeStatus (editedAs given) ⌝ }
+    ensures answer { λ r. ⌜ now (answer .exit) ≡ overwrite (now (answer .entry)) 0 (outcomeWords editWords (editedAs given)) ⌝ }
+{
+    match given {
+        Edited::Count(f) => answer_words::put_number(answer, f.count),
+        Edited::Refused(fault) => answer_words::refuse(answer, fault),
+    }
+}
+
+pub fn ran(answer: &mut [i64], given: Ran) -> u64
+    requires { ⌜ 8 ≤ length (now answer) ⌝ }
+    ensures status { λ r. ⌜ r ≡ outcomeStatus (ranAs given) ⌝ }
+    ensures answer { λ r. ⌜ now (answer .exit) ≡ overwrite (now (answer .entry)) 0 (outcomeWords runWords (ranAs given)) ⌝ }
+{
+    match given {
+        Ran::Edits(f) => answer_words::put_number(answer, f.edits),
+        Ran::Refused(fault) => answer_words::refuse(answer, fault),
+    }
+}
+
+pub fn valued(answer: &mut [i64], given: Valued) -> u64
+    requires { ⌜ 8 ≤ length (now answer) ⌝ }
+    ensures status { λ r. ⌜ r ≡ outcomeStatus (valuedAs given) ⌝ }
+    ensures answer { λ r. ⌜ now (answer .exit) ≡ overwrite (now (answer .entry)) 0 (outcomeWords elementWords (valuedAs given)) ⌝ }
+{
+    match given {
+        Valued::Value(x) => answer_words::put_element(answer, x),
+        Valued::Refused(fault) => answer_words::refuse(answer, fault),
+    }
+}
