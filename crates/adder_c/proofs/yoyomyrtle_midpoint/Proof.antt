@@ -2,12 +2,12 @@
 use Rattle.lists.proofs.Cons.{cons≡}
 use mir.ValLaws.{toZ-ofZ}
 use mir.Syntax.{w32}
-use mathlib.Core.Path.{sym, ap, ap₂, refl, _∙_}
+use mathlib.Core.Path.{ap, ap₂, refl, _∙_}
 use mathlib.Core.List.{[], _∷_}
 use Rattle.midpoint.specs.Midpoint.{parts, midpointOf}
 use Rattle.faults.specs.Outcome.{facts}
 use Rattle.answer_rules.specs.Answer.{elementWords}
-use Rattle.answer_rules.proofs.Answer.{short, with-facts}
+use Rattle.answer_rules.proofs.Answer.{short, told, facts-told}
 use borrow.Author.Needs.{needs}
 use Rattle.adder_c.proofs.yoyomyrtle_midpoint.Statement.{statement}
 use Rattle.adder_c.proofs.yoyomyrtle_midpoint.Tie as tie
@@ -32,7 +32,10 @@ returns-2 c =
     let fits = c .before .before .before .before .before .fits in
     let x = cons≡ (toZ-ofZ w32 (a .a1) (fits .a1)) (cons≡ (toZ-ofZ w32 (a .b1) (fits .b1)) refl) in
     let y = cons≡ (toZ-ofZ w32 (a .a2) (fits .a2)) (cons≡ (toZ-ofZ w32 (a .b2) (fits .b2)) refl) in
-    with-facts elementWords (facts (midpointOf (a .a1 ∷ a .b1 ∷ []) (a .a2 ∷ a .b2 ∷ []))) (a .answer .now) (parts (c .before .before .midpoint .result)) _ (c .before .put-element .last .0) (c .before .before .before .before .if1 .left) (ap facts (sym (c .before .before .midpoint .ensures ∙ ap₂ midpointOf x y))) (c .before .put-element .ensures .0) (c .before .put-element .ensures .1)
+    let middle = parts (c .before .before .midpoint .result) in
+    let put = facts-told elementWords (facts middle) (a .answer .now) middle _ _ refl (c .before .put-element .ensures .0) (c .before .put-element .ensures .1) in
+    let is = ap facts (c .before .before .midpoint .ensures ∙ ap₂ midpointOf x y) in
+    told elementWords (facts (midpointOf (a .a1 ∷ a .b1 ∷ []) (a .a2 ∷ a .b2 ∷ []))) (a .answer .now) (facts middle) _ _ (c .before .before .before .before .if1 .left) is (put .0) (put .1)
 
 pub yoyomyrtle-midpoint-spec : {M : Type 1} → statement M
 yoyomyrtle-midpoint-spec =
