@@ -43,7 +43,7 @@ pub fn inputs_of(
 {
     let alphabet = reader::section(table, 1);
     let inputs = reader::section(table, 2);
-    places::input_row(alphabet, inputs, change, first, second, from, end)
+    input_rows::input_row(alphabet, inputs, change, first, second, from, end)
 }
 
 // Writes the alphabet indexes of the digits of a row of input indexes at the places from `from` on, up to the first digit that isn't

@@ -18,12 +18,12 @@ use Rattle.digit_rules.specs.Formed.{DigitsFormed}
 use Rattle.digit_rules.proofs.Index.{index-high, index-is}
 use Rattle.digit_rules.proofs.Formed.{sum-index-is}
 use Rattle.numeration.specs.Group.{Operations}
-use Rattle.numeration.specs.Code.{Code, HasLeaf}
+use Rattle.numeration.specs.Code.{Code, Begins, HasLeaf}
 use Rattle.numeration.specs.LeafOf.{leafOf}
 use Rattle.numeration.specs.Conversion.{window, outDigit, weightInto, weightAt, convert}
-use Rattle.numeration.proofs.Leaves.{leafOf-ext, depth-reached}
+use Rattle.numeration.proofs.Leaves.{leafOf-ext, leafOf-unique, ordered-separate, depth-reached}
 use Rattle.numeration.proofs.Windows.{window-by-place}
-use Rattle.leaf_rules.specs.Leaf.{codeOf}
+use Rattle.leaf_rules.specs.Leaf.{leafCount, codeOf}
 use Rattle.leaf_rules.specs.Given.{weightGiven}
 use Rattle.leaf_rules.specs.Window.{digits, LookedUp}
 use Rattle.leaf_rules.proofs.Leaf.{weight-there}
@@ -98,3 +98,15 @@ module _ (o : Operations (List ℤ)) (alphabet inputs leaves words row : List �
   pub index-out : (j : ℕ) → elementCount alphabet ≤ indexAt o alphabet inputs leaves words row j → digitAllowed o alphabet inputs leaves words row j ≡ false
   unfolding indexAt inAlphabet
   index-out j h = le-ltb _ _ h
+
+-- the first digit of the window below the next place
+pub window-first : (row : List ℕ) (j : ℕ) → getD row j 0 ≡ window row (j + 1) 0
+unfolding window
+window-first row j = rw (add-one j, window)
+
+-- a leaf that begins the window has the weight into the place
+pub weight-begun : (leaves words row : List ℕ) → Begun leaves words row → (j k : ℕ) → k < leafCount leaves → Begins (codeOf leaves words) k (window row j) → weightGiven leaves k ≡ weightInto (codeOf leaves words) row j
+unfolding weightInto
+weight-begun leaves words row is j k h b =
+    let c = codeOf leaves words in
+    sym (weight-there leaves k h) ∙ ap (c .weight) (sym (leafOf-unique c (ordered-separate c (is .sorted .ordered)) (window row j) k h b))

@@ -1,9 +1,8 @@
--- What is tried before a search: a leaf that begins the window, and an alphabet digit that was found before.
+-- What is tried before a search: an alphabet digit that was found before.
 use mathlib.Core.Path.{_≡_, refl, sym, ap, subst, _∙_}
 use mathlib.Core.List.{List}
-use Prim.Native.Nat.{ℕ, _+_, _<_, _≤_}
+use Prim.Native.Nat.{ℕ, _<_, _≤_}
 use native.Mathlib.Decide.{decLt, ℕ-discrete}
-use native.Mathlib.Numerals.{add-one}
 use native.Mathlib.Omega.{arith}
 use lib.ListN.{length, getD, set, replicate, length-set, List·getD-eq-default}
 use lib.Seq.{getD-set-same, getD-set-other}
@@ -11,28 +10,9 @@ use lib.IntN.{ℤ}
 use Rattle.ring.specs.Tests.{same}
 use Rattle.digit_rules.specs.Record.{recordAt, elementCount}
 use Rattle.digit_rules.proofs.Index.{index-is, index-first}
-use Rattle.numeration.specs.Code.{Begins}
-use Rattle.numeration.specs.Conversion.{window, weightInto}
-use Rattle.numeration.proofs.Leaves.{ordered-separate, leafOf-unique}
-use Rattle.leaf_rules.specs.Leaf.{leafCount, codeOf}
-use Rattle.leaf_rules.specs.Given.{weightGiven}
-use Rattle.leaf_rules.proofs.Leaf.{weight-there}
 use Rattle.place_rules.specs.Place.{alphabetIndex}
-use Rattle.place_rules.specs.Helpers.{Begun}
 use Rattle.places.specs.Helpers.{Firsts}
 use Rattle.lists.proofs.Entries.{zeros-at}
-
--- the first digit of the window below the next place
-pub window-first : (row : List ℕ) (j : ℕ) → getD row j 0 ≡ window row (j + 1) 0
-unfolding window
-window-first row j = rw (add-one j, window)
-
--- a leaf that begins the window has the weight into the place
-pub weight-begun : (leaves words row : List ℕ) → Begun leaves words row → (j k : ℕ) → k < leafCount leaves → Begins (codeOf leaves words) k (window row j) → weightGiven leaves k ≡ weightInto (codeOf leaves words) row j
-unfolding weightInto
-weight-begun leaves words row is j k h b =
-    let c = codeOf leaves words in
-    sym (weight-there leaves k h) ∙ ap (c .weight) (sym (leafOf-unique c (ordered-separate c (is .sorted .ordered)) (window row j) k h b))
 
 module _ (alphabet : List ℕ) where
   abbrev IsFirst : ℕ → Type 0

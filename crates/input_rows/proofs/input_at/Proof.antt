@@ -1,7 +1,7 @@
 -- What stands at the pair after the test is the index of the sum, looked for now or before.
-use Rattle.places.proofs.Known.{looked-for, stood-there}
+use Rattle.input_rows.proofs.Known.{looked-for, stood-there}
 use Rattle.place_rules.proofs.Place.{sum-index-high}
-use Rattle.places.specs.Helpers.{Known}
+use Rattle.input_rows.specs.Known.{Known}
 use Rattle.digit_rules.specs.Digits.{sumIndex}
 use lib.ListN.{getD}
 use native.Mathlib.Omega.{arith}
@@ -9,10 +9,10 @@ use Prim.Native.Nat.{_*_, _+_, _<_}
 use mathlib.Core.Logic.{⊎-elim}
 use mathlib.Core.Path.{_≡_, sym, ap₂, _∙_}
 use borrow.Author.Needs.{needs}
-use Rattle.places.proofs.input_at.Statement.{statement}
-use Rattle.places.proofs.input_at.Tie as tie
-use Rattle.places.proofs.input_at.Reads as reads
-use Rattle.places.proofs.input_at.Lts as lts
+use Rattle.input_rows.proofs.input_at.Statement.{statement}
+use Rattle.input_rows.proofs.input_at.Tie as tie
+use Rattle.input_rows.proofs.input_at.Reads as reads
+use Rattle.input_rows.proofs.input_at.Lts as lts
 use Rattle.digits.proofs.sum_index.Reads as sum-index-reads
 use Rattle.rows.proofs.byte_at.Reads as byte-at-reads
 

@@ -2,8 +2,8 @@
 use mathlib.Core.Path.{_∙_}
 use Rattle.place_rules.proofs.Place.{window-outside, window-inside}
 use borrow.Author.Needs.{needs}
-use Rattle.places.proofs.digit_below.Statement.{statement}
-use Rattle.places.proofs.digit_below.Tie as tie
+use Rattle.place_weights.proofs.digit_below.Statement.{statement}
+use Rattle.place_weights.proofs.digit_below.Tie as tie
 
 returns : tie.Need-returns
 returns c = window-outside (c .before .before .args .row .now) (c .before .before .args .place) (c .before .before .args .k) (c .if1 .taken)

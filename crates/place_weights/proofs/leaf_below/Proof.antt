@@ -1,13 +1,13 @@
 -- The guessed leaf where it begins the window, else the one that the search finds: either has the weight into the place.
-use Rattle.places.proofs.Tried.{weight-begun}
+use Rattle.place_rules.proofs.Place.{weight-begun}
 use Rattle.place_rules.proofs.Place.{weight-found}
 use Rattle.leaf_rules.specs.Window.{LookedUp}
 use Rattle.leaf_rules.specs.Leaf.{codeOf}
 use mathlib.Core.Path.{subst}
 use native.Mathlib.Omega.{arith}
 use borrow.Author.Needs.{needs}
-use Rattle.places.proofs.leaf_below.Statement.{statement}
-use Rattle.places.proofs.leaf_below.Tie as tie
+use Rattle.place_weights.proofs.leaf_below.Statement.{statement}
+use Rattle.place_weights.proofs.leaf_below.Tie as tie
 
 -- src/lib.rt:158:15
 leaf-count-requires : tie.Need-leaf-count-requires

@@ -7,8 +7,8 @@ use lib.ListN.{getD}
 use native.Mathlib.Omega.{arith}
 use native.Mathlib.Nat.{add-zero}
 use Prim.Native.Nat.{ℕ, _+_, _-_, _<_, _≤_}
-use Rattle.places.proofs.begins_below.Statement.{statement}
-use Rattle.places.proofs.begins_below.Tie as tie
+use Rattle.place_weights.proofs.begins_below.Statement.{statement}
+use Rattle.place_weights.proofs.begins_below.Tie as tie
 
 abbrev Inv-loop : tie.InvT-loop
 Inv-loop leaves words row place first leaf start n k₀ k = (1 ≤ k) × ((i : ℕ) → i < k → getD words (start + i) 0 ≡ window row place i)

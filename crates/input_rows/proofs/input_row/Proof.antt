@@ -1,19 +1,19 @@
 -- The places passed have their input indexes, and what is known stays true.
 use Rattle.place_rules.proofs.Part.{row-start, row-next}
-use Rattle.places.proofs.Known.{known-none}
+use Rattle.input_rows.proofs.Known.{known-none}
 use Rattle.place_rules.specs.Place.{inputAt}
 use Rattle.place_rules.specs.Helpers.{partRow}
-use Rattle.places.specs.Helpers.{Known}
+use Rattle.input_rows.specs.Known.{Known}
 use Rattle.row_rules.specs.Changed.{changed}
 use native.Mathlib.Omega.{arith}
 use native.Mathlib.Nat.{le-antisymm}
 use Prim.Native.Nat.{_≤_, _-_}
 use mathlib.Core.Path.{_≡_, ap, sym, _∙_}
-use Rattle.places.proofs.input_row.Statement.{statement}
-use Rattle.places.proofs.input_row.Tie as tie
-use Rattle.places.proofs.input_row.Reads as reads
-use Rattle.places.proofs.input_row.Lts as lts
-use Rattle.places.proofs.input_at.Reads as input-at-reads
+use Rattle.input_rows.proofs.input_row.Statement.{statement}
+use Rattle.input_rows.proofs.input_row.Tie as tie
+use Rattle.input_rows.proofs.input_row.Reads as reads
+use Rattle.input_rows.proofs.input_row.Lts as lts
+use Rattle.input_rows.proofs.input_at.Reads as input-at-reads
 
 abbrev Inv-loop : tie.InvT-loop
 Inv-loop alphabet inputs change first second from end row₀ known₀ place₀ row known place = (from ≤ place) × (place ≤ end) × (row ≡ partRow (inputAt alphabet inputs (changed change 0 first) (changed change 1 second)) from place) × Known alphabet inputs known

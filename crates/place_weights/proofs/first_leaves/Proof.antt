@@ -2,8 +2,8 @@
 use borrow.Author.Needs.{needs}
 use native.Mathlib.Omega.{arith}
 use Prim.Native.Nat.{_≤_, _-_}
-use Rattle.places.proofs.first_leaves.Statement.{statement}
-use Rattle.places.proofs.first_leaves.Tie as tie
+use Rattle.place_weights.proofs.first_leaves.Statement.{statement}
+use Rattle.place_weights.proofs.first_leaves.Tie as tie
 
 abbrev Inv-loop : tie.InvT-loop
 Inv-loop leaves words inputs starts₀ digit₀ starts digit = digit ≤ inputs

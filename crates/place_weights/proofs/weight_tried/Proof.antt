@@ -1,8 +1,8 @@
 -- The weight of a leaf that begins the window is the weight into the place.
 use mathlib.Core.Path.{_∙_}
 use borrow.Author.Needs.{needs}
-use Rattle.places.proofs.weight_tried.Statement.{statement}
-use Rattle.places.proofs.weight_tried.Tie as tie
+use Rattle.place_weights.proofs.weight_tried.Statement.{statement}
+use Rattle.place_weights.proofs.weight_tried.Tie as tie
 
 -- src/lib.rt:198:9
 window-slot-requires : tie.Need-window-slot-requires

@@ -4,8 +4,8 @@ use Rattle.leaf_rules.specs.Window.{LookedUp}
 use Rattle.leaf_rules.specs.Leaf.{codeOf}
 use Rattle.place_rules.proofs.Place.{weight-found}
 use borrow.Author.Needs.{needs}
-use Rattle.places.proofs.weight_into.Statement.{statement}
-use Rattle.places.proofs.weight_into.Tie as tie
+use Rattle.place_weights.proofs.weight_into.Statement.{statement}
+use Rattle.place_weights.proofs.weight_into.Tie as tie
 
 window-below-requires : tie.Need-window-below-requires
 window-below-requires c κs = search needs

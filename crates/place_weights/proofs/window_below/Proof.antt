@@ -2,8 +2,8 @@
 use mathlib.Core.List.{[], _∷_}
 use Rattle.lists.specs.Span.{span}
 use borrow.Author.Needs.{needs}
-use Rattle.places.proofs.window_below.Statement.{statement}
-use Rattle.places.proofs.window_below.Tie as tie
+use Rattle.place_weights.proofs.window_below.Statement.{statement}
+use Rattle.place_weights.proofs.window_below.Tie as tie
 
 digit-below-requires : tie.Need-digit-below-requires
 digit-below-requires c κs = search needs

@@ -7,7 +7,7 @@ use native.Mathlib.Omega.{arith}
 use lib.ListN.{getD, set, length-set, length-replicate, getD-replicate}
 use lib.Seq.{getD-set-same, getD-set-other}
 use Rattle.digit_rules.specs.Digits.{sumIndex}
-use Rattle.places.specs.Helpers.{Known}
+use Rattle.input_rows.specs.Known.{Known}
 
 module _ (alphabet inputs : List ℕ) where
   pub known-none : Known alphabet inputs (replicate 256 255)

@@ -1,0 +1,171 @@
+// The weight that a place gets from below: the window of input indexes below it, and the leaf that begins the window.
+ghost use mathlib.Core.Path.{_≡_};
+ghost use mathlib.Core.Bool.{true};
+ghost use Prim.Native.Nat.{_+_, _<_};
+ghost use Rattle.lists.specs.Span.{span};
+ghost use Rattle.ring.specs.Tests.{Within};
+ghost use Rattle.numeration.specs.Code.{Begins};
+ghost use Rattle.numeration.specs.Conversion.{window, weightInto};
+ghost use Rattle.leaf_rules.specs.Leaf.{leafCount, codeOf};
+ghost use Rattle.leaf_rules.specs.Given.{weightGiven};
+ghost use Rattle.place_rules.specs.Helpers.{Begun};
+
+// The slots that leaves are kept in by the windows they begin, and one more than the first digits of windows.
+pub const WINDOWS: usize = 256;
+
+pub const STARTS: usize = 257;
+
+// Digit k of the window below a place; 0 outside the row.
+fn digit_below(row: &[u8], place: usize, k: usize) -> u8
+    ensures { λ r. ⌜ r ≡ window (now (row .entry)) place k ⌝ }
+{
+    if place <= k {
+        return 0;
+    }
+    octets::byte_at(row, place - k - 1)
+}
+
+// The eight input indexes below a place, read downward.
+fn window_below(row: &[u8], place: usize) -> [u8; 8]
+    ensures { λ r. ⌜ r ≡ span (window (now (row .entry)) place) 0 8 ⌝ }
+{
+    [
+        digit_below(row, place, 0),
+        digit_below(row, place, 1),
+        digit_below(row, place, 2),
+        digit_below(row, place, 3),
+        digit_below(row, place, 4),
+        digit_below(row, place, 5),
+        digit_below(row, place, 6),
+        digit_below(row, place, 7),
+    ]
+}
+
+// The weight that a place gets from below.
+pub fn weight_into(leaves: &[u8], words: &[u8], row: &[u8], place: usize) -> [i64; 2]
+    requires { ⌜ Begun (now leaves) (now words) (now row) ⌝ }
+    ensures weight { λ r. ⌜ r ≡ weightInto (codeOf (now (leaves .entry)) (now (words .entry))) (now (row .entry)) place ⌝ }
+    ensures within { λ r. ⌜ Within 32768 r ⌝ }
+{
+    leaves::weight(
+        leaves,
+        leaves::look_up(leaves, words, window_below(row, place)),
+    )
+}
+
+// Whether a leaf's word begins the window below a place, of which the first digit is given.
+fn begins_below(
+    leaves: &[u8],
+    words: &[u8],
+    row: &[u8],
+    place: usize,
+    first: u8,
+    leaf: usize,
+) -> bool
+    requires { ⌜ (leaf < leafCount (now leaves)) × (first ≡ window (now row) place 0) ⌝ }
+    ensures { λ r. ⌜ (r ≡ true → Begins (codeOf (now (leaves .entry)) (now (words .entry))) leaf (window (now (row .entry)) place)) ⌝ }
+{
+    let start = leaves::word_start(leaves, leaf);
+    if octets::byte_at(words, start) != first {
+        return false;
+    }
+    let n = leaves::word_length(leaves, leaf);
+    let mut k = 1;
+    while k < n {
+        if octets::byte_at(words, start + k) != digit_below(row, place, k) {
+            return false;
+        }
+        k += 1;
+    }
+    true
+}
+
+// The leaf that begins the window below a place: the guessed one where it does, else by a search of the leaves from one up to another, or of
+// all where that doesn't help.
+fn leaf_below(
+    leaves: &[u8],
+    words: &[u8],
+    row: &[u8],
+    place: usize,
+    first: u8,
+    guess: u16,
+    low: u16,
+    high: u16,
+) -> usize
+    requires { ⌜ Begun (now leaves) (now words) (now row) × (first ≡ window (now row) place 0) ⌝ }
+    ensures { λ r. ⌜ weightGiven (now (leaves .entry)) r ≡ weightInto (codeOf (now (leaves .entry)) (now (words .entry))) (now (row .entry)) place ⌝ }
+{
+    let leaf = guess as usize;
+    if leaf < leaves::leaf_count(leaves) {
+        if begins_below(leaves, words, row, place, first, leaf) {
+            return leaf;
+        }
+    }
+    leaves::look_up_within(
+        leaves,
+        words,
+        window_below(row, place),
+        low as usize,
+        high as usize,
+    )
+}
+
+// The slot of the window below a place: by its first digit where no word has more, else by the first two.
+fn window_slot(row: &[u8], place: usize, first: u8, single: bool) -> usize
+    ensures { λ r. ⌜ r < 256 ⌝ }
+{
+    let mut slot = first as usize;
+    if !single {
+        slot += 16 * digit_below(row, place, 1) as usize;
+    }
+    slot % WINDOWS
+}
+
+// The weight that a place gets from below. The leaf that was found last for a window of the same slot is tried before the search, which is
+// among the leaves with the window's first digit.
+pub fn weight_tried(
+    leaves: &[u8],
+    words: &[u8],
+    row: &[u8],
+    place: usize,
+    first: u8,
+    single: bool,
+    starts: &[u16; STARTS],
+    found: &mut [u16; WINDOWS],
+) -> [i64; 2]
+    requires { ⌜ Begun (now leaves) (now words) (now row) × (first ≡ window (now row) place 0) ⌝ }
+    ensures weight { λ r. ⌜ r ≡ weightInto (codeOf (now (leaves .entry)) (now (words .entry))) (now (row .entry)) place ⌝ }
+    ensures within { λ r. ⌜ Within 32768 r ⌝ }
+{
+    let slot = window_slot(row, place, first, single);
+    let digit = octets::wide(first);
+    let leaf = leaf_below(
+        leaves,
+        words,
+        row,
+        place,
+        first,
+        found[slot],
+        starts[digit],
+        starts[digit + 1],
+    );
+    found[slot] = (leaf % 65536) as u16;
+    leaves::weight(leaves, leaf)
+}
+
+// For each first digit below a count the leaf that begins a window of it and zeros, which is the first with that digit, and behind them
+// the leaf count. The search of a window tries them, so that nothing depends on what they are.
+pub fn first_leaves(leaves: &[u8], words: &[u8], inputs: usize) -> [u16; STARTS] {
+    let mut starts = [0u16; STARTS];
+    if 255 < inputs {
+        return starts;
+    }
+    let mut digit = 0;
+    while digit < inputs {
+        let leaf = leaves::look_up(leaves, words, [digit as u8, 0, 0, 0, 0, 0, 0, 0]);
+        starts[digit] = (leaf % 65536) as u16;
+        digit += 1;
+    }
+    starts[inputs] = (leaves::leaf_count(leaves) % 65536) as u16;
+    starts
+}
