@@ -7,7 +7,7 @@ use crate::tables;
 // `LABEL LINE`; the line ends itself.
 fn shown(label: &[u8], file: &[u8]) {
     let mut line = [0u8; 128];
-    let written = table::check_line(file, &mut line);
+    let written = line::check_line(file, &mut line);
     output::word(label);
     output::word(&line[..written]);
 }

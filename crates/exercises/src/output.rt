@@ -40,14 +40,14 @@ pub fn buffer(bytes: &[u8])
     requires { ⌜ length (now bytes) ≤ 260 ⌝ }
 {
     let mut out = [b' '; 522];
-    let end = text::put_hex(&mut out, 1, bytes);
+    let end = fault_text::put_hex(&mut out, 1, bytes);
     written(&out, end);
 }
 
 // A space and a fault.
 pub fn refused(fault: Fault) {
     let mut out = [b' '; 65];
-    let end = text::put_fault(&mut out, 1, fault);
+    let end = fault_text::put_fault(&mut out, 1, fault);
     written(&out, end);
 }
 

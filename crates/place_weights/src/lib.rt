@@ -49,7 +49,7 @@ pub fn weight_into(leaves: &[u8], words: &[u8], row: &[u8], place: usize) -> [i6
 {
     leaves::weight(
         leaves,
-        leaves::look_up(leaves, words, window_below(row, place)),
+        look_up::look_up(leaves, words, window_below(row, place)),
     )
 }
 
@@ -101,7 +101,7 @@ fn leaf_below(
             return leaf;
         }
     }
-    leaves::look_up_within(
+    look_up::look_up_within(
         leaves,
         words,
         window_below(row, place),
@@ -162,7 +162,7 @@ pub fn first_leaves(leaves: &[u8], words: &[u8], inputs: usize) -> [u16; STARTS]
     }
     let mut digit = 0;
     while digit < inputs {
-        let leaf = leaves::look_up(leaves, words, [digit as u8, 0, 0, 0, 0, 0, 0, 0]);
+        let leaf = look_up::look_up(leaves, words, [digit as u8, 0, 0, 0, 0, 0, 0, 0]);
         starts[digit] = (leaf % 65536) as u16;
         digit += 1;
     }

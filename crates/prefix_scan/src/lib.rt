@@ -101,7 +101,7 @@ fn precedes(leaves: &[u8], words: &[u8], leaf: usize) -> bool
         leaves::word_length(leaves, leaf),
         leaves::word_length(leaves, leaf + 1),
     );
-    leaves::lower(words, a, words, b, n)
+    look_up::lower(words, a, words, b, n)
 }
 
 // Rule 11: the words rise, and none begins another.

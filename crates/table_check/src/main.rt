@@ -4,6 +4,6 @@ fn main() {
     let mut file = io::large_buffer();
     let n = io::read_full(libc::STDIN_FILENO, &mut file);
     let mut line = [0u8; 128];
-    let written = table::check_line(&file[..n], &mut line);
+    let written = line::check_line(&file[..n], &mut line);
     io::write_all(libc::STDOUT_FILENO, &line[..written]);
 }

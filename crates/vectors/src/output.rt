@@ -23,7 +23,7 @@ pub fn table_bytes(file: &[u8]) -> bool
 {
     let mut out = [0u8; 512];
     let bytes = octets::put(&mut out, 0, b"table ");
-    let end = text::put_hex(&mut out, bytes, file);
+    let end = fault_text::put_hex(&mut out, bytes, file);
     line(&mut out, end)
 }
 
@@ -32,14 +32,14 @@ pub fn checked(answer: Checked) -> bool {
     let mut out = [0u8; 128];
     match answer {
         Checked::Accepted(_) => {
-            let written = table::line(answer, &mut out);
+            let written = line::line(answer, &mut out);
             if 128 < written {
                 return false;
             }
             io::write_all(libc::STDOUT_FILENO, &out[..written])
         }
         Checked::Refused(fault) => {
-            let end = text::put_fault(&mut out, 0, fault);
+            let end = fault_text::put_fault(&mut out, 0, fault);
             line(&mut out, end)
         }
     }
@@ -51,7 +51,7 @@ fn put_buffer(out: &mut [u8], at: usize, buffer: &[u8]) -> usize
     ensures { λ r. ⌜ r ≤ at + 2 * length (now (buffer .entry)) + 2 ⌝ }
 {
     out[at] = b' ';
-    text::put_hex(out, at + 1, buffer)
+    fault_text::put_hex(out, at + 1, buffer)
 }
 
 // Ends a line with a whole buffer, behind what says how the call ended. That is never over 64 bytes; the test makes it plain.
@@ -96,7 +96,7 @@ pub fn added(answer: Added, sum: &[u8]) -> bool
             with_buffer(&mut out, end, sum)
         }
         Added::Refused(fault) => {
-            let end = text::put_fault(&mut out, 0, fault);
+            let end = fault_text::put_fault(&mut out, 0, fault);
             with_buffer(&mut out, end, sum)
         }
     }
@@ -113,7 +113,7 @@ pub fn edited(answer: Edited, first: &[u8], second: &[u8], sum: &[u8]) -> bool
             with_rows(&mut out, end, first, second, sum)
         }
         Edited::Refused(fault) => {
-            let end = text::put_fault(&mut out, 0, fault);
+            let end = fault_text::put_fault(&mut out, 0, fault);
             with_rows(&mut out, end, first, second, sum)
         }
     }
@@ -137,7 +137,7 @@ pub fn valued(answer: Valued) -> bool {
         Valued::Value(x) => parts(b"value ", x),
         Valued::Refused(fault) => {
             let mut out = [0u8; 128];
-            let end = text::put_fault(&mut out, 0, fault);
+            let end = fault_text::put_fault(&mut out, 0, fault);
             line(&mut out, end)
         }
     }

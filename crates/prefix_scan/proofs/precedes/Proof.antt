@@ -2,7 +2,7 @@
 use mathlib.Core.Path.{_∙_, ap₂}
 use Prim.Native.Nat.{min}
 use borrow.Author.Needs.{needs}
-use Rattle.leaves.proofs.Comparison.{words-read}
+use Rattle.look_up.proofs.Comparison.{words-read}
 use Rattle.prefix_scan.proofs.precedes.Statement.{statement}
 use Rattle.prefix_scan.proofs.precedes.Tie as tie
 
