@@ -1,9 +1,9 @@
 // Edits. An edit is a row number, a place and an alphabet index.
 ghost use Prim.Native.Nat.{_≤_};
 ghost use lib.ListN.{length};
-use crate::additions;
-use crate::output;
-use crate::tables;
+use exercise_calls::additions;
+use exercise_calls::output;
+use exercise_calls::tables;
 
 // 24, 25 and 26 each alone, then where a later rule is broken too; the largest numbers; digits whose lowest byte is an index.
 const REFUSED: [[usize; 3]; 9] = [

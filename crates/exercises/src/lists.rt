@@ -1,8 +1,8 @@
 // Lists of edits through the runner: check, addition and each edit in turn.
 ghost use Prim.Native.Nat.{_≤_};
 ghost use lib.ListN.{length};
-use crate::output;
-use crate::tables;
+use exercise_calls::output;
+use exercise_calls::tables;
 use runner::Ran;
 
 // M8 after its addition; 24, 25 and 26; another that is taken.

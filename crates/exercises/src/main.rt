@@ -1,13 +1,13 @@
 // The program `exercises`: M1 to M12 of document 01 and further cases through the public calls, a line for each. A digit is written
 // as the byte that it is in a row: its alphabet index, two hexadecimal digits.
-mod additions;
-mod arithmetic;
+use exercise_calls::additions;
+use exercise_calls::arithmetic;
+use exercise_calls::lines;
+use exercise_calls::tables;
+use exercise_calls::values;
+
 mod changes;
-mod lines;
 mod lists;
-mod output;
-mod tables;
-mod values;
 
 // M1 to M12
 fn marked() {

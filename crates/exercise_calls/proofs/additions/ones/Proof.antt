@@ -4,8 +4,8 @@ use mathlib.Core.Path.{sym}
 use lib.Seq.{length-take-le}
 use native.Mathlib.Omega.{arith}
 use borrow.Author.Needs.{needs}
-use Rattle.exercises.proofs.additions.ones.Statement.{statement}
-use Rattle.exercises.proofs.additions.ones.Tie as tie
+use Rattle.exercise_calls.proofs.additions.ones.Statement.{statement}
+use Rattle.exercise_calls.proofs.additions.ones.Tie as tie
 
 array-share-prefix-first : tie.Need-array-share-prefix-first
 array-share-prefix-first c = search needs

@@ -3,8 +3,8 @@ use mathlib.Core.Path.{sym}
 use lib.Seq.{length-take-le}
 use native.Mathlib.Omega.{arith}
 use borrow.Author.Needs.{needs}
-use Rattle.exercises.proofs.lines.shown.Statement.{statement}
-use Rattle.exercises.proofs.lines.shown.Tie as tie
+use Rattle.exercise_calls.proofs.lines.shown.Statement.{statement}
+use Rattle.exercise_calls.proofs.lines.shown.Tie as tie
 
 slice-aggregate-check-line : tie.Need-slice-aggregate-check-line
 slice-aggregate-check-line c = search needs

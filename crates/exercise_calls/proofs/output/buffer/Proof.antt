@@ -2,8 +2,8 @@
 use Rattle.text_rules.proofs.Hex.{length-hex}
 use native.Mathlib.Omega.{arith}
 use borrow.Author.Needs.{needs}
-use Rattle.exercises.proofs.output.buffer.Statement.{statement}
-use Rattle.exercises.proofs.output.buffer.Tie as tie
+use Rattle.exercise_calls.proofs.output.buffer.Statement.{statement}
+use Rattle.exercise_calls.proofs.output.buffer.Tie as tie
 
 slice-aggregate-put-hex : tie.Need-slice-aggregate-put-hex
 slice-aggregate-put-hex c = search needs

@@ -3,8 +3,8 @@ use mathlib.Core.Path.{sym}
 use lib.Seq.{length-take-le}
 use native.Mathlib.Omega.{arith}
 use borrow.Author.Needs.{needs}
-use Rattle.exercises.proofs.values.tern_row.Statement.{statement}
-use Rattle.exercises.proofs.values.tern_row.Tie as tie
+use Rattle.exercise_calls.proofs.values.tern_row.Statement.{statement}
+use Rattle.exercise_calls.proofs.values.tern_row.Tie as tie
 
 array-share-prefix-row : tie.Need-array-share-prefix-row
 array-share-prefix-row c = search needs

@@ -2,8 +2,8 @@
 use mathlib.Core.Path.{sym}
 use lib.Seq.{length-take-le}
 use borrow.Author.Needs.{needs}
-use Rattle.exercises.proofs.output.written.Statement.{statement}
-use Rattle.exercises.proofs.output.written.Tie as tie
+use Rattle.exercise_calls.proofs.output.written.Statement.{statement}
+use Rattle.exercise_calls.proofs.output.written.Tie as tie
 
 slice-aggregate-word : tie.Need-slice-aggregate-word
 slice-aggregate-word c = sym (length-take-le _ (c .before .before .before .args .out .now) (c .before .if1 .taken))

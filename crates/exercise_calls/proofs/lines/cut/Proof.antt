@@ -3,8 +3,8 @@ use mathlib.Core.Path.{sym}
 use lib.Seq.{length-take-le}
 use native.Mathlib.Omega.{arith}
 use borrow.Author.Needs.{needs}
-use Rattle.exercises.proofs.lines.cut.Statement.{statement}
-use Rattle.exercises.proofs.lines.cut.Tie as tie
+use Rattle.exercise_calls.proofs.lines.cut.Statement.{statement}
+use Rattle.exercise_calls.proofs.lines.cut.Tie as tie
 
 slice-aggregate-shown : tie.Need-slice-aggregate-shown
 slice-aggregate-shown c = sym (length-take-le _ _ (omega arith))

@@ -2,8 +2,8 @@
 use Rattle.text_rules.proofs.Decimal.{decimal-short}
 use native.Mathlib.Omega.{arith}
 use borrow.Author.Needs.{needs}
-use Rattle.exercises.proofs.output.item.Statement.{statement}
-use Rattle.exercises.proofs.output.item.Tie as tie
+use Rattle.exercise_calls.proofs.output.item.Statement.{statement}
+use Rattle.exercise_calls.proofs.output.item.Tie as tie
 
 word-requires : tie.Need-word-requires
 word-requires c κs = search needs

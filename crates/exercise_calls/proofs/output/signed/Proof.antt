@@ -9,8 +9,8 @@ use Rattle.text_rules.specs.Decimal.{decimalZ}
 use Rattle.text_rules.proofs.Decimal.{decimal-short}
 use native.Mathlib.Omega.{arith}
 use borrow.Author.Needs.{needs}
-use Rattle.exercises.proofs.output.signed.Statement.{statement}
-use Rattle.exercises.proofs.output.signed.Tie as tie
+use Rattle.exercise_calls.proofs.output.signed.Statement.{statement}
+use Rattle.exercise_calls.proofs.output.signed.Tie as tie
 
 short : (z : ℤ) → SFits w32 z → length (decimalZ z) ≤ 11
 unfolding decimalZ

@@ -5,15 +5,15 @@ use lib.IntN.{ℤ, natAbs}
 use mir.Val.{SFits, toZ, ofZ}
 use mir.ValLaws.{toZ-ofZ}
 use Rattle.ring.specs.Tests.{BaseLimits, Within}
-use Rattle.exercises.proofs.Product.{within-more, rows-more, entries, product-within}
+use Rattle.exercise_calls.proofs.Product.{within-more, rows-more, entries, product-within}
 use Rattle.ring.proofs.Parts.{entry, within-two}
 use Rattle.integers.proofs.Machine.{plain-fits, stored-is}
 use mir.Syntax.{w32, w64}
 use mathlib.Core.Path.{refl}
 use native.Mathlib.Omega.{arith}
 use borrow.Author.Needs.{needs}
-use Rattle.exercises.proofs.arithmetic.product.Statement.{statement}
-use Rattle.exercises.proofs.arithmetic.product.Tie as tie
+use Rattle.exercise_calls.proofs.arithmetic.product.Statement.{statement}
+use Rattle.exercise_calls.proofs.arithmetic.product.Tie as tie
 
 -- a number as it is read back from its bits
 held : (n : ℕ) (z : ℤ) → SFits w64 z → natAbs z ≤ n → natAbs (toZ w64 (ofZ w64 z)) ≤ n
