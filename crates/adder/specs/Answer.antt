@@ -1,5 +1,6 @@
 -- The answer of addition ("Who sends a fault" of document 01): "of addition, n + h".
-use Rattle.faults.specs.Outcome.{Outcome, facts, refusedBy}
+use Rattle.faults.specs.Outcome.{Outcome, facts}
+use Rattle.faults.specs.Stated.{refusedBy}
 use Rattle.adder_rules.specs.declared.AddedFacts.{AddedFacts}
 use Rattle.adder.specs.declared.Added.{Added}
 use Rattle.adder.specs.declared.Added.the-variants.{Sum, Refused}

@@ -24,7 +24,8 @@ use Rattle.numeration.specs.Elements.{elements}
 use Rattle.numeration.specs.Value.{value}
 use Rattle.numeration.proofs.Laws.{same-value}
 use Rattle.numeration.proofs.Sums.{value-sum}
-use Rattle.reader_rules.specs.Table.{basePart, alphabetPart, inputPart, leafPart, wordPart, tableFacts, operationsOf, inputCount, leavesIn, valueOf}
+use Rattle.reader_rules.specs.Table.{basePart, alphabetPart, inputPart, leafPart, wordPart, operationsOf, inputCount, leavesIn, valueOf}
+use Rattle.reader_rules.specs.Facts.{tableFacts}
 use Rattle.reader_rules.specs.Check.{tableCheck}
 use Rattle.reader_rules.proofs.Formed.{well-formed}
 use Rattle.reader_rules.proofs.Ready.{ready-passed}

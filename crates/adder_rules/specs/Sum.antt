@@ -5,7 +5,8 @@ use lib.ListN.{length}
 use lib.IntN.{ℤ}
 use Rattle.digit_rules.specs.Record.{recordAt, elementCount}
 use Rattle.numeration.specs.Conversion.{convert}
-use Rattle.reader_rules.specs.Table.{alphabetPart, inputPart, tableFacts, operationsOf, leavesIn}
+use Rattle.reader_rules.specs.Table.{alphabetPart, inputPart, operationsOf, leavesIn}
+use Rattle.reader_rules.specs.Facts.{tableFacts}
 
 module _ (file : List ℕ) where
   -- the alphabet's size, and n + h

@@ -7,7 +7,8 @@ use lib.IntN.{ℤ, pos}
 use lib.ListN.{length}
 use Rattle.lists.specs.Overwrite.{overwrite}
 use Rattle.faults.specs.declared.Fault.{Fault}
-use Rattle.faults.specs.Outcome.{Group, Outcome, facts, refused, refusedBy}
+use Rattle.faults.specs.Outcome.{Group, Outcome, facts, refused}
+use Rattle.faults.specs.Stated.{refusedBy}
 use Rattle.row_rules.specs.declared.Change.{Change}
 use Rattle.edit_rules.specs.State.{State}
 use Rattle.runner_rules.specs.Told.{groupsOf, numbersOf, valuesOf}

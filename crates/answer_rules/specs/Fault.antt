@@ -3,7 +3,8 @@ use mathlib.Core.List.{List, [], _∷_}
 use Prim.Native.Nat.{ℕ}
 use lib.IntN.{ℤ, pos}
 use Rattle.faults.specs.declared.Fault.{Fault}
-use Rattle.faults.specs.Outcome.{Group, groupNumber, whose, numberOf, placeOf}
+use Rattle.faults.specs.Outcome.{Group, groupNumber}
+use Rattle.faults.specs.Stated.{whose, numberOf, placeOf}
 use Rattle.answer_rules.specs.Word.{wordOf}
 
 -- the words of a fault: whose it is, its number and its place

@@ -17,7 +17,8 @@ use Rattle.faults.specs.Unless.{unless}
 use Rattle.faults.proofs.Exit.{exit-lent, exit-written}
 use Rattle.faults.proofs.Unless.{unless-found, unless-none}
 use Rattle.numeration.specs.Code.{Inputs}
-use Rattle.reader_rules.specs.Table.{tableFacts, inputCount}
+use Rattle.reader_rules.specs.Table.{inputCount}
+use Rattle.reader_rules.specs.Facts.{tableFacts}
 use Rattle.reader_rules.specs.Check.{tableCheck}
 use Rattle.reader_rules.proofs.Ready.{ready-passed}
 use Rattle.row_rules.specs.declared.Change.{Change}

@@ -3,7 +3,8 @@ use mathlib.Core.Path.{_≡_, refl}
 use Prim.Native.Nat.{ℕ, _<_}
 use native.Mathlib.Omega.{arith}
 use Rattle.faults.specs.declared.Fault.the-variants.{Author, Rows, Editor}
-use Rattle.faults.specs.Outcome.{Group, groupNumber, author, rows, editor, refused, refusedBy}
+use Rattle.faults.specs.Outcome.{Group, groupNumber, author, rows, editor, refused}
+use Rattle.faults.specs.Stated.{refusedBy}
 
 module _ {F : Type 0} (n p : ℕ) where
   -- a fault of the table's author

@@ -1,4 +1,5 @@
 pub mod Outcome
+pub mod Stated
 pub mod Check
 pub mod Rule
 pub mod Exact

@@ -7,7 +7,8 @@ use lib.ListN.{length}
 use borrow.Author.Tests.{lt-ltb, le-ltb}
 use Rattle.lists.specs.Overwrite.{overwrite}
 use Rattle.faults.specs.declared.Fault.{Fault}
-use Rattle.faults.specs.Outcome.{Outcome, numberOf, placeOf}
+use Rattle.faults.specs.Outcome.{Outcome}
+use Rattle.faults.specs.Stated.{numberOf, placeOf}
 use Rattle.table_rules.specs.declared.Facts.{Facts}
 use Rattle.line_rules.specs.Line.{refusedLine, lineOf, lineInto, lineCount}
 use Rattle.table.specs.declared.Checked.{Checked}

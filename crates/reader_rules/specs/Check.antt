@@ -3,7 +3,8 @@ use mathlib.Core.List.{List}
 use Prim.Native.Nat.{ℕ}
 use Rattle.faults.specs.declared.Refusal.{Refusal}
 use Rattle.faults.specs.Check.{_then_}
-use Rattle.faults.specs.Outcome.{Outcome, facts, author, refusedBy}
+use Rattle.faults.specs.Outcome.{Outcome, facts, author}
+use Rattle.faults.specs.Stated.{refusedBy}
 use Rattle.faults.specs.Unless.{unless}
 use Rattle.layout_rules.specs.Directory.{directoryCheck}
 use Rattle.layout_rules.specs.Length.{lengthCheck}
@@ -15,7 +16,8 @@ use Rattle.prefix_rules.specs.Check.{leafCheck}
 use Rattle.reader_rules.specs.declared.Table.{Table}
 use Rattle.reader_rules.specs.declared.Reading.{Reading}
 use Rattle.reader_rules.specs.declared.Reading.the-variants.{Facts, Refused}
-use Rattle.reader_rules.specs.Table.{basePart, alphabetPart, inputPart, leafPart, wordPart, tableFacts}
+use Rattle.reader_rules.specs.Table.{basePart, alphabetPart, inputPart, leafPart, wordPart}
+use Rattle.reader_rules.specs.Facts.{tableFacts}
 
 -- rules 1 to 4, 5 to 8, 9 to 13, and all of them in their order
 unfoldable pub layoutCheck : List ℕ → Refusal

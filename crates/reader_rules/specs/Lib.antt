@@ -1,4 +1,5 @@
 pub mod Table
+pub mod Facts
 pub mod Check
 pub mod Broken
 pub mod Formed

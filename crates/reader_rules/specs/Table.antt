@@ -1,13 +1,10 @@
--- A table as its file gives it (document 01, "Table file"): its sections, and the facts that addition, edit and value go by.
+-- A table as its file gives it (document 01, "Table file"): its sections, elements, leaves, and the value of a row.
 use mathlib.Core.List.{List, map}
 use Prim.Native.Nat.{ℕ}
-use Rattle.layout_rules.specs.Section.{degree, sectionStart, sectionEnd, partOf, recordCount}
+use Rattle.layout_rules.specs.Section.{degree, partOf}
 use Rattle.digit_rules.specs.Record.{elementCount, recordAt}
 use Rattle.numeration.specs.Code.{Code}
-use Rattle.numeration.specs.LeafOf.{depth}
 use Rattle.leaf_rules.specs.Leaf.{codeOf}
-use Rattle.reader_rules.specs.declared.Part.{Part}
-use Rattle.reader_rules.specs.declared.Table.{Table}
 use lib.IntN.{ℤ}
 use Rattle.digit_rules.specs.Base.{baseMatrix}
 use Rattle.numeration.specs.Group.{Operations}
@@ -29,22 +26,6 @@ leafPart file = partOf file 3
 
 abbrev pub wordPart : List ℕ → List ℕ
 wordPart file = partOf file 4
-
--- where a section lies, and how many records it has
-unfoldable pub partFacts : List ℕ → ℕ → Part
-partFacts file section =
-    record { start = sectionStart file section; end = sectionEnd file section; count = recordCount section (partOf file section) }
-
-unfoldable pub tableFacts : List ℕ → Table
-tableFacts file =
-    record {
-      base = partFacts file 0;
-      alphabet = partFacts file 1;
-      inputs = partFacts file 2;
-      leaves = partFacts file 3;
-      words = partFacts file 4;
-      depth = depth (codeOf (leafPart file) (wordPart file));
-    }
 
 -- the ring's elements with multiplication by the base, by the bytes of section 0
 abbrev pub system : List ℕ → Operations (List ℤ)

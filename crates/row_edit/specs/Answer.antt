@@ -1,5 +1,6 @@
 -- The answer of the edit ("Who sends a fault" of document 01): "of the edit, its count".
-use Rattle.faults.specs.Outcome.{Outcome, facts, refusedBy}
+use Rattle.faults.specs.Outcome.{Outcome, facts}
+use Rattle.faults.specs.Stated.{refusedBy}
 use Rattle.edit_rules.specs.declared.EditedFacts.{EditedFacts}
 use Rattle.row_edit.specs.declared.Edited.{Edited}
 use Rattle.row_edit.specs.declared.Edited.the-variants.{Count, Refused}

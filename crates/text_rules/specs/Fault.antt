@@ -2,7 +2,8 @@
 use mathlib.Core.List.{List, _++_}
 use Prim.Native.Nat.{ℕ}
 use Rattle.faults.specs.declared.Fault.{Fault}
-use Rattle.faults.specs.Outcome.{Group, author, rows, editor, whose, numberOf, placeOf}
+use Rattle.faults.specs.Outcome.{Group, author, rows, editor}
+use Rattle.faults.specs.Stated.{whose, numberOf, placeOf}
 use Rattle.text_rules.specs.Bytes.{bytesOf}
 use Rattle.text_rules.specs.Decimal.{decimal}
 

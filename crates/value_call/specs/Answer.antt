@@ -2,7 +2,8 @@
 use mathlib.Core.List.{List}
 use lib.IntN.{ℤ}
 use Rattle.midpoint.specs.Midpoint.{parts}
-use Rattle.faults.specs.Outcome.{Outcome, facts, refusedBy}
+use Rattle.faults.specs.Outcome.{Outcome, facts}
+use Rattle.faults.specs.Stated.{refusedBy}
 use Rattle.value_call.specs.declared.Valued.{Valued}
 use Rattle.value_call.specs.declared.Valued.the-variants.{Value, Refused}
 

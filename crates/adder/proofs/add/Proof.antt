@@ -5,12 +5,13 @@ use mathlib.Core.Path.{_≡_, sym, ap, _∙_}
 use Prim.Native.Nat.{_+_}
 use native.Mathlib.Omega.{arith}
 use lib.ListN.{length}
-use Rattle.faults.specs.Outcome.{rows, whose, numberOf, placeOf}
+use Rattle.faults.specs.Outcome.{rows}
+use Rattle.faults.specs.Stated.{whose, numberOf, placeOf}
 use Rattle.faults.specs.declared.Refusal.{Refusal}
 use Rattle.row_rules.proofs.Fit.{rows-fit}
 use Rattle.row_rules.specs.Check.{rowCheck}
 use Rattle.reader_rules.proofs.Answer.{Told, found-facts}
-use Rattle.reader_rules.specs.Table.{tableFacts}
+use Rattle.reader_rules.specs.Facts.{tableFacts}
 use Rattle.reader_rules.specs.Check.{readAs}
 use Rattle.adder_rules.specs.Sum.{digitCount}
 use Rattle.adder_rules.proofs.Sum.{table-refused, rows-refused, rows-passed, sum-lent, sum-by}

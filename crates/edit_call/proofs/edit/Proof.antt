@@ -2,13 +2,14 @@
 use mathlib.Core.Path.{_≡_, sym, ap, _∙_}
 use native.Mathlib.Omega.{arith}
 use lib.ListN.{length}
-use Rattle.faults.specs.Outcome.{rows, editor, whose, numberOf, placeOf}
+use Rattle.faults.specs.Outcome.{rows, editor}
+use Rattle.faults.specs.Stated.{whose, numberOf, placeOf}
 use Rattle.faults.specs.declared.Refusal.{Refusal}
 use Rattle.row_rules.specs.declared.Change.{Change}
 use Rattle.row_rules.specs.Check.{rowCheck, editCheck}
 use Rattle.row_rules.specs.Fit.{EditFits}
 use Rattle.row_rules.proofs.Fit.{rows-fit, edit-fits}
-use Rattle.reader_rules.specs.Table.{tableFacts}
+use Rattle.reader_rules.specs.Facts.{tableFacts}
 use Rattle.reader_rules.specs.Check.{readAs}
 use Rattle.reader_rules.proofs.Answer.{Told, found-facts}
 use Rattle.reader_rules.proofs.Ready.{ready-passed}

@@ -1,6 +1,5 @@
 -- The guessed leaf where it begins the window, else the one that the search finds: either has the weight into the place.
-use Rattle.place_rules.proofs.Place.{weight-begun}
-use Rattle.place_rules.proofs.Place.{weight-found}
+use Rattle.place_rules.proofs.Place.{weight-begun, weight-found}
 use Rattle.leaf_rules.specs.Window.{LookedUp}
 use Rattle.leaf_rules.specs.Leaf.{codeOf}
 use mathlib.Core.Path.{subst}

@@ -1,7 +1,6 @@
 -- Each turn writes the index of one digit and hands its weight on to the next place.
 use Rattle.places.proofs.Tried.{firsts-none}
-use Rattle.place_rules.proofs.Place.{window-first}
-use Rattle.place_rules.proofs.Place.{index-from}
+use Rattle.place_rules.proofs.Place.{window-first, index-from}
 use Rattle.places.proofs.Loop.{Converted, converted-start, converted-next, converted-here, converted-end}
 use Rattle.place_rules.specs.Place.{indexAt}
 use Rattle.places.specs.Helpers.{Firsts}

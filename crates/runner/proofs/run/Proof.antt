@@ -7,7 +7,7 @@ use Rattle.runner.specs.Answer.{outcomeOf}
 use Rattle.edit_rules.specs.Run.{Ran}
 use Rattle.edit_rules.specs.State.{state}
 use Rattle.faults.proofs.Exit.{exit-lent, exit-written}
-use Rattle.faults.specs.Outcome.{whose, numberOf, placeOf}
+use Rattle.faults.specs.Stated.{whose, numberOf, placeOf}
 use Rattle.lists.proofs.Overwrite.{overwrite-none}
 use Rattle.lists.specs.Overwrite.{overwrite}
 use Prim.Native.Nat.{min}

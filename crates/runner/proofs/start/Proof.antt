@@ -2,7 +2,8 @@
 use Rattle.runner_rules.proofs.Outcome.{check-refused, add-refused, both-passed}
 use Rattle.edit_rules.specs.State.{state}
 use Rattle.adder_rules.proofs.Sum.{sum-lent}
-use Rattle.faults.specs.Outcome.{atExit, whose, numberOf, placeOf}
+use Rattle.faults.specs.Outcome.{atExit}
+use Rattle.faults.specs.Stated.{whose, numberOf, placeOf}
 use Rattle.table.specs.Answer.{outcomeOf as checkedAs}
 use Rattle.adder.specs.Answer.{outcomeOf as addedAs}
 use mathlib.Core.Path.{refl, sym, ap, _∙_}

@@ -6,7 +6,8 @@ use Rattle.reader_rules.proofs.Kept.{stage-nothing}
 use Rattle.reader_rules.specs.Check.{readAs, tableCheck}
 use Rattle.faults.proofs.Unless.{unless-found, unless-none}
 use Rattle.faults.specs.Unless.{unless}
-use Rattle.faults.specs.Outcome.{facts, author, refused, whose, numberOf, placeOf}
+use Rattle.faults.specs.Outcome.{facts, author, refused}
+use Rattle.faults.specs.Stated.{whose, numberOf, placeOf}
 use Rattle.faults.specs.declared.Refusal.{Refusal}
 use mathlib.Core.Path.{sym, ap, _∙_}
 use borrow.Author.Needs.{needs}

@@ -3,7 +3,8 @@ use mathlib.Core.Path.{sym, ap, _∙_}
 use mathlib.Core.List.{List}
 use lib.IntN.{ℤ}
 use Rattle.faults.proofs.Unless.{unless-none}
-use Rattle.faults.specs.Outcome.{author, whose, numberOf, placeOf}
+use Rattle.faults.specs.Outcome.{author}
+use Rattle.faults.specs.Stated.{whose, numberOf, placeOf}
 use Rattle.reader_rules.proofs.Answer.{found-facts, read-fault}
 use Rattle.reader_rules.specs.Check.{readAs, tableCheck}
 use Rattle.value_call_rules.specs.Value.{rowOutcome, valueOutcome}
