@@ -7,7 +7,7 @@ ghost use Rattle.lists.specs.Overwrite.{overwrite};
 ghost use Rattle.faults.specs.Outcome.{atExit};
 ghost use Rattle.numeration.specs.Code.{Inputs};
 ghost use Rattle.reader_rules.specs.Table.{inputCount};
-ghost use Rattle.reader_rules.specs.Facts.{tableFacts};
+ghost use Rattle.reader_rules.specs.TableFacts.{tableFacts};
 ghost use Rattle.reader_rules.specs.Check.{tableCheck};
 ghost use Rattle.row_rules.specs.Changed.{changed};
 ghost use Rattle.row_rules.specs.Rows.{RowsFit};

@@ -15,7 +15,7 @@ use Rattle.faults.proofs.Unless.{unless-none, unless-found}
 use Rattle.faults.proofs.Exit.{facts-no-fault, one-fault}
 use Rattle.numeration.specs.Code.{Inputs}
 use Rattle.reader_rules.specs.Table.{inputCount}
-use Rattle.reader_rules.specs.Facts.{tableFacts}
+use Rattle.reader_rules.specs.TableFacts.{tableFacts}
 use Rattle.reader_rules.specs.Check.{tableCheck}
 use Rattle.reader_rules.proofs.Formed.{well-formed}
 use Rattle.reader_rules.proofs.Kept.{no-number}

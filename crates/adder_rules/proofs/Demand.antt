@@ -12,7 +12,7 @@ use Rattle.faults.proofs.Rule.{Decided, judge-decided}
 use Rattle.calls.specs.Answers.{Answers}
 use Rattle.calls.proofs.Answers.{told-end, told-unless, told-answers}
 use Rattle.reader_rules.specs.Table.{alphabetPart}
-use Rattle.reader_rules.specs.Facts.{tableFacts}
+use Rattle.reader_rules.specs.TableFacts.{tableFacts}
 use Rattle.reader_rules.proofs.Broken.{table-decided}
 use Rattle.row_rules.proofs.Broken.{rows-decided}
 use Rattle.table_rules.proofs.Demand.{listed-test}

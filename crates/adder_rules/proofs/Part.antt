@@ -14,7 +14,7 @@ use Rattle.lists.proofs.Scan.{scan-high, scan-ext}
 use Rattle.lists.proofs.Overwrite.{length-overwrite}
 use Rattle.faults.specs.Check.{refusal, none}
 use Rattle.faults.proofs.Check.{judge-broken, judge-kept}
-use Rattle.reader_rules.specs.Facts.{tableFacts}
+use Rattle.reader_rules.specs.TableFacts.{tableFacts}
 use Rattle.adder_rules.specs.Input.{rowIndex}
 use Rattle.adder_rules.specs.Add.{rowAllowed, rowPart, outputCheck}
 use Rattle.adder_rules.proofs.Rows.{same-index, same-allowed}

@@ -12,7 +12,7 @@ use Rattle.digit_rules.proofs.Formed.{sum-index-below}
 use Rattle.numeration.specs.Code.{Inputs}
 use Rattle.numeration.proofs.Windows.{convert-ext}
 use Rattle.reader_rules.specs.Table.{basePart, alphabetPart, inputPart, inputCount}
-use Rattle.reader_rules.specs.Facts.{tableFacts}
+use Rattle.reader_rules.specs.TableFacts.{tableFacts}
 use Rattle.reader_rules.specs.Check.{tableCheck}
 use Rattle.reader_rules.proofs.Formed.{well-formed}
 use Rattle.reader_rules.proofs.Ready.{ready-passed}

@@ -25,7 +25,7 @@ use Rattle.numeration.specs.Value.{value}
 use Rattle.numeration.proofs.Laws.{same-value}
 use Rattle.numeration.proofs.Sums.{value-sum}
 use Rattle.reader_rules.specs.Table.{basePart, alphabetPart, inputPart, leafPart, wordPart, operationsOf, inputCount, leavesIn, valueOf}
-use Rattle.reader_rules.specs.Facts.{tableFacts}
+use Rattle.reader_rules.specs.TableFacts.{tableFacts}
 use Rattle.reader_rules.specs.Check.{tableCheck}
 use Rattle.reader_rules.proofs.Formed.{well-formed}
 use Rattle.reader_rules.proofs.Ready.{ready-passed}

@@ -11,7 +11,7 @@ use Rattle.faults.specs.Check.{judge}
 use Rattle.faults.specs.Outcome.{Outcome, facts, author, rows, atExit}
 use Rattle.faults.specs.Unless.{unless}
 use Rattle.reader_rules.specs.Table.{alphabetPart, inputPart, leafPart, wordPart, operationsOf}
-use Rattle.reader_rules.specs.Facts.{tableFacts}
+use Rattle.reader_rules.specs.TableFacts.{tableFacts}
 use Rattle.reader_rules.specs.Check.{tableCheck}
 use Rattle.row_rules.specs.Check.{rowCheck}
 use Rattle.place_rules.specs.Place.{digitAllowed}

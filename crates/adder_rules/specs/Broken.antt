@@ -6,7 +6,7 @@ use Rattle.faults.specs.Rule.{Rule, rule}
 use Rattle.calls.specs.Answers.{Stage, stage}
 use Rattle.digit_rules.specs.Broken.{Listed}
 use Rattle.reader_rules.specs.Table.{alphabetPart}
-use Rattle.reader_rules.specs.Facts.{tableFacts}
+use Rattle.reader_rules.specs.TableFacts.{tableFacts}
 use Rattle.reader_rules.specs.Broken.{tableRules}
 use Rattle.row_rules.specs.Broken.{rowRules}
 use Rattle.adder_rules.specs.Sum.{digitCount, placeCount, rowDigit}

@@ -6,7 +6,7 @@ use lib.IntN.{ℤ}
 use Rattle.digit_rules.specs.Record.{recordAt, elementCount}
 use Rattle.numeration.specs.Conversion.{convert}
 use Rattle.reader_rules.specs.Table.{alphabetPart, inputPart, operationsOf, leavesIn}
-use Rattle.reader_rules.specs.Facts.{tableFacts}
+use Rattle.reader_rules.specs.TableFacts.{tableFacts}
 
 module _ (file : List ℕ) where
   -- the alphabet's size, and n + h

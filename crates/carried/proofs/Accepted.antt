@@ -28,7 +28,7 @@ use Rattle.numeration.specs.PairTests.{fits, pairDigitAt, pairString, pairRow, 
 use Rattle.prefix_rules.specs.Check.{expectedWordStart, leafAllowed, placeCheck, wordIndexCheck, orderCheck, coverCheck, zeroCheck, leafCheck}
 use Rattle.prefix_rules.specs.Coverage.{runEnd, everyRun, covered}
 use Rattle.leaf_rules.specs.Given.{wordGiven, weightGiven}
-use Rattle.reader_rules.specs.Facts.{partFacts, tableFacts}
+use Rattle.reader_rules.specs.TableFacts.{partFacts, tableFacts}
 use Rattle.reader_rules.specs.Check.{layoutCheck, digitCheckOf, leafCheckOf, tableCheck, readOutcome}
 use Rattle.table_rules.specs.Check.{pairCheckOf, checkFacts, checkOutcome}
 use Rattle.table_rules.specs.Pairs.{inAlphabet, badLower, badUpper, pairCheck, badPair}

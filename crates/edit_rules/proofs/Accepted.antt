@@ -14,7 +14,7 @@ use Rattle.faults.proofs.Numbers.{number-of}
 use Rattle.calls.specs.Answers.{FirstFault}
 use Rattle.numeration.specs.Code.{Inputs}
 use Rattle.reader_rules.specs.Table.{inputCount}
-use Rattle.reader_rules.specs.Facts.{tableFacts}
+use Rattle.reader_rules.specs.TableFacts.{tableFacts}
 use Rattle.reader_rules.specs.Broken.{tableRules}
 use Rattle.reader_rules.proofs.Kept.{no-number}
 use Rattle.row_rules.specs.declared.Change.{Change}

@@ -6,7 +6,7 @@ use lib.ListN.{length}
 use Rattle.faults.specs.Outcome.{Group, refused, author, rows, editor}
 use Rattle.calls.specs.Answers.{Answers}
 use Rattle.calls.proofs.Answers.{told-end, told-unless, told-answers}
-use Rattle.reader_rules.specs.Facts.{tableFacts}
+use Rattle.reader_rules.specs.TableFacts.{tableFacts}
 use Rattle.reader_rules.proofs.Broken.{table-decided}
 use Rattle.row_rules.specs.declared.Change.{Change}
 use Rattle.row_rules.proofs.Broken.{rows-decided, edit-decided}

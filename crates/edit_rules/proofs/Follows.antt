@@ -22,7 +22,7 @@ use Rattle.numeration.specs.Changes.{Changes, storeTaken, storeAll}
 use Rattle.numeration.specs.Renewal.{Local, digitRow, renewed}
 use Rattle.numeration.proofs.Changes.{stored-taken, stored-other, renewed-right, valid-storeTaken, valid-storeAll}
 use Rattle.reader_rules.specs.Table.{alphabetPart, inputPart, valueOf}
-use Rattle.reader_rules.specs.Facts.{tableFacts}
+use Rattle.reader_rules.specs.TableFacts.{tableFacts}
 use Rattle.reader_rules.proofs.Kept.{no-number}
 use Rattle.row_rules.specs.declared.Change.{Change}
 use Rattle.row_rules.specs.Changed.{changed, noChange}

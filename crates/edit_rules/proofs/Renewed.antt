@@ -18,7 +18,7 @@ use Rattle.faults.proofs.Exit.{exit-lent, exit-written}
 use Rattle.faults.proofs.Unless.{unless-found, unless-none}
 use Rattle.numeration.specs.Code.{Inputs}
 use Rattle.reader_rules.specs.Table.{inputCount}
-use Rattle.reader_rules.specs.Facts.{tableFacts}
+use Rattle.reader_rules.specs.TableFacts.{tableFacts}
 use Rattle.reader_rules.specs.Check.{tableCheck}
 use Rattle.reader_rules.proofs.Ready.{ready-passed}
 use Rattle.row_rules.specs.declared.Change.{Change}

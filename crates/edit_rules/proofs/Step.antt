@@ -18,7 +18,7 @@ use Rattle.faults.proofs.Exit.{exit-written}
 use Rattle.faults.proofs.Unless.{unless-found, unless-none}
 use Rattle.calls.specs.Answers.{stage, Answers}
 use Rattle.calls.proofs.Answers.{told-end, told-unless, told-answers, unless-given}
-use Rattle.reader_rules.specs.Facts.{tableFacts}
+use Rattle.reader_rules.specs.TableFacts.{tableFacts}
 use Rattle.reader_rules.specs.Check.{tableCheck}
 use Rattle.reader_rules.proofs.Kept.{no-number}
 use Rattle.row_rules.specs.declared.Change.{Change}

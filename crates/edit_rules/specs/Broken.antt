@@ -4,7 +4,7 @@ use lib.ListN.{length}
 use Prim.Native.Nat.{ℕ}
 use Rattle.faults.specs.Outcome.{author, rows, editor}
 use Rattle.calls.specs.Answers.{Stage, stage}
-use Rattle.reader_rules.specs.Facts.{tableFacts}
+use Rattle.reader_rules.specs.TableFacts.{tableFacts}
 use Rattle.reader_rules.specs.Broken.{tableRules}
 use Rattle.row_rules.specs.declared.Change.{Change}
 use Rattle.row_rules.specs.Broken.{rowRules, editRules}

@@ -6,7 +6,7 @@ use lib.ListN.{length}
 use Rattle.lists.specs.Overwrite.{overwrite}
 use Rattle.faults.specs.Outcome.{Outcome, facts, author, rows, editor, atExit}
 use Rattle.faults.specs.Unless.{unless}
-use Rattle.reader_rules.specs.Facts.{tableFacts}
+use Rattle.reader_rules.specs.TableFacts.{tableFacts}
 use Rattle.reader_rules.specs.Check.{tableCheck}
 use Rattle.row_rules.specs.declared.Change.{Change}
 use Rattle.row_rules.specs.Changed.{changed}

@@ -10,7 +10,7 @@ use Rattle.faults.specs.Outcome.{Group, Outcome, facts, refused, editor}
 use Rattle.calls.specs.Answers.{stage, Answers}
 use Rattle.digit_rules.specs.Record.{recordAt}
 use Rattle.reader_rules.specs.Table.{alphabetPart, operationsOf, valueOf}
-use Rattle.reader_rules.specs.Facts.{tableFacts}
+use Rattle.reader_rules.specs.TableFacts.{tableFacts}
 use Rattle.row_rules.specs.declared.Change.{Change}
 use Rattle.row_rules.specs.Changed.{changed, noChange}
 use Rattle.row_rules.specs.Broken.{editRules}

@@ -1,7 +1,7 @@
 -- The buffers of an edit and the input digits after it (document 01, "Digit edit").
 use mathlib.Core.List.{List}
 use Prim.Native.Nat.{ℕ, _+_}
-use Rattle.reader_rules.specs.Facts.{tableFacts}
+use Rattle.reader_rules.specs.TableFacts.{tableFacts}
 use Rattle.row_rules.specs.declared.Change.{Change}
 use Rattle.row_rules.specs.Changed.{changed}
 use Rattle.adder_rules.specs.Input.{inputRow}

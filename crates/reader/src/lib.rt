@@ -3,7 +3,7 @@ ghost use mathlib.Core.Path.{_≡_};
 ghost use Prim.Native.Nat.{_<_};
 ghost use Rattle.layout_rules.specs.Directory.{directoryCheck};
 ghost use Rattle.layout_rules.specs.Section.{partOf};
-ghost use Rattle.reader_rules.specs.Facts.{partFacts, tableFacts};
+ghost use Rattle.reader_rules.specs.TableFacts.{partFacts, tableFacts};
 ghost use Rattle.reader_rules.specs.Check.{layoutCheck, digitCheckOf, leafCheckOf, tableCheck, readAs, readOutcome};
 use faults::Fault;
 use faults::Refusal;

@@ -11,7 +11,7 @@ use Rattle.digit_rules.specs.Record.{elementCount}
 use Rattle.reader_rules.specs.declared.Table.{Table}
 use Rattle.reader_rules.specs.declared.Reading.{Reading}
 use Rattle.reader_rules.specs.Table.{alphabetPart}
-use Rattle.reader_rules.specs.Facts.{tableFacts, partFacts}
+use Rattle.reader_rules.specs.TableFacts.{tableFacts, partFacts}
 use Rattle.reader_rules.specs.Check.{tableCheck, readAs, readOutcome}
 
 no-fault : (t : Table) (g : Group) (n p : ℕ) → facts t ≡ refused g n p → ⊥

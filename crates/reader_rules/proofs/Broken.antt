@@ -17,7 +17,7 @@ use Rattle.digit_rules.specs.Record.{elementCount}
 use Rattle.digit_rules.proofs.Broken.{digits-decided}
 use Rattle.prefix_rules.proofs.Broken.{leaves-decided}
 use Rattle.reader_rules.specs.Table.{basePart, alphabetPart, inputPart, leafPart, wordPart}
-use Rattle.reader_rules.specs.Facts.{tableFacts}
+use Rattle.reader_rules.specs.TableFacts.{tableFacts}
 use Rattle.reader_rules.specs.Check.{layoutCheck, digitCheckOf, leafCheckOf, tableCheck, readOutcome}
 use Rattle.reader_rules.specs.Broken.{layoutRules, tableRules}
 use Rattle.reader_rules.proofs.Kept.{no-number, layout-kept}

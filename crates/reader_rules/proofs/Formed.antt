@@ -29,7 +29,7 @@ use Rattle.digit_rules.proofs.Passed.{element-within, records-within}
 use Rattle.digit_rules.proofs.Formed.{formed as digits-formed, formed-passes as digits-pass}
 use Rattle.prefix_rules.proofs.Formed.{formed as leaves-formed, formed-passes as leaves-pass}
 use Rattle.reader_rules.specs.Table.{basePart, alphabetPart, inputPart, leafPart, wordPart}
-use Rattle.reader_rules.specs.Facts.{tableFacts}
+use Rattle.reader_rules.specs.TableFacts.{tableFacts}
 use Rattle.reader_rules.specs.Check.{layoutCheck, digitCheckOf, leafCheckOf, tableCheck, readOutcome}
 use Rattle.reader_rules.specs.Formed.{WellFormed}
 use Rattle.reader_rules.proofs.Kept.{no-number, layout-kept, table-kept}

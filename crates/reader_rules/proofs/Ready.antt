@@ -18,7 +18,7 @@ use Rattle.numeration.proofs.Elements.{elements-group}
 use Rattle.prefix_rules.proofs.Formed.{ordered-code, complete-prefix-code, depth-is, look-up-is}
 use Rattle.reader_rules.specs.declared.Part.{Part}
 use Rattle.reader_rules.specs.Table.{basePart, inputPart, leafPart, wordPart, inputCount}
-use Rattle.reader_rules.specs.Facts.{partFacts, tableFacts}
+use Rattle.reader_rules.specs.TableFacts.{partFacts, tableFacts}
 use Rattle.reader_rules.specs.Check.{layoutCheck, tableCheck, readOutcome}
 use Rattle.reader_rules.specs.Formed.{WellFormed}
 use Rattle.reader_rules.specs.Ready.{Lies, Ready}

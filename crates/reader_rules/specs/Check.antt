@@ -17,7 +17,7 @@ use Rattle.reader_rules.specs.declared.Table.{Table}
 use Rattle.reader_rules.specs.declared.Reading.{Reading}
 use Rattle.reader_rules.specs.declared.Reading.the-variants.{Facts, Refused}
 use Rattle.reader_rules.specs.Table.{basePart, alphabetPart, inputPart, leafPart, wordPart}
-use Rattle.reader_rules.specs.Facts.{tableFacts}
+use Rattle.reader_rules.specs.TableFacts.{tableFacts}
 
 -- rules 1 to 4, 5 to 8, 9 to 13, and all of them in their order
 unfoldable pub layoutCheck : List ℕ → Refusal

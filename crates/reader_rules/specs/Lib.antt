@@ -1,5 +1,5 @@
 pub mod Table
-pub mod Facts
+pub mod TableFacts
 pub mod Check
 pub mod Broken
 pub mod Formed

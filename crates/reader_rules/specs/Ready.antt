@@ -15,7 +15,7 @@ use Rattle.leaf_rules.specs.Leaf.{leafCount, wordLength, weightOf}
 use Rattle.leaf_rules.specs.Window.{digits, LookedUp}
 use Rattle.reader_rules.specs.declared.Part.{Part}
 use Rattle.reader_rules.specs.Table.{basePart, alphabetPart, inputPart, leafPart, wordPart, operationsOf, inputCount, leavesIn}
-use Rattle.reader_rules.specs.Facts.{tableFacts}
+use Rattle.reader_rules.specs.TableFacts.{tableFacts}
 
 -- where a section lies in the file: its bytes, and its count of records
 pub record Lies (file : List ℕ) (fact : Part) (bytes : List ℕ) (count : ℕ) : Type 0 where

@@ -3,7 +3,7 @@ ghost use mathlib.Core.Path.{_≡_};
 ghost use Prim.Native.Nat.{ℕ, _+_, _-_, _≤_, _<_};
 ghost use lib.ListN.{length};
 ghost use Rattle.faults.specs.Outcome.{rows};
-ghost use Rattle.reader_rules.specs.Facts.{tableFacts};
+ghost use Rattle.reader_rules.specs.TableFacts.{tableFacts};
 ghost use Rattle.reader_rules.specs.Check.{tableCheck};
 ghost use Rattle.row_rules.specs.Changed.{changed};
 ghost use Rattle.row_rules.specs.Fit.{EditFits};

@@ -5,7 +5,7 @@ use Prim.Native.Nat.{ℕ}
 use native.Mathlib.Omega.{arith}
 use Rattle.faults.specs.Outcome.{facts}
 use Rattle.layout_rules.proofs.Passed.{whole-records}
-use Rattle.reader_rules.specs.Facts.{tableFacts, partFacts}
+use Rattle.reader_rules.specs.TableFacts.{tableFacts, partFacts}
 use Rattle.reader_rules.specs.Check.{tableCheck}
 use Rattle.reader_rules.proofs.Kept.{layout-kept, table-kept}
 use Rattle.reader_rules.proofs.Formed.{well-formed}

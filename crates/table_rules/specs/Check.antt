@@ -6,7 +6,7 @@ use Rattle.faults.specs.declared.Refusal.{Refusal}
 use Rattle.faults.specs.Outcome.{Outcome, facts, author}
 use Rattle.faults.specs.Unless.{unless}
 use Rattle.reader_rules.specs.Table.{basePart, alphabetPart, inputPart, leafPart, wordPart}
-use Rattle.reader_rules.specs.Facts.{tableFacts}
+use Rattle.reader_rules.specs.TableFacts.{tableFacts}
 use Rattle.reader_rules.specs.Check.{tableCheck}
 use Rattle.table_rules.specs.declared.Facts.{Facts}
 use Rattle.table_rules.specs.Pairs.{pairCheck}

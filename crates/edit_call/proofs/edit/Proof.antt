@@ -9,7 +9,7 @@ use Rattle.row_rules.specs.declared.Change.{Change}
 use Rattle.row_rules.specs.Check.{rowCheck, editCheck}
 use Rattle.row_rules.specs.Fit.{EditFits}
 use Rattle.row_rules.proofs.Fit.{rows-fit, edit-fits}
-use Rattle.reader_rules.specs.Facts.{tableFacts}
+use Rattle.reader_rules.specs.TableFacts.{tableFacts}
 use Rattle.reader_rules.specs.Check.{readAs}
 use Rattle.reader_rules.proofs.Answer.{Told, found-facts}
 use Rattle.reader_rules.proofs.Ready.{ready-passed}

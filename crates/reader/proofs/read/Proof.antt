@@ -1,6 +1,6 @@
 -- Where nothing is found the facts, else the fault in the author's name.
 use Rattle.reader_rules.proofs.Kept.{stage-nothing, table-kept}
-use Rattle.reader_rules.specs.Facts.{tableFacts}
+use Rattle.reader_rules.specs.TableFacts.{tableFacts}
 use Rattle.reader_rules.specs.Check.{tableCheck, readOutcome}
 use Rattle.faults.proofs.Unless.{unless-found, unless-none}
 use Rattle.faults.specs.Outcome.{author, facts, refused}

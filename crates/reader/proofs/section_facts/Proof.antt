@@ -1,5 +1,5 @@
 -- Start, end and count as they are read.
-use Rattle.reader_rules.specs.Facts.{partFacts}
+use Rattle.reader_rules.specs.TableFacts.{partFacts}
 use Rattle.layout_rules.specs.Section.{recordCount}
 use mathlib.Core.Path.{ap, _∙_}
 use Rattle.reader_rules.proofs.Kept.{layout-kept, directory-room}

@@ -1,6 +1,6 @@
 -- Five sections and the depth, field by field.
 use Rattle.reader_rules.specs.Table.{wordPart}
-use Rattle.reader_rules.specs.Facts.{tableFacts}
+use Rattle.reader_rules.specs.TableFacts.{tableFacts}
 use Rattle.leaf_rules.specs.Leaf.{codeOf}
 use Rattle.numeration.specs.LeafOf.{depth}
 use mathlib.Core.Path.{ap, _∙_}
