@@ -6,7 +6,7 @@ use lib.IntN.{ℤ}
 use Rattle.ring.specs.Tests.{RowsWithin}
 use Rattle.layout_rules.specs.Directory.{directoryCheck}
 use Rattle.digit_rules.specs.Record.{elementCount}
-use Rattle.digit_rules.specs.Base.{baseMatrix}
+use Rattle.digit_rules.specs.BaseMatrix.{baseMatrix}
 use Rattle.digit_rules.proofs.Base.{base-within}
 use Rattle.numeration.specs.Code.{Inputs}
 use Rattle.numeration.specs.Conversion.{window}

@@ -10,19 +10,24 @@ use Rattle.faults.specs.Check.{refusal, none, judge}
 use Rattle.faults.proofs.Check.{once-broken, once-kept, then-found, then-next}
 use Rattle.ring.specs.Element.{part}
 use Rattle.ring.specs.Tests.{Within, RowsWithin, BaseLimits, perfectSquare, expanding}
-use Rattle.ring.specs.Matrix.{matrixOf}
+use Rattle.ring.specs.Product.{matrixOf}
 use Rattle.ring.specs.Base.{discriminant}
 use Rattle.ring.proofs.Parts.{within-part, within-two, s-term, t-term, u-term, v-term}
 use Rattle.ring.proofs.Base.{rows-of-two}
 use Rattle.lists.specs.Span.{span}
 use Rattle.digit_rules.specs.Record.{elementAt, recordAt}
-use Rattle.digit_rules.specs.Base.{omegaOf, betaOf, baseMatrix, sOf, tOf, uOf, vOf}
+use Rattle.digit_rules.specs.Base.{sOf, tOf, uOf, vOf}
+use Rattle.digit_rules.specs.BaseMatrix.{omegaOf, betaOf, baseMatrix}
 use Rattle.digit_rules.specs.Digits.{BasePart, discriminantAllowed, expandingBase, baseCheck}
 
 -- degree two: ω² is s·ω + t and β is u + v·ω
 pub matrix-of-two : (base : List ℕ) → baseMatrix base ≡ matrixOf (tOf base ∷ sOf base ∷ []) (uOf base ∷ vOf base ∷ [])
 unfolding baseMatrix omegaOf betaOf elementAt span
 matrix-of-two base = refl
+
+-- "two rows of two whole numbers, (u, t·v) and (v, u + s·v)"
+pub base-rows : (base : List ℕ) → baseMatrix base ≡ (uOf base ∷ (tOf base *ℤ vOf base) ∷ []) ∷ (vOf base ∷ (uOf base +ℤ sOf base *ℤ vOf base) ∷ []) ∷ []
+base-rows base = matrix-of-two base ∙ rows-of-two (sOf base) (tOf base) (uOf base) (vOf base)
 
 rows-within : (n : ℕ) (x y : List ℤ) → Within n x → Within n y → RowsWithin n (x ∷ y ∷ [])
 unfolding RowsWithin Within
@@ -46,7 +51,7 @@ module _ (base : List ℕ) (is : BasePart base) where
   -- small enough to multiply by
   pub base-within : RowsWithin (2 ^ 24) (baseMatrix base)
   base-within =
-      rw (matrix-of-two base, rows-of-two (sOf base) (tOf base) (uOf base) (vOf base))
+      rw (base-rows base)
       (rows-within (2 ^ 24) _ _
       (within-two (2 ^ 24) (uOf base) (tOf base *ℤ vOf base) (omega (arith, plain-bound (u-term base-limits))) (omega (arith, plain-bound (t-term base-limits ⊗ v-term base-limits))))
       (within-two (2 ^ 24) (vOf base) (uOf base +ℤ sOf base *ℤ vOf base) (omega (arith, plain-bound (v-term base-limits))) (omega (arith, plain-bound (u-term base-limits ⊕ s-term base-limits ⊗ v-term base-limits)))))

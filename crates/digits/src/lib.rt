@@ -6,7 +6,7 @@ ghost use lib.ListN.{length};
 ghost use Rattle.ring.specs.Tests.{Within};
 ghost use Rattle.digit_rules.specs.Record.{elementAt, recordAt, elementCount};
 ghost use Rattle.digit_rules.specs.Digits.{indexIn, BasePart, recordAllowed, sumIndex};
-ghost use Rattle.digit_rules.specs.Base.{baseMatrix};
+ghost use Rattle.digit_rules.specs.BaseMatrix.{baseMatrix};
 
 // The bytes of an element.
 const ELEMENT: usize = 4;

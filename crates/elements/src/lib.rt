@@ -5,7 +5,8 @@ ghost use Prim.Native.Nat.{_≤_, _^_};
 ghost use lib.IntN.{natAbs};
 ghost use Rattle.ring.specs.Element.{plus, minus};
 ghost use Rattle.ring.specs.Tests.{Within, same, RowsWithin, BaseLimits};
-ghost use Rattle.ring.specs.Matrix.{dot, times, matrixOf};
+ghost use Rattle.ring.specs.Matrix.{dot, times};
+ghost use Rattle.ring.specs.Product.{matrixOf};
 
 // One part of matrix times element.
 fn dot_product(row: [i64; 2], x: [i64; 2]) -> i64

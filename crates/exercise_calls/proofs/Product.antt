@@ -7,7 +7,8 @@ use lib.IntN.{ℤ, _+ℤ_, _*ℤ_}
 use lib.ListN.{length, getD}
 use Rattle.integers.proofs.Machine.{_⊕_, _⊗_, plain-bound}
 use Rattle.ring.specs.Tests.{Within, RowsWithin, BaseLimits}
-use Rattle.ring.specs.Matrix.{times, matrixOf}
+use Rattle.ring.specs.Matrix.{times}
+use Rattle.ring.specs.Product.{matrixOf}
 use Rattle.ring.proofs.Parts.{within-two, s-term, t-term, u-term, v-term}
 use Rattle.ring.proofs.Base.{rows-of-two}
 use Rattle.ring.proofs.Matrix.{within-times}

@@ -6,7 +6,7 @@ use mathlib.Core.List.{List, [], _∷_}
 use Prim.Native.Nat.{ℕ}
 use lib.IntN.{ℤ, pos, negsuc}
 use lib.ListN.{set, length}
-use Rattle.ring.specs.Element.{product}
+use Rattle.ring.specs.Product.{product}
 use Rattle.ring.specs.Tests.{expanding}
 use Rattle.faults.specs.Outcome.{Outcome, author, facts, refused}
 use Rattle.table_rules.specs.declared.Facts.{Facts}

@@ -6,8 +6,7 @@ use mathlib.Core.List.{List, map}
 use Prim.Native.Nat.{ℕ, suc, _+_, _<_, _≤_}
 use lib.ListN.{length, getD, set}
 use lib.IntN.{ℤ}
-use Rattle.ring.specs.Element.{product}
-use Rattle.ring.specs.Matrix.{matrixOf}
+use Rattle.ring.specs.Product.{product, matrixOf}
 use Rattle.ring.proofs.Matrix.{length-matrix, matrix-product}
 use Rattle.numeration.specs.Group.{Operations}
 use Rattle.numeration.specs.Laws.{AdditiveGroup, HasParts, convertRow, InGroup, PairsConvert, Elements}

@@ -5,7 +5,7 @@ ghost use mathlib.Core.List.{List};
 ghost use Prim.Native.Nat.{ℕ, _+_, _-_, _<_, _≤_, _^_, pred};
 ghost use lib.ListN.{length, getD};
 ghost use Rattle.ring.specs.Tests.{RowsWithin};
-ghost use Rattle.digit_rules.specs.Base.{baseMatrix};
+ghost use Rattle.digit_rules.specs.BaseMatrix.{baseMatrix};
 ghost use Rattle.digit_rules.specs.Digits.{BasePart};
 ghost use Rattle.digit_rules.specs.Record.{elementCount};
 ghost use Rattle.numeration.specs.Pairs.{Fits};

@@ -6,7 +6,7 @@ use native.Mathlib.Nat.{le-refl}
 use native.Mathlib.Omega.{arith}
 use Rattle.lists.proofs.Scan.{every-complete}
 use Rattle.faults.specs.Check.{none}
-use Rattle.digit_rules.specs.Base.{baseMatrix}
+use Rattle.digit_rules.specs.BaseMatrix.{baseMatrix}
 use Rattle.numeration.specs.PairTests.{upperPasses}
 use Rattle.leaf_rules.specs.Leaf.{leafCount}
 use Rattle.table_rules.specs.Pairs.{pairCheck}

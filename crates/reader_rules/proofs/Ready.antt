@@ -9,7 +9,7 @@ use Rattle.faults.specs.Outcome.{facts}
 use Rattle.layout_rules.specs.Section.{degree, recordCount, partOf}
 use Rattle.layout_rules.proofs.Passed.{whole-records}
 use Rattle.ring.proofs.Matrix.{length-matrix}
-use Rattle.digit_rules.specs.Base.{baseMatrix}
+use Rattle.digit_rules.specs.BaseMatrix.{baseMatrix}
 use Rattle.digit_rules.proofs.Record.{element-parts}
 use Rattle.digit_rules.proofs.Base.{matrix-of-two}
 use Rattle.digit_rules.proofs.Passed.{base-ready}

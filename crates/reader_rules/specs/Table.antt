@@ -6,7 +6,7 @@ use Rattle.digit_rules.specs.Record.{elementCount, recordAt}
 use Rattle.numeration.specs.Code.{Code}
 use Rattle.leaf_rules.specs.Leaf.{codeOf}
 use lib.IntN.{ℤ}
-use Rattle.digit_rules.specs.Base.{baseMatrix}
+use Rattle.digit_rules.specs.BaseMatrix.{baseMatrix}
 use Rattle.numeration.specs.Group.{Operations}
 use Rattle.numeration.specs.Elements.{elements}
 use Rattle.numeration.specs.Value.{value}

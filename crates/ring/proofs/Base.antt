@@ -14,8 +14,8 @@ use lib.IntN.{ℤ, pos, negsuc, natAbs, _+ℤ_, _*ℤ_, +ℤ-idl, *ℤ-comm, pos
 use Rattle.lists.specs.Span.{span}
 use Rattle.lists.proofs.Test.{both, either, clash}
 use Rattle.integers.proofs.Solver.{Expression, var, num, _⊕_, _⊖_, _⊗_, solve}
-use Rattle.ring.specs.Element.{plus, scale, timesOmega}
-use Rattle.ring.specs.Matrix.{columns, matrixOf}
+use Rattle.ring.specs.Element.{plus}
+use Rattle.ring.specs.Product.{scale, timesOmega, columns, matrixOf}
 use Rattle.ring.specs.Determinant.{trace, alternating, without, determinant}
 use Rattle.ring.specs.Base.{baseTrace, baseNorm, Expanding, Square}
 use Rattle.ring.specs.Tests.{expanding, squareBelow, perfectSquare}

@@ -12,7 +12,8 @@ use Rattle.lists.proofs.Test.{both, clash}
 use Rattle.integers.proofs.Test.{eqZ-refl, eqZ→≡}
 use Rattle.integers.proofs.Laws.{*-distrib, +-distrib, *-assoc, one-*}
 use Rattle.integers.proofs.Size.{natAbs-+, natAbs-neg}
-use Rattle.ring.specs.Element.{part, zeros, plus, negative, minus, scale}
+use Rattle.ring.specs.Element.{part, zeros, plus, negative, minus}
+use Rattle.ring.specs.Product.{scale}
 use Rattle.ring.specs.Tests.{Within, same}
 
 pub plus-nil : (x : List ℤ) → plus x [] ≡ x

@@ -11,9 +11,10 @@ use Rattle.lists.proofs.Cons.{cons≡}
 use Rattle.lists.proofs.Span.{span-ext, span-getD, map-span, length-span}
 use Rattle.integers.proofs.Laws.{*-distrib, +-cross}
 use Rattle.integers.proofs.Size.{natAbs-+, natAbs-*≤}
-use Rattle.ring.specs.Element.{part, zeros, plus, scale, timesOmega, product}
+use Rattle.ring.specs.Element.{part, zeros, plus}
+use Rattle.ring.specs.Product.{scale, timesOmega, product, columns, matrixOf}
 use Rattle.ring.specs.Tests.{Within, RowsWithin}
-use Rattle.ring.specs.Matrix.{dot, times, columns, matrixOf}
+use Rattle.ring.specs.Matrix.{dot, times}
 use Rattle.ring.proofs.Element.{part-plus, part-scale, part-zeros}
 use Rattle.ring.proofs.Product.{product-omega, product-comm, length-product}
 

@@ -9,7 +9,8 @@ use lib.Seq.{take-append-add, getD-append-add}
 use lib.IntN.{ℤ, pos, _*ℤ_, +ℤ-idr}
 use Rattle.lists.proofs.Cons.{cons≡}
 use Rattle.integers.proofs.Laws.{*-one}
-use Rattle.ring.specs.Element.{part, zeros, plus, scale, timesOmega, product, unit}
+use Rattle.ring.specs.Element.{part, zeros, plus}
+use Rattle.ring.specs.Product.{scale, timesOmega, product, unit}
 use Rattle.ring.proofs.Element.{plus-comm, plus-cross, plus-parts, length-plus, part-plus, take-plus, zeros-plus, part-zeros, raise-plus, raise-scale, take-zeros, length-scale, part-scale, take-scale, scale-plus, scale-sum, scale-scale, scale-comm, scale-none, scale-zeros}
 
 -- ---- ω times an element

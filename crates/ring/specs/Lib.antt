@@ -1,5 +1,6 @@
 pub mod Element
 pub mod Matrix
+pub mod Product
 pub mod Determinant
 pub mod Base
 pub mod Tests

@@ -1,6 +1,6 @@
 // The value of a row: rules 1 to 13 of the table, 20 and 21 of the row, then 28.
 ghost use mathlib.Core.Path.{_≡_};
-ghost use Rattle.digit_rules.specs.Base.{baseMatrix};
+ghost use Rattle.digit_rules.specs.BaseMatrix.{baseMatrix};
 ghost use Rattle.digit_rules.specs.Digits.{BasePart};
 ghost use Rattle.digit_rules.specs.Record.{elementCount};
 ghost use Rattle.row_rules.specs.Fit.{Indexes};

@@ -14,7 +14,7 @@ use Rattle.calls.specs.Answers.{Answers, stage}
 use Rattle.calls.proofs.Answers.{Told, told-end, told-unless, told-answers}
 use Rattle.ring.proofs.Matrix.{length-matrix}
 use Rattle.layout_rules.specs.Section.{degree}
-use Rattle.digit_rules.specs.Base.{baseMatrix}
+use Rattle.digit_rules.specs.BaseMatrix.{baseMatrix}
 use Rattle.digit_rules.specs.Record.{elementCount}
 use Rattle.digit_rules.proofs.Base.{matrix-of-two}
 use Rattle.reader_rules.specs.Table.{basePart, alphabetPart, valueOf}

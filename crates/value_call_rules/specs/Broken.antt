@@ -4,7 +4,7 @@ use Prim.Native.Nat.{ℕ}
 use Rattle.faults.specs.Rule.{Rule}
 use Rattle.faults.specs.Outcome.{author, rows}
 use Rattle.calls.specs.Answers.{Stage, stage}
-use Rattle.digit_rules.specs.Base.{baseMatrix}
+use Rattle.digit_rules.specs.BaseMatrix.{baseMatrix}
 use Rattle.digit_rules.specs.Record.{elementCount}
 use Rattle.reader_rules.specs.Table.{basePart, alphabetPart}
 use Rattle.reader_rules.specs.Broken.{tableRules}

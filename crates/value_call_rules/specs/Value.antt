@@ -4,7 +4,7 @@ use Prim.Native.Nat.{ℕ}
 use lib.IntN.{ℤ}
 use Rattle.faults.specs.Outcome.{Outcome, author, rows}
 use Rattle.faults.specs.Unless.{unless}
-use Rattle.digit_rules.specs.Base.{baseMatrix}
+use Rattle.digit_rules.specs.BaseMatrix.{baseMatrix}
 use Rattle.digit_rules.specs.Record.{elementCount}
 use Rattle.reader_rules.specs.Table.{basePart, alphabetPart}
 use Rattle.reader_rules.specs.Check.{tableCheck}

@@ -8,7 +8,7 @@ use Rattle.lists.specs.Scan.{firstFailing}
 use Rattle.lists.specs.Span.{span}
 use Rattle.layout_rules.specs.Section.{degree}
 use Rattle.numeration.specs.Elements.{elements}
-use Rattle.digit_rules.specs.Base.{baseMatrix}
+use Rattle.digit_rules.specs.BaseMatrix.{baseMatrix}
 use Rattle.digit_rules.specs.Digits.{BasePart}
 use Rattle.place_rules.specs.Place.{indexAt, digitAllowed}
 use Rattle.adder_rules.specs.Add.{rowPart}

@@ -4,7 +4,7 @@ use lib.Dec.{lit<}
 use Rattle.faults.proofs.Unless.{unless-found, unless-none}
 use Rattle.faults.specs.Outcome.{refused, rows}
 use Rattle.faults.specs.declared.Refusal.{Refusal}
-use Rattle.digit_rules.specs.Base.{baseMatrix}
+use Rattle.digit_rules.specs.BaseMatrix.{baseMatrix}
 use Rattle.digit_rules.specs.Digits.{BasePart}
 use Rattle.digit_rules.specs.Record.{elementCount}
 use Rattle.reader_rules.proofs.Kept.{stage-nothing, layout-kept, table-kept, sections}
