@@ -1,0 +1,38 @@
+-- Pieces of text written one behind the other into a lent buffer.
+use mathlib.Core.Path.{_≡_, refl, sym, ap, ap₂, _∙_}
+use mathlib.Core.List.{List, [], _∷_, _++_}
+use Prim.Native.Nat.{ℕ, zero, suc, _+_, _<_, _≤_}
+use native.Mathlib.Omega.{arith}
+use native.Mathlib.Numerals.{add-one}
+use lib.ListN.{length, take, set, replicate, length-append, length-replicate}
+use lib.Seq.{take-at}
+use Rattle.lists.specs.Overwrite.{overwrite}
+use Rattle.lists.proofs.Overwrite.{overwrite-append, overwrite-none, overwrite-snoc}
+
+-- t is s with the text written from place p on, and r the next place: what each function that writes ensures
+abbrev pub Put : List ℕ → List ℕ → ℕ → ℕ → List ℕ → Type 0
+Put s t p r text = (r ≡ p + length text) × (t ≡ overwrite s p text)
+
+pub put-none : (s : List ℕ) (p : ℕ) → Put s s p p []
+put-none s p = (omega arith, sym (overwrite-none s p))
+
+pub put-more : (s t u a b : List ℕ) (p q r : ℕ) → Put s t p q a → Put t u q r b → p + length a ≤ length s → Put s u p r (a ++ b)
+put-more s t u a b p q r (q-is, t-is) (r-is, u-is) h =
+    (omega (arith, length-append a b), u-is ∙ ap₂ (λ (x : List ℕ) (k : ℕ). overwrite x k b) t-is q-is ∙ overwrite-append s p a b h)
+
+-- a text that was written from the start on is what the buffer begins with
+pub put-begins : (s text : List ℕ) → length text ≤ length s → take (length text) (overwrite s 0 text) ≡ text
+unfolding overwrite
+put-begins s text h = take-at text _ (length text) refl
+
+-- one space more
+replicate-more : (k a : ℕ) → replicate (suc k) a ≡ replicate k a ++ (a ∷ [])
+replicate-more zero a = refl
+replicate-more (suc k) a = ap (λ (l : List ℕ). a ∷ l) (replicate-more k a)
+
+pub space-more : (s : List ℕ) (p k : ℕ) → p + k < length s → set (overwrite s p (replicate k 32)) (p + k) 32 ≡ overwrite s p (replicate (k + 1) 32)
+space-more s p k h =
+    let n : length (replicate {A = ℕ} k 32) ≡ k = length-replicate k 32 in
+    ap (λ (i : ℕ). set (overwrite s p (replicate k 32)) (p + i) 32) (sym n)
+    ∙ overwrite-snoc s p (replicate k 32) 32 (omega arith)
+    ∙ ap (overwrite s p) (sym (replicate-more k 32) ∙ ap (λ (i : ℕ). replicate i 32) (sym (add-one k)))

@@ -1,0 +1,1 @@
+// No function: how the program `show` writes elements and the lines of a table, as definitions.
