@@ -6,7 +6,7 @@ ghost use Rattle.ring.specs.Base.{baseTrace, baseNorm, discriminant};
 ghost use Rattle.ring.specs.Tests.{BaseLimits, expanding, perfectSquare};
 
 // T of document 01.
-fn base_trace(s: i64, u: i64, v: i64) -> i64
+pub fn base_trace(s: i64, u: i64, v: i64) -> i64
     requires { ⌜ (natAbs s ≤ 64) × (natAbs u ≤ 64) × (natAbs v ≤ 64) ⌝ }
     ensures { λ r. ⌜ r ≡ baseTrace s u v ⌝ }
 {
@@ -14,7 +14,7 @@ fn base_trace(s: i64, u: i64, v: i64) -> i64
 }
 
 // N of document 01.
-fn base_norm(s: i64, t: i64, u: i64, v: i64) -> i64
+pub fn base_norm(s: i64, t: i64, u: i64, v: i64) -> i64
     requires { ⌜ BaseLimits s t u v ⌝ }
     ensures { λ r. ⌜ r ≡ baseNorm s t u v ⌝ }
 {

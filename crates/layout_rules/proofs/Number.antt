@@ -43,7 +43,7 @@ moved-less u l =
       | no h ↦ rw (lt-ltb (moved u) 32768 (omega arith), signed-high u (omega arith), lt-ltb u 65536 l) (ap negsuc (omega arith))
     ]
 
-size-any : (u : ℕ) → u < 65536 → natAbs (toSigned u) ≤ 32768
+pub size-any : (u : ℕ) → u < 65536 → natAbs (toSigned u) ≤ 32768
 size-any u l =
     elim (decLt u 32768) [
       | yes h ↦ omega (arith, size-low u h)

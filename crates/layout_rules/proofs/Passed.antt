@@ -60,20 +60,26 @@ whole-records file directory lengths section known =
     count : Counted section (length (partOf file section))
     count = counted section _ .0 (ap (lengthAllowed section) (sym same) ∙ allowed)
 
--- every number with a limit is within it
-pub within : (file : List ℕ) → limitCheck file .number ≡ 0 → (section index k : ℕ) → section < 4 → index < recordCount section (partOf file section) → k < degree
-    → natAbs (signedAt (partOf file section) (elementStart section index + 2 * k)) ≤ sizeLimit section
-unfolding limitCheck limitCheckOf limitCheckIn numberAllowed
-within file limits section index k known l h = rw (← number-of (recordSize section) held index k h) (leb-true _ _ allowed)
+-- every number with a limit is within it: of a part, from a file or not
+pub within-limit : (part : List ℕ) (start section : ℕ) → limitCheckIn part start section .number ≡ 0 → (index k : ℕ) → section < 4 → index < recordCount section part → k < degree
+    → natAbs (signedAt part (elementStart section index + 2 * k)) ≤ sizeLimit section
+unfolding limitCheckIn numberAllowed
+within-limit part start section limits index k known l h = rw (← number-of (recordSize section) held index k h) (leb-true _ _ allowed)
   where
     held : elementSize ≤ recordSize section
     held = element-held section known
 
-    counts : index * degree + k < numberCount (recordSize section) (length (partOf file section))
+    counts : index * degree + k < numberCount (recordSize section) (length part)
     counts = number-counted (recordSize section) held _ index k h (le-div-iff-mul-le {k = recordSize section} {x = index + 1} (omega (arith, held)) .0 (omega arith))
 
-    allowed : numberAllowed (recordSize section) (sizeLimit section) (partOf file section) (index * degree + k) ≡ true
-    allowed = judge-passed 4 _ _ _ (omega arith) (turn-kept (limitCheckOf file) 0 4 limits section (omega arith) (omega arith)) (index * degree + k) counts
+    allowed : numberAllowed (recordSize section) (sizeLimit section) part (index * degree + k) ≡ true
+    allowed = judge-passed 4 _ _ _ (omega arith) limits (index * degree + k) counts
+
+pub within : (file : List ℕ) → limitCheck file .number ≡ 0 → (section index k : ℕ) → section < 4 → index < recordCount section (partOf file section) → k < degree
+    → natAbs (signedAt (partOf file section) (elementStart section index + 2 * k)) ≤ sizeLimit section
+unfolding limitCheck limitCheckOf
+within file limits section index k known l h =
+    within-limit (partOf file section) _ section (turn-kept (limitCheckOf file) 0 4 limits section (omega arith) (omega arith)) index k known l h
 
 -- the same in a section whose records are elements and nothing else
 pub within-element : (file : List ℕ) → limitCheck file .number ≡ 0 → (section index k : ℕ) → section < 3 → index < recordCount section (partOf file section) → k < degree

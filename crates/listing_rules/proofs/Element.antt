@@ -2,7 +2,7 @@
 use mathlib.Core.Path.{_≡_, refl, sym, ap, _∙_}
 use mathlib.Core.Bool.{Bool, true, false}
 use mathlib.Core.List.{List, [], _∷_, _++_}
-use Prim.Native.Nat.{ℕ, zero, suc, _+_, _-_, _≤_, _<_, max}
+use Prim.Native.Nat.{ℕ, zero, suc, _+_, _-_, _^_, _≤_, _<_, max}
 use native.Mathlib.Omega.{arith}
 use lib.Dec.{eqb}
 use lib.IntN.{ℤ, pos, negsuc, natAbs}
@@ -87,15 +87,16 @@ pub omega-more : (n : ℕ) → (n ≡ 1 → ⊥) → omegaText n ≡ decimal n +
 unfolding omegaText
 omega-more n h = rw (ne-eqb n 1 h, omegaText)
 
--- ---- lengths, of parts as a file has them
+-- ---- lengths; a part of an element in a file is at most 32,768 in size
 
-pub whole-short : (z : ℤ) → natAbs z ≤ 32768 → length (decimalZ z) ≤ 6
+-- a whole number of so many digits
+pub whole-short : (k : ℕ) (z : ℤ) → natAbs z < 10 ^ suc k → length (decimalZ z) ≤ suc (suc k)
 unfolding decimalZ
-whole-short (pos n) h = omega (arith, decimal-short 4 n (omega arith))
-whole-short (negsuc n) h = omega (arith, decimal-short 4 (suc n) (omega arith))
+whole-short k (pos n) h = omega (arith, decimal-short k n h)
+whole-short k (negsuc n) h = omega (arith, decimal-short k (suc n) h)
 
 -- the longer of two that a test chooses from
-choice-short : (b : Bool) (s t : List ℕ) (n : ℕ) → length s ≤ n → length t ≤ n → length {A = ℕ} (elim b [ true ↦ s | false ↦ t ]) ≤ n
+pub choice-short : (b : Bool) (s t : List ℕ) (n : ℕ) → length s ≤ n → length t ≤ n → length {A = ℕ} (elim b [ true ↦ s | false ↦ t ]) ≤ n
 choice-short true s t n h k = h
 choice-short false s t n h k = k
 
@@ -105,7 +106,7 @@ omega-short n h = choice-short (eqb n 1) (bytesOf "w") (decimal n ++ bytesOf "w"
 
 real-short : (a : ℤ) → natAbs a ≤ 32768 → length (realText a) ≤ 6
 unfolding realText
-real-short a h = choice-short (eqb (natAbs a) 0) [] (decimalZ a) 6 (omega arith) (whole-short a h)
+real-short a h = choice-short (eqb (natAbs a) 0) [] (decimalZ a) 6 (omega arith) (whole-short 4 a (omega arith))
 
 sign-short : (a b : ℤ) → length (signText a b) ≤ 1
 unfolding signText bytesOf
@@ -118,7 +119,7 @@ element-short x h =
     let real = realText (part x 0) in
     let sign = signText (part x 0) (part x 1) in
     let n = natAbs (part x 1) in
-    choice-short (eqb n 0) (decimalZ (part x 0)) (real ++ (sign ++ omegaText n)) 13 (omega (arith, whole-short (part x 0) (h 0))) (omega (arith, length-append real (sign ++ omegaText n), length-append sign (omegaText n), real-short (part x 0) (h 0), sign-short (part x 0) (part x 1), omega-short n (h 1)))
+    choice-short (eqb n 0) (decimalZ (part x 0)) (real ++ (sign ++ omegaText n)) 13 (omega (arith, whole-short 4 (part x 0) (omega (arith, h 0)))) (omega (arith, length-append real (sign ++ omegaText n), length-append sign (omegaText n), real-short (part x 0) (h 0), sign-short (part x 0) (part x 1), omega-short n (h 1)))
 
 -- ---- text at the right of a column
 

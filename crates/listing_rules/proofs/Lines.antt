@@ -1,1 +1,124 @@
+-- The lines of a listing: computed for some, the numbers of a base, the cases of a word's digits, lengths.
+use mathlib.Core.Path.{_≡_, refl}
+use mathlib.Core.Bool.{Bool, true, false}
+use mathlib.Core.List.{List, [], _∷_, _++_}
+use Prim.Native.Nat.{ℕ, zero, suc, _+_, _*_, _<_, _≤_}
+use native.Mathlib.Omega.{arith}
+use native.Mathlib.Numerals.{add-one}
+use native.Mathlib.Nat.{add-zero}
+use lib.Dec.{eqb, ltb}
+use lib.IntN.{ℤ, pos, negsuc}
+use lib.ListN.{length, getD, length-append}
+use borrow.Author.Tests.{lt-ltb, le-ltb, eq-eqb, ne-eqb, eqb-true}
+use Rattle.lists.specs.Span.{span}
+use Rattle.lists.proofs.Test.{both}
+use Rattle.layout_rules.specs.Number.{unsignedAt, toSigned}
+use Rattle.layout_rules.specs.Section.{elementSize}
+use Rattle.layout_rules.specs.Limit.{limitCheckIn}
+use Rattle.layout_rules.proofs.Number.{size-any}
+use Rattle.layout_rules.proofs.Passed.{within-limit}
+use Rattle.ring.specs.Base.{baseTrace, baseNorm}
+use Rattle.ring.specs.Tests.{Within, expanding}
+use Rattle.digit_rules.specs.Record.{elementAt, recordAt, elementCount}
+use Rattle.digit_rules.specs.Digits.{BasePart}
+use Rattle.digit_rules.proofs.Passed.{element-within}
+use Rattle.text_rules.specs.Bytes.{bytesOf}
+use Rattle.text_rules.specs.Decimal.{decimal, decimalWithin, decimalZ}
+use Rattle.listing_rules.specs.Element.{omegaText, realText, signText, elementText, right}
+use Rattle.listing_rules.specs.Listing.{ringLine, limitedBase, expandingWord, normLine, inputText, digitText, columnText, wordText, leafLine}
+use Rattle.listing_rules.proofs.Element.{choice-short, element-short, right-length}
 
+-- ---- as a reader sees them: TERN's base, a leaf of BIN, one whose word can't be read
+
+pub tern-ring : ringLine (0 ∷ 0 ∷ 255 ∷ 255 ∷ 3 ∷ 0 ∷ 0 ∷ 0 ∷ []) ≡ bytesOf "omega^2 = -1, base 3\n"
+unfolding bytesOf ringLine elementText decimalZ decimal decimalWithin elementAt span toSigned unsignedAt
+tern-ring = refl
+
+pub tern-norm : normLine (pos 0) (negsuc 0) (pos 3) (pos 0) ≡ bytesOf "T = 6, N = 9, expanding\n"
+unfolding bytesOf normLine expandingWord baseTrace baseNorm expanding decimalZ decimal decimalWithin
+tern-norm = refl
+
+abbrev bin-inputs : List ℕ
+bin-inputs = 0 ∷ 0 ∷ 0 ∷ 0 ∷ 1 ∷ 0 ∷ 0 ∷ 0 ∷ 2 ∷ 0 ∷ 0 ∷ 0 ∷ 255 ∷ 255 ∷ 0 ∷ 0 ∷ 254 ∷ 255 ∷ 0 ∷ 0 ∷ []
+
+pub bin-leaf : leafLine 2 2 2 bin-inputs (1 ∷ 4 ∷ []) 5 (pos 0 ∷ pos 0 ∷ []) ≡ bytesOf "   5:  1 -2 |  0\n"
+unfolding bytesOf leafLine wordText columnText digitText inputText right elementText decimalZ decimal decimalWithin elementAt span toSigned unsignedAt
+bin-leaf = refl
+
+pub bin-unread : leafLine 2 2 2 bin-inputs [] 5 (pos 0 ∷ pos 1 ∷ []) ≡ bytesOf "   5:  ?    |  w\n"
+unfolding bytesOf leafLine wordText columnText digitText inputText right elementText realText signText omegaText decimal decimalWithin
+bin-unread = refl
+
+-- ---- the base
+
+limited-parts : (base : List ℕ) → limitedBase base ≡ true → (length base ≡ 8) × (limitCheckIn base 20 0 .number ≡ 0)
+unfolding limitedBase
+limited-parts base h = let parts = both (eqb (length base) 8) _ h in (eqb-true _ _ (parts .0), eqb-true _ _ (parts .1))
+
+pub limited-base : (base : List ℕ) → limitedBase base ≡ true → BasePart base
+limited-base base h =
+    let is = limited-parts base h in
+    record {
+      long = is .0;
+      small = λ k l. element-within base (k * elementSize) 64 (λ i j. rw add-zero at (within-limit base 20 0 (is .1) k i (omega arith) l j));
+    }
+
+pub expanding-short : (b : Bool) → length (expandingWord b) ≤ 16
+unfolding expandingWord bytesOf
+expanding-short true = omega arith
+expanding-short false = omega arith
+
+-- ---- the digits of a word
+
+module _ (inputs : List ℕ) (k : ℕ) where
+  pub input-there : k < elementCount inputs → inputText inputs k ≡ elementText (recordAt inputs k)
+  unfolding inputText
+  input-there h = rw (lt-ltb _ _ h, inputText)
+
+  pub input-missing : elementCount inputs ≤ k → inputText inputs k ≡ bytesOf "?"
+  unfolding inputText
+  input-missing h = rw (le-ltb _ _ h, inputText)
+
+module _ (inputs word : List ℕ) (i : ℕ) where
+  pub digit-there : i < length word → digitText inputs word i ≡ inputText inputs (getD word i 0)
+  unfolding digitText
+  digit-there h = rw (lt-ltb _ _ h, digitText)
+
+  pub digit-unread : length word ≤ i → i ≡ 0 → digitText inputs word i ≡ bytesOf "?"
+  unfolding digitText
+  digit-unread h e = rw (le-ltb _ _ h, eq-eqb i 0 e, digitText)
+
+  pub digit-past : length word ≤ i → (i ≡ 0 → ⊥) → digitText inputs word i ≡ []
+  unfolding digitText
+  digit-past h d = rw (le-ltb _ _ h, ne-eqb i 0 d, digitText)
+
+pub word-next : (width : ℕ) (inputs word : List ℕ) (i : ℕ) → wordText width inputs word (i + 1) ≡ wordText width inputs word i ++ columnText width inputs word i
+unfolding wordText
+word-next width inputs word i = rw add-one
+
+-- ---- lengths, where every byte of the input digits is one
+
+module _ (inputs : List ℕ) (given : (k : ℕ) → getD inputs k 0 < 256) where
+  pub bytes-within : (at : ℕ) → Within 32768 (elementAt inputs at)
+  unfolding unsignedAt
+  bytes-within at = element-within inputs at 32768 (λ k h. size-any _ (omega (arith, given (at + 2 * k), given (at + 2 * k + 1))))
+
+  input-short : (k : ℕ) → length (inputText inputs k) ≤ 13
+  unfolding inputText bytesOf
+  input-short k =
+      choice-short (ltb k (elementCount inputs)) (elementText (recordAt inputs k)) (bytesOf "?") 13 (element-short _ (bytes-within (k * elementSize))) (omega arith)
+
+  pub digit-short : (word : List ℕ) (i : ℕ) → length (digitText inputs word i) ≤ 13
+  unfolding digitText bytesOf
+  digit-short word i =
+      choice-short (ltb i (length word)) (inputText inputs (getD word i 0)) (elim (eqb i 0) [ true ↦ bytesOf "?" | false ↦ [] ]) 13 (input-short (getD word i 0)) (choice-short (eqb i 0) (bytesOf "?") [] 13 (omega arith) (omega arith))
+
+  column-short : (width : ℕ) → width ≤ 13 → (word : List ℕ) (i : ℕ) → length (columnText width inputs word i) ≤ 14
+  unfolding columnText bytesOf
+  column-short width h word i = omega (arith, right-length width (digitText inputs word i), digit-short word i)
+
+  pub word-short : (width : ℕ) → width ≤ 13 → (word : List ℕ) (n : ℕ) → length (wordText width inputs word n) ≤ 14 * n
+  unfolding wordText
+  word-short width h word zero = omega arith
+  word-short width h word (suc n) =
+      omega (arith, length-append (wordText width inputs word n) (columnText width inputs word n), word-short width h word n, column-short width h word n)

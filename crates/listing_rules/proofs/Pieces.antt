@@ -7,7 +7,7 @@ use native.Mathlib.Numerals.{add-one}
 use lib.ListN.{length, take, set, replicate, length-append, length-replicate}
 use lib.Seq.{take-at}
 use Rattle.lists.specs.Overwrite.{overwrite}
-use Rattle.lists.proofs.Overwrite.{overwrite-append, overwrite-none, overwrite-snoc}
+use Rattle.lists.proofs.Overwrite.{overwrite-append, overwrite-none, overwrite-snoc, length-overwrite}
 
 -- t is s with the text written from place p on, and r the next place: what each function that writes ensures
 abbrev pub Put : List ℕ → List ℕ → ℕ → ℕ → List ℕ → Type 0
@@ -19,6 +19,18 @@ put-none s p = (omega arith, sym (overwrite-none s p))
 pub put-more : (s t u a b : List ℕ) (p q r : ℕ) → Put s t p q a → Put t u q r b → p + length a ≤ length s → Put s u p r (a ++ b)
 put-more s t u a b p q r (q-is, t-is) (r-is, u-is) h =
     (omega (arith, length-append a b), u-is ∙ ap₂ (λ (x : List ℕ) (k : ℕ). overwrite x k b) t-is q-is ∙ overwrite-append s p a b h)
+
+-- any number of pieces, one behind the other: room for all of them is enough
+pub data Pieces : List ℕ → List ℕ → ℕ → ℕ → List ℕ → Type 0 where
+  last : (s t a : List ℕ) (p r : ℕ) → Put s t p r a → Pieces s t p r a
+  next : (s t u a b : List ℕ) (p q r : ℕ) → Put s t p q a → Pieces t u q r b → Pieces s u p r (a ++ b)
+
+pub put-all : {s t text : List ℕ} {p r : ℕ} → Pieces s t p r text → p + length text ≤ length s → Put s t p r text
+put-all (last s t a p r w) h = w
+put-all (next s t u a b p q r w rest) h =
+    let total = length-append a b in
+    let same = ap length (w .1) ∙ length-overwrite s p a (omega arith) in
+    put-more s t u a b p q r w (put-all rest (omega (arith, w .0))) (omega arith)
 
 -- a text that was written from the start on is what the buffer begins with
 pub put-begins : (s text : List ℕ) → length text ≤ length s → take (length text) (overwrite s 0 text) ≡ text
@@ -36,3 +48,7 @@ space-more s p k h =
     ap (λ (i : ℕ). set (overwrite s p (replicate k 32)) (p + i) 32) (sym n)
     ∙ overwrite-snoc s p (replicate k 32) 32 (omega arith)
     ∙ ap (overwrite s p) (sym (replicate-more k 32) ∙ ap (λ (i : ℕ). replicate i 32) (sym (add-one k)))
+
+-- a text from the start of a buffer on: what a function that writes a line ensures
+pub put-line : (s t a text : List ℕ) (r n : ℕ) → Put s t 0 r a → a ≡ text → length a ≤ n → (r ≡ length text) × ((t ≡ overwrite s 0 text) × (r ≤ n))
+put-line s t a text r n (r-is, t-is) e h = (omega (arith, ap length e), (t-is ∙ ap (overwrite s 0) e, omega arith))

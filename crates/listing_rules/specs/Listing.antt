@@ -1,15 +1,16 @@
 -- For the programs' output only; a reader may skip this file. The lines of a table as the program `show` writes them.
 use mathlib.Core.Bool.{Bool, true, false, _&&_}
 use mathlib.Core.List.{List, [], _∷_, _++_}
-use Prim.Native.Nat.{ℕ, zero, suc}
-use lib.Dec.{ltb, leb}
-use lib.IntN.{ℤ, natAbs}
+use Prim.Native.Nat.{ℕ, zero, suc, _+_, _*_, _/_, max, min}
+use lib.Dec.{ltb, eqb}
+use lib.IntN.{ℤ}
 use lib.ListN.{length, getD}
-use Rattle.ring.specs.Element.{part}
+use Rattle.layout_rules.specs.Limit.{limitCheckIn}
 use Rattle.ring.specs.Base.{baseTrace, baseNorm}
 use Rattle.ring.specs.Tests.{expanding}
 use Rattle.digit_rules.specs.Base.{sOf, tOf, uOf, vOf}
-use Rattle.digit_rules.specs.Record.{recordAt, elementCount}
+use Rattle.digit_rules.specs.Record.{elementAt, recordAt, elementCount}
+use Rattle.numeration.specs.LeafOf.{largest}
 use Rattle.text_rules.specs.Bytes.{bytesOf}
 use Rattle.text_rules.specs.Decimal.{decimal, decimalZ}
 use Rattle.listing_rules.specs.Element.{elementText, right}
@@ -19,7 +20,11 @@ unfoldable pub ringLine : List ℕ → List ℕ
 ringLine base =
     bytesOf "omega^2 = " ++ (elementText (tOf base ∷ sOf base ∷ []) ++ (bytesOf ", base " ++ (elementText (recordAt base 1) ++ bytesOf "\n")))
 
--- T, N and whether the base is expanding, of numbers inside their size limits; nothing of others
+-- a base section of two elements, its numbers inside their size limits
+unfoldable pub limitedBase : List ℕ → Bool
+limitedBase base = eqb (length base) 8 && eqb (limitCheckIn base 20 0 .number) 0
+
+-- T, N and whether the base is expanding
 unfoldable pub expandingWord : Bool → List ℕ
 expandingWord true = bytesOf ", expanding\n"
 expandingWord false = bytesOf ", not expanding\n"
@@ -30,22 +35,37 @@ normLine s t u v =
 
 -- a digit of a list, behind a space
 unfoldable pub itemText : List ℤ → List ℕ
-itemText x = 32 ∷ elementText x
+itemText x = bytesOf " " ++ elementText x
 
--- the digit of a word at a place: `?` for a byte that is no input index, and for a word that can't be read, which is handed on empty
+-- an input digit by its index: `?` where there is none
+unfoldable pub inputText : List ℕ → ℕ → List ℕ
+inputText inputs k = elim (ltb k (elementCount inputs)) [ true ↦ elementText (recordAt inputs k) | false ↦ bytesOf "?" ]
+
+-- the digit of a word in a column: none past its end, `?` where the word can't be read, which is then handed on empty
 unfoldable pub digitText : List ℕ → List ℕ → ℕ → List ℕ
 digitText inputs word i =
-    elim (ltb i (length word)) [
-      | false ↦ elim (leb 1 i) [ true ↦ [] | false ↦ bytesOf "?" ]
-      | true ↦ elim (ltb (getD word i 0) (elementCount inputs)) [ true ↦ elementText (recordAt inputs (getD word i 0)) | false ↦ bytesOf "?" ]
-    ]
+    elim (ltb i (length word)) [ true ↦ inputText inputs (getD word i 0) | false ↦ elim (eqb i 0) [ true ↦ bytesOf "?" | false ↦ [] ] ]
 
--- the first columns of a word, each behind a space
+-- a column behind a space, and the first columns of a word
+unfoldable pub columnText : ℕ → List ℕ → List ℕ → ℕ → List ℕ
+columnText width inputs word i = bytesOf " " ++ right width (digitText inputs word i)
+
 unfoldable pub wordText : ℕ → List ℕ → List ℕ → ℕ → List ℕ
 wordText width inputs word zero = []
-wordText width inputs word (suc i) = wordText width inputs word i ++ (32 ∷ right width (digitText inputs word i))
+wordText width inputs word (suc i) = wordText width inputs word i ++ columnText width inputs word i
 
 -- the number of a leaf, its word and its weight
 unfoldable pub leafLine : ℕ → ℕ → ℕ → List ℕ → List ℕ → ℕ → List ℤ → List ℕ
-leafLine columns width weightWidth inputs word leaf weight =
-    right 4 (decimal leaf) ++ (bytesOf ":" ++ (wordText width inputs word columns ++ (bytesOf " | " ++ (right weightWidth (elementText weight) ++ bytesOf "\n"))))
+leafLine columns width weights inputs word leaf weight =
+    right 4 (decimal leaf) ++ (bytesOf ":" ++ (wordText width inputs word columns ++ (bytesOf " | " ++ (right weights (elementText weight) ++ bytesOf "\n"))))
+
+-- how many columns words of this depth get, and a word as it is shown: one that is longer than a word may be can't be read
+unfoldable pub columnsFor : ℕ → ℕ
+columnsFor depth = max 1 (min depth 8)
+
+unfoldable pub wordShown : List ℕ → List ℕ
+wordShown word = elim (ltb 8 (length word)) [ true ↦ [] | false ↦ word ]
+
+-- the longest text among the elements of records of a size, each so many bytes behind its record's start
+unfoldable pub widest : List ℕ → ℕ → ℕ → ℕ
+widest part size skip = largest (λ k. length (elementText (elementAt part (k * size + skip)))) (length part / size)

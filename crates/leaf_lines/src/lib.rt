@@ -1,0 +1,114 @@
+// The line of a leaf as the program `show` writes it: its number, its word in columns, its weight.
+ghost use mathlib.Core.Path.{_≡_};
+ghost use Prim.Native.Nat.{_+_, _≤_, _<_};
+ghost use lib.ListN.{length};
+ghost use Rattle.lists.specs.Overwrite.{overwrite};
+ghost use Rattle.ring.specs.Tests.{Within};
+ghost use Rattle.text_rules.specs.Decimal.{decimal};
+ghost use Rattle.listing_rules.specs.Element.{elementText, right};
+ghost use Rattle.listing_rules.specs.Listing.{inputText, digitText, columnText, wordText, leafLine};
+
+// The section of input digits.
+const INPUTS: usize = 2;
+
+// The columns of a listing: how many a word has, how wide each is, and how wide that of the weights.
+pub struct Columns {
+    pub count: usize,
+    pub digits: usize,
+    pub weights: usize,
+}
+
+// Writes an input digit by its index; the count of its bytes.
+fn input_text(inputs: &[u8], k: usize, out: &mut [u8]) -> usize
+    requires { ⌜ 16 ≤ length (now out) ⌝ }
+    ensures count { λ r. ⌜ r ≡ length (inputText (now (inputs .entry)) k) ⌝ }
+    ensures buffer { λ r. ⌜ now (out .exit) ≡ overwrite (now (out .entry)) 0 (inputText (now (inputs .entry)) k) ⌝ }
+{
+    if k < layout::record_count(inputs, INPUTS) {
+        return element_text::put_element(out, 0, digits::record_at(inputs, k));
+    }
+    octets::put(out, 0, b"?")
+}
+
+// Writes the digit of a word in a column; the count of its bytes.
+fn digit_text(inputs: &[u8], word: &[u8], i: usize, out: &mut [u8]) -> usize
+    requires { ⌜ 16 ≤ length (now out) ⌝ }
+    ensures count { λ r. ⌜ r ≡ length (digitText (now (inputs .entry)) (now (word .entry)) i) ⌝ }
+    ensures buffer { λ r. ⌜ now (out .exit) ≡ overwrite (now (out .entry)) 0 (digitText (now (inputs .entry)) (now (word .entry)) i) ⌝ }
+{
+    if i < word.len() {
+        return input_text(inputs, octets::wide(word[i]), out);
+    }
+    if i == 0 {
+        return octets::put(out, 0, b"?");
+    }
+    0
+}
+
+// Writes a column from a place on; the next place.
+fn put_column(inputs: &[u8], word: &[u8], i: usize, width: usize, out: &mut [u8], at: usize) -> usize
+    requires { ⌜ at + length (columnText width (now inputs) (now word) i) ≤ length (now out) ⌝ }
+    ensures end { λ r. ⌜ r ≡ at + length (columnText width (now (inputs .entry)) (now (word .entry)) i) ⌝ }
+    ensures buffer { λ r. ⌜ now (out .exit) ≡ overwrite (now (out .entry)) at (columnText width (now (inputs .entry)) (now (word .entry)) i) ⌝ }
+{
+    let mut digit = [0u8; 16];
+    let n = digit_text(inputs, word, i, &mut digit);
+    let start = octets::put(out, at, b" ");
+    element_text::put_right(out, start, width, &digit[..n])
+}
+
+// Writes the columns of a word from a place on; the next place.
+fn put_word(inputs: &[u8], word: &[u8], columns: usize, width: usize, out: &mut [u8], at: usize) -> usize
+    requires { ⌜ at + length (wordText width (now inputs) (now word) columns) ≤ length (now out) ⌝ }
+    ensures end { λ r. ⌜ r ≡ at + length (wordText width (now (inputs .entry)) (now (word .entry)) columns) ⌝ }
+    ensures buffer { λ r. ⌜ now (out .exit) ≡ overwrite (now (out .entry)) at (wordText width (now (inputs .entry)) (now (word .entry)) columns) ⌝ }
+{
+    let mut end = at;
+    let mut i = 0;
+    while i < columns {
+        end = put_column(inputs, word, i, width, out, end);
+        i += 1;
+    }
+    end
+}
+
+// Writes a number at the right of four places; the next place.
+fn put_number(out: &mut [u8], at: usize, n: usize) -> usize
+    requires { ⌜ at + length (right 4 (decimal n)) ≤ length (now out) ⌝ }
+    ensures end { λ r. ⌜ r ≡ at + length (right 4 (decimal n)) ⌝ }
+    ensures buffer { λ r. ⌜ now (out .exit) ≡ overwrite (now (out .entry)) at (right 4 (decimal n)) ⌝ }
+{
+    let mut text = [0u8; 20];
+    let end = text::put_decimal(&mut text, 0, n);
+    element_text::put_right(out, at, 4, &text[..end])
+}
+
+// Writes an element at the right of a column; the next place.
+fn put_aligned(out: &mut [u8], at: usize, width: usize, x: [i64; 2]) -> usize
+    requires room { ⌜ at + length (right width (elementText x)) ≤ length (now out) ⌝ }
+    requires parts { ⌜ Within 32768 x ⌝ }
+    ensures end { λ r. ⌜ r ≡ at + length (right width (elementText x)) ⌝ }
+    ensures buffer { λ r. ⌜ now (out .exit) ≡ overwrite (now (out .entry)) at (right width (elementText x)) ⌝ }
+{
+    let mut text = [0u8; 16];
+    let end = element_text::put_element(&mut text, 0, x);
+    element_text::put_right(out, at, width, &text[..end])
+}
+
+// Writes the line of a leaf; the count of its bytes.
+pub fn leaf_line(inputs: &[u8], word: &[u8], leaf: usize, weight: [i64; 2], columns: Columns, out: &mut [u8]) -> usize
+    requires room { ⌜ 256 ≤ length (now out) ⌝ }
+    requires parts { ⌜ Within 32768 weight ⌝ }
+    requires few { ⌜ (columns .count ≤ 8) × (columns .digits ≤ 13) × (columns .weights ≤ 13) ⌝ }
+    ensures count { λ r. ⌜ r ≡ length (leafLine (columns .count) (columns .digits) (columns .weights) (now (inputs .entry)) (now (word .entry)) leaf weight) ⌝ }
+    ensures buffer { λ r. ⌜ now (out .exit) ≡ overwrite (now (out .entry)) 0
+        (leafLine (columns .count) (columns .digits) (columns .weights) (now (inputs .entry)) (now (word .entry)) leaf weight) ⌝ }
+    ensures within { λ r. ⌜ r ≤ 256 ⌝ }
+{
+    let colon = put_number(out, 0, leaf);
+    let word_at = octets::put(out, colon, b":");
+    let bar = put_word(inputs, word, columns.count, columns.digits, out, word_at);
+    let weight_at = octets::put(out, bar, b" | ");
+    let end = put_aligned(out, weight_at, columns.weights, weight);
+    octets::put(out, end, b"\n")
+}
