@@ -46,7 +46,14 @@ fn digit_text(inputs: &[u8], word: &[u8], i: usize, out: &mut [u8]) -> usize
 }
 
 // Writes a column from a place on; the next place.
-fn put_column(inputs: &[u8], word: &[u8], i: usize, width: usize, out: &mut [u8], at: usize) -> usize
+fn put_column(
+    inputs: &[u8],
+    word: &[u8],
+    i: usize,
+    width: usize,
+    out: &mut [u8],
+    at: usize,
+) -> usize
     requires { ⌜ at + length (columnText width (now inputs) (now word) i) ≤ length (now out) ⌝ }
     ensures end { λ r. ⌜ r ≡ at + length (columnText width (now (inputs .entry)) (now (word .entry)) i) ⌝ }
     ensures buffer { λ r. ⌜ now (out .exit) ≡ overwrite (now (out .entry)) at (columnText width (now (inputs .entry)) (now (word .entry)) i) ⌝ }
@@ -58,7 +65,14 @@ fn put_column(inputs: &[u8], word: &[u8], i: usize, width: usize, out: &mut [u8]
 }
 
 // Writes the columns of a word from a place on; the next place.
-fn put_word(inputs: &[u8], word: &[u8], columns: usize, width: usize, out: &mut [u8], at: usize) -> usize
+fn put_word(
+    inputs: &[u8],
+    word: &[u8],
+    columns: usize,
+    width: usize,
+    out: &mut [u8],
+    at: usize,
+) -> usize
     requires { ⌜ at + length (wordText width (now inputs) (now word) columns) ≤ length (now out) ⌝ }
     ensures end { λ r. ⌜ r ≡ at + length (wordText width (now (inputs .entry)) (now (word .entry)) columns) ⌝ }
     ensures buffer { λ r. ⌜ now (out .exit) ≡ overwrite (now (out .entry)) at (wordText width (now (inputs .entry)) (now (word .entry)) columns) ⌝ }
@@ -96,7 +110,14 @@ fn put_aligned(out: &mut [u8], at: usize, width: usize, x: [i64; 2]) -> usize
 }
 
 // Writes the line of a leaf; the count of its bytes.
-pub fn leaf_line(inputs: &[u8], word: &[u8], leaf: usize, weight: [i64; 2], columns: Columns, out: &mut [u8]) -> usize
+pub fn leaf_line(
+    inputs: &[u8],
+    word: &[u8],
+    leaf: usize,
+    weight: [i64; 2],
+    columns: Columns,
+    out: &mut [u8],
+) -> usize
     requires room { ⌜ 256 ≤ length (now out) ⌝ }
     requires parts { ⌜ Within 32768 weight ⌝ }
     requires few { ⌜ (columns .count ≤ 8) × (columns .digits ≤ 13) × (columns .weights ≤ 13) ⌝ }

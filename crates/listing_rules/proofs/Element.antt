@@ -126,3 +126,6 @@ element-short x h =
 pub right-length : (width : ℕ) (text : List ℕ) → length (right width text) ≡ max width (length text)
 unfolding right
 right-length width text = simp (length-append, length-replicate) (omega arith)
+
+pub right-short : (width : ℕ) (text : List ℕ) (k : ℕ) → width ≤ k → length text ≤ k → length (right width text) ≤ k
+right-short width text k h l = omega (arith, right-length width text)

@@ -5,7 +5,8 @@ use mathlib.Core.List.{List, [], _∷_, _++_}
 use Prim.Native.Nat.{ℕ, zero, suc, _+_, _*_, _<_, _≤_}
 use native.Mathlib.Omega.{arith}
 use native.Mathlib.Numerals.{add-one}
-use native.Mathlib.Nat.{add-zero}
+use native.Mathlib.Nat.{add-zero, not-suc-le-zero}
+use native.Mathlib.Decide.{decLt}
 use lib.Dec.{eqb, ltb}
 use lib.IntN.{ℤ, pos, negsuc}
 use lib.ListN.{length, getD, length-append}
@@ -95,6 +96,17 @@ module _ (inputs word : List ℕ) (i : ℕ) where
 pub word-next : (width : ℕ) (inputs word : List ℕ) (i : ℕ) → wordText width inputs word (i + 1) ≡ wordText width inputs word i ++ columnText width inputs word i
 unfolding wordText
 word-next width inputs word i = rw add-one
+
+-- the columns up to one and that one have room where all have
+pub word-before : (width : ℕ) (inputs word : List ℕ) (i n : ℕ) → i < n → length (wordText width inputs word i) + length (columnText width inputs word i) ≤ length (wordText width inputs word n)
+unfolding wordText
+word-before width inputs word i zero h = absurd (not-suc-le-zero h)
+word-before width inputs word i (suc n) h =
+    let grown = length-append (wordText width inputs word n) (columnText width inputs word n) in
+    elim (decLt i n) [
+      | yes l ↦ omega (arith, grown, word-before width inputs word i n l)
+      | no m ↦ let last : i ≡ n = omega arith in rw last (omega (arith, grown))
+    ]
 
 -- ---- lengths, where every byte of the input digits is one
 

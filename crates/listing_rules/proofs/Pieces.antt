@@ -33,9 +33,9 @@ put-all (next s t u a b p q r w rest) h =
     put-more s t u a b p q r w (put-all rest (omega (arith, w .0))) (omega arith)
 
 -- a text that was written from the start on is what the buffer begins with
-pub put-begins : (s text : List ℕ) → length text ≤ length s → take (length text) (overwrite s 0 text) ≡ text
+pub put-taken : (s t text : List ℕ) (r : ℕ) → r ≡ length text → t ≡ overwrite s 0 text → take r t ≡ text
 unfolding overwrite
-put-begins s text h = take-at text _ (length text) refl
+put-taken s t text r r-is t-is = ap₂ take r-is t-is ∙ take-at text _ (length text) refl
 
 -- one space more
 replicate-more : (k a : ℕ) → replicate (suc k) a ≡ replicate k a ++ (a ∷ [])

@@ -55,7 +55,6 @@ array-copy-out-a c = search needs
 cast-a : tie.Need-cast-a
 cast-a c = rw (stored-is w64 (at (c .before .before .args .t3) (c .before .before .pre .1) 0) refl) (plain-fits w32 (at (c .before .before .args .t3) (c .before .before .pre .1) 0) refl)
 
-
 -- src/lib.rt:58:13
 array-copy-out-b : tie.Need-array-copy-out-b
 array-copy-out-b c = search needs
@@ -63,7 +62,6 @@ array-copy-out-b c = search needs
 -- src/lib.rt:58:13
 cast-b : tie.Need-cast-b
 cast-b c = rw (stored-is w64 (at (c .before .before .before .args .t3) (c .before .before .before .pre .1) 1) refl) (plain-fits w32 (at (c .before .before .before .args .t3) (c .before .before .before .pre .1) 1) refl)
-
 
 -- src/lib.rt:59:29
 array-copy-out-size : tie.Need-array-copy-out-size
@@ -73,11 +71,9 @@ array-copy-out-size c = search needs
 size-requires : tie.Need-size-requires
 size-requires c κs = stored-below w64 (at (c .before .before .before .before .args .t3) (c .before .before .before .before .pre .1) 1) refl
 
-
 -- src/lib.rt:61:9
 put-signed-requires : tie.Need-put-signed-requires
 put-signed-requires c κs = rw (narrow (c .before .before .before .before .before .before .before .args .t3) (c .before .before .before .before .before .before .before .pre .1) 0) (omega (arith, c .before .before .before .before .before .before .before .pre .0, ap length (whole (c .before .before .before .before .before .before .before .args .t3) (c .before .before .before .before .before .before .before .pre .1) _ (c .before .before .size .ensures) (c .before .if1 .taken))))
-
 
 -- src/lib.rt:61:9
 same-length : tie.Need-same-length
@@ -87,17 +83,14 @@ same-length c = search needs
 returns : tie.Need-returns
 returns c = rw (whole (c .before .before .before .before .before .before .before .before .before .before .args .t3) (c .before .before .before .before .before .before .before .before .before .before .pre .1) _ (c .before .before .before .before .before .size .ensures) (c .before .before .before .before .if1 .taken)) (rw (narrow (c .before .before .before .before .before .before .before .before .before .before .args .t3) (c .before .before .before .before .before .before .before .before .before .before .pre .1) 0) at (c .before .before .put-signed .ensures))
 
-
 -- src/lib.rt:63:9
 put-real-requires : tie.Need-put-real-requires
 put-real-requires c κs = rw (narrow (c .before .before .before .before .before .before .before .args .t3) (c .before .before .before .before .before .before .before .pre .1) 0) (omega (arith, c .before .before .before .before .before .before .before .pre .0, lengths (c .before .before .before .before .before .before .before .args .t3) (c .before .before .before .before .before .before .before .pre .1) _ (c .before .before .size .ensures) (c .before .if1 .left)))
-
 
 -- src/lib.rt:64:9
 put-sign-requires : tie.Need-put-sign-requires
 put-sign-requires c κs =
     rw (narrow (c .before .before .before .before .before .before .before .before .before .before .before .args .t3) (c .before .before .before .before .before .before .before .before .before .before .before .pre .1) 0, narrow (c .before .before .before .before .before .before .before .before .before .before .before .args .t3) (c .before .before .before .before .before .before .before .before .before .before .before .pre .1) 1) (omega (arith, c .before .before .before .before .before .before .before .before .before .before .before .pre .0, lengths (c .before .before .before .before .before .before .before .before .before .before .before .args .t3) (c .before .before .before .before .before .before .before .before .before .before .before .pre .1) _ (c .before .before .before .before .before .before .size .ensures) (c .before .before .before .before .before .if1 .left), (rw (narrow (c .before .before .before .before .before .before .before .before .before .before .before .args .t3) (c .before .before .before .before .before .before .before .before .before .before .before .pre .1) 0) at (c .before .before .before .put-real .ensures .0))))
-
 
 -- src/lib.rt:65:5
 put-omega-requires : tie.Need-put-omega-requires
@@ -105,7 +98,6 @@ put-omega-requires c κs =
     let real = rw (narrow (c .before .before .before .before .before .before .before .before .before .before .before .before .before .before .before .args .t3) (c .before .before .before .before .before .before .before .before .before .before .before .before .before .before .before .pre .1) 0) at (c .before .before .before .before .before .before .before .put-real .ensures .0) in
     let sign = rw (narrow (c .before .before .before .before .before .before .before .before .before .before .before .before .before .before .before .args .t3) (c .before .before .before .before .before .before .before .before .before .before .before .before .before .before .before .pre .1) 0, narrow (c .before .before .before .before .before .before .before .before .before .before .before .before .before .before .before .args .t3) (c .before .before .before .before .before .before .before .before .before .before .before .before .before .before .before .pre .1) 1) at (c .before .before .before .put-sign .ensures .0) in
     omega (arith, c .before .before .before .before .before .before .before .before .before .before .before .before .before .before .before .pre .0, lengths (c .before .before .before .before .before .before .before .before .before .before .before .before .before .before .before .args .t3) (c .before .before .before .before .before .before .before .before .before .before .before .before .before .before .before .pre .1) _ (c .before .before .before .before .before .before .before .before .before .before .size .ensures) (c .before .before .before .before .before .before .before .before .before .if1 .left), real, sign)
-
 
 -- src/lib.rt:51:1
 same-length-2 : tie.Need-same-length-2

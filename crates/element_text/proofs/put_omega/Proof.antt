@@ -23,7 +23,6 @@ put-requires : tie.Need-put-requires
 unfolding bytesOf
 put-requires c κs = omega (arith, ap length (omega-one (c .before .before .before .before .args .n) (c .before .before .if1 .taken)))
 
-
 -- src/lib.rt:17:9
 same-length : tie.Need-same-length
 same-length c = search needs
@@ -33,12 +32,10 @@ returns : tie.Need-returns
 unfolding bytesOf
 returns c = rw (omega-one (c .before .before .before .before .before .before .before .args .n) (c .before .before .before .before .before .if1 .taken)) (c .before .before .put .ensures)
 
-
 -- src/lib.rt:19:9
 put-decimal-requires : tie.Need-put-decimal-requires
 unfolding bytesOf
 put-decimal-requires c κs = omega (arith, ap length (omega-more (c .before .before .before .args .n) (c .before .if1 .left)), length-append (decimal (c .before .before .before .args .n)) (bytesOf "w"))
-
 
 -- src/lib.rt:20:27
 slice-aggregate-put-2 : tie.Need-slice-aggregate-put-2
@@ -48,7 +45,6 @@ slice-aggregate-put-2 c = search needs
 put-requires-2 : tie.Need-put-requires-2
 unfolding bytesOf
 put-requires-2 c κs = omega (arith, ap length (omega-more (c .before .before .before .before .before .before .before .before .args .n) (c .before .before .before .before .before .before .if1 .left)), length-append (decimal (c .before .before .before .before .before .before .before .before .args .n)) (bytesOf "w"))
-
 
 -- src/lib.rt:11:1
 same-length-2 : tie.Need-same-length-2

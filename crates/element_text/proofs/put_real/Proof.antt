@@ -18,11 +18,9 @@ use Rattle.text.proofs.put_signed.Reads as put-signed-reads
 returns : tie.Need-returns
 returns c = rw (real-none (c .before .before .args .a) (is-zero w32 (c .before .before .args .a) (c .before .before .fits .a) (search needs) (c .if1 .taken))) (put-none (c .before .before .args .out .now) (c .before .before .args .at))
 
-
 -- src/lib.rt:32:5
 put-signed-requires : tie.Need-put-signed-requires
 put-signed-requires c κs = rw (toZ-ofZ w32 (c .before .before .before .args .a) (c .before .before .before .fits .a)) (omega (arith, ap length (real-some (c .before .before .before .args .a) (not-zero w32 (c .before .before .before .args .a) (c .before .if1 .left)))))
-
 
 -- src/lib.rt:24:1
 same-length : tie.Need-same-length

@@ -31,50 +31,41 @@ loop-holds c =
     let none : length (c .before .before .args .text .now) - length (c .before .before .args .text .now) ≡ 0 = omega arith in
     (omega arith, omega arith, omega arith, sym (overwrite-none (c .before .before .args .out .now) (c .before .before .args .at)) ∙ ap (λ (k : ℕ). overwrite (c .before .before .args .out .now) (c .before .before .args .at) (replicate k 32)) (sym none), refl)
 
-
 -- src/lib.rt:77:9
 slice-write-out : tie.Need-slice-write-out Inv-loop μ-loop
 slice-write-out c = omega (arith, right-length (c .before .before .before .before .args .width) (c .before .before .before .before .args .text .now))
-
 
 -- src/lib.rt:78:9
 add-end : tie.Need-add-end Inv-loop μ-loop
 add-end c = omega (arith, right-length (c .before .before .before .before .args .width) (c .before .before .before .before .args .text .now))
 
-
 -- src/lib.rt:79:9
 add-filled : tie.Need-add-filled Inv-loop μ-loop
 add-filled c = omega arith
-
 
 -- src/lib.rt:76:5
 loop-less : tie.Need-loop-less Inv-loop μ-loop
 loop-less c = omega arith
 
-
 -- src/lib.rt:76:5
 loop-again : tie.Need-loop-again Inv-loop μ-loop
 loop-again c =
     let k : ℕ = c .before .loop .filled - length (c .before .before .before .before .args .text .now) in
-    let next : c .before .loop .filled + 1 - length (c .before .before .before .before .args .text .now) ≡ k + 1 = omega arith in
-    (
+    let next : c .before .loop .filled + 1 - length (c .before .before .before .before .args .text .now) ≡ k + 1 = omega arith in (
       omega arith,
       omega arith,
       omega arith,
       ap₂ (λ x (i : ℕ). set x i 32) (c .before .loop .inv .3) (c .before .loop .inv .2) ∙ space-more (c .before .before .before .before .args .out .now) (c .before .before .before .before .args .at) k (omega (arith, right-length (c .before .before .before .before .args .width) (c .before .before .before .before .args .text .now))) ∙ ap (λ (i : ℕ). overwrite (c .before .before .before .before .args .out .now) (c .before .before .before .before .args .at) (replicate i 32)) (sym next),
-      simp length-set (c .before .loop .inv .4)
+      simp length-set (c .before .loop .inv .4),
     )
-
 
 -- src/lib.rt:81:5
 put-requires : tie.Need-put-requires Inv-loop μ-loop
 put-requires c κs = omega (arith, right-length (c .before .before .before .before .before .args .width) (c .before .before .before .before .before .args .text .now))
 
-
 -- src/lib.rt:69:1
 same-length : tie.Need-same-length Inv-loop μ-loop
 same-length c = search needs
-
 
 -- src/lib.rt:69:1
 returns : tie.Need-returns Inv-loop μ-loop

@@ -22,7 +22,6 @@ put-requires : tie.Need-put-requires
 unfolding bytesOf
 put-requires c κs = omega (arith, ap length (sign-below (c .before .before .before .before .args .a) (c .before .before .before .before .args .b) (sign-test w32 (c .before .before .before .before .args .b) _ (c .before .before .before .before .fits .b) (c .before .before .if1 .taken))))
 
-
 -- src/lib.rt:42:9
 same-length : tie.Need-same-length
 same-length c = search needs
@@ -32,11 +31,9 @@ returns : tie.Need-returns
 unfolding bytesOf
 returns c = rw (sign-below (c .before .before .before .before .before .before .before .args .a) (c .before .before .before .before .before .before .before .args .b) (sign-test w32 (c .before .before .before .before .before .before .before .args .b) _ (c .before .before .before .before .before .before .before .fits .b) (c .before .before .before .before .before .if1 .taken))) (c .before .before .put .ensures)
 
-
 -- src/lib.rt:45:9
 returns-2 : tie.Need-returns-2
 returns-2 c = rw (sign-none (c .before .before .before .args .a) (c .before .before .before .args .b) (sign-test w32 (c .before .before .before .args .b) _ (c .before .before .before .fits .b) (c .before .if1 .left)) (is-zero w32 (c .before .before .before .args .a) (c .before .before .before .fits .a) (search needs) (c .if2 .taken))) (put-none (c .before .before .before .args .out .now) (c .before .before .before .args .at))
-
 
 -- src/lib.rt:47:26
 slice-aggregate-put-2 : tie.Need-slice-aggregate-put-2
@@ -46,7 +43,6 @@ slice-aggregate-put-2 c = search needs
 put-requires-2 : tie.Need-put-requires-2
 unfolding bytesOf
 put-requires-2 c κs = omega (arith, ap length (sign-above (c .before .before .before .before .before .args .a) (c .before .before .before .before .before .args .b) (sign-test w32 (c .before .before .before .before .before .args .b) _ (c .before .before .before .before .before .fits .b) (c .before .before .before .if1 .left)) (not-zero w32 (c .before .before .before .before .before .args .a) (c .before .before .if2 .left))))
-
 
 -- src/lib.rt:36:1
 same-length-2 : tie.Need-same-length-2

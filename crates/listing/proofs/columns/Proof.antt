@@ -12,7 +12,6 @@ returns : tie.Need-returns
 unfolding columnsFor
 returns c = (omega arith, omega arith)
 
-
 -- src/lib.rt:92:5
 least-requires : tie.Need-least-requires
 least-requires c κs = search needs

@@ -20,7 +20,6 @@ returns : tie.Need-returns
 unfolding limitedBase
 returns c = rw (eq-eqb _ _ (c .before .before .if1 .taken), ← c .before .limits-in .ensures)
 
-
 -- src/lib.rt:36:1
 returns-2 : tie.Need-returns-2
 unfolding limitedBase

@@ -1,4 +1,3 @@
-
 use mathlib.Core.List.{_++_}
 use mathlib.Core.Path.{ap}
 use Rattle.listing_rules.proofs.Pieces.{put-more, put-line}
@@ -34,7 +33,6 @@ record-at-requires c κs = search needs
 put-element-requires : tie.Need-put-element-requires
 unfolding bytesOf
 put-element-requires c κs = (omega (arith, element-short _ (c .record-at .ensures .1)), c .record-at .ensures .1)
-
 
 -- src/lib.rt:74:1
 same-length : tie.Need-same-length

@@ -24,7 +24,6 @@ returns : tie.Need-returns
 unfolding bytesOf expandingWord
 returns c = rw (c .before .before .before .before .before .if1 .taken) (c .before .before .put .ensures)
 
-
 -- src/lib.rt:51:26
 slice-aggregate-put-2 : tie.Need-slice-aggregate-put-2
 slice-aggregate-put-2 c = search needs

@@ -59,7 +59,6 @@ put-element-requires c κs =
     let small = exchanged-within _ (c .before .before .before .before .before .before .before .before .record-at .ensures .1) in
     rw (exchanged _ (c .before .before .before .before .before .before .before .before .record-at .ensures .1)) (omega (arith, element-short _ small), small)
 
-
 -- src/lib.rt:30:42
 slice-aggregate-put-2 : tie.Need-slice-aggregate-put-2
 slice-aggregate-put-2 c = search needs
@@ -69,7 +68,6 @@ put-requires-2 : tie.Need-put-requires-2
 put-requires-2 c κs =
     let small = element-short _ (exchanged-within _ (c .before .before .before .before .before .before .before .before .before .before .before .before .before .record-at .ensures .1)) in
     omega (arith, small, (rw (exchanged _ (c .before .before .before .before .before .before .before .before .before .before .before .before .before .record-at .ensures .1)) at (c .before .before .before .before .put-element .ensures .0)))
-
 
 -- src/lib.rt:31:54
 record-at-requires-2 : tie.Need-record-at-requires-2
@@ -82,7 +80,6 @@ put-element-requires-2 c κs =
     let end = rw (exchanged _ (c .before .before .before .before .before .before .before .before .before .before .before .before .before .before .before .before .before .before .record-at .ensures .1)) at (c .before .before .before .before .before .before .before .before .before .put-element .ensures .0) in
     (omega (arith, small, end, element-short _ (c .record-at2 .ensures .1)), c .record-at2 .ensures .1)
 
-
 -- src/lib.rt:32:27
 slice-aggregate-put-3 : tie.Need-slice-aggregate-put-3
 slice-aggregate-put-3 c = search needs
@@ -93,7 +90,6 @@ put-requires-3 c κs =
     let small = element-short _ (exchanged-within _ (c .before .before .before .before .before .before .before .before .before .before .before .before .before .before .before .before .before .before .before .before .before .before .before .record-at .ensures .1)) in
     let end = rw (exchanged _ (c .before .before .before .before .before .before .before .before .before .before .before .before .before .before .before .before .before .before .before .before .before .before .before .record-at .ensures .1)) at (c .before .before .before .before .before .before .before .before .before .before .before .before .before .before .put-element .ensures .0) in
     omega (arith, small, end, element-short _ (c .before .before .before .before .before .record-at2 .ensures .1))
-
 
 -- src/lib.rt:21:1
 same-length : tie.Need-same-length

@@ -24,7 +24,6 @@ returns : tie.Need-returns
 unfolding wordShown
 returns c = rw (lt-ltb _ _ (c .before .if1 .taken), wordShown)
 
-
 -- src/lib.rt:96:1
 returns-2 : tie.Need-returns-2
 unfolding wordShown

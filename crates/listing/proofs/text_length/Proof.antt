@@ -15,8 +15,6 @@ slice-aggregate-put-element c = search needs
 put-element-requires : tie.Need-put-element-requires
 put-element-requires c κs = (omega (arith, element-short _ (c .before .pre)), c .before .pre)
 
-
-
 -- src/lib.rt:106:1
 returns : tie.Need-returns
 returns c = (omega (arith, c .before .put-element .ensures .0), omega (arith, element-short _ (c .before .before .before .pre), c .before .put-element .ensures .0))

@@ -1,6 +1,5 @@
 use native.Mathlib.Nat.{le-div-iff-mul-le, add-mul, div-le-self}
 use borrow.Author.Needs.{needs}
-
 use Rattle.listing_rules.specs.Listing.{widest}
 use Rattle.listing_rules.specs.Element.{elementText}
 use Rattle.leaf_rules.proofs.Leaf.{largest-next}
@@ -34,50 +33,34 @@ abbrev μ-loop : tie.MeasureT-loop
 div-count : tie.Need-div-count Inv-loop μ-loop
 div-count c = search needs
 
-
-
 -- src/lib.rt:124:5
 loop-holds : tie.Need-loop-holds Inv-loop μ-loop
 unfolding largest
 loop-holds c = (omega arith, refl, omega arith)
 
-
-
 -- src/lib.rt:125:56
 mul-element : tie.Need-mul-element Inv-loop μ-loop
 mul-element c = omega (arith, inside (length (c .before .before .before .args .part .now)) (c .before .before .before .args .size) (c .before .before .before .args .skip) (c .before .loop .k) (c .before .before .before .pre .0) (c .before .before .before .pre .1) (c .loop-test .taken))
-
-
 
 -- src/lib.rt:125:56
 add-element : tie.Need-add-element Inv-loop μ-loop
 add-element c = omega (arith, inside (length (c .before .before .before .args .part .now)) (c .before .before .before .args .size) (c .before .before .before .args .skip) (c .before .loop .k) (c .before .before .before .pre .0) (c .before .before .before .pre .1) (c .loop-test .taken))
 
-
-
 -- src/lib.rt:125:34
 element-requires : tie.Need-element-requires Inv-loop μ-loop
 element-requires c κs = inside (length (c .before .before .before .args .part .now)) (c .before .before .before .args .size) (c .before .before .before .args .skip) (c .before .loop .k) (c .before .before .before .pre .0) (c .before .before .before .pre .1) (c .loop-test .taken)
-
-
 
 -- src/lib.rt:125:13
 text-length-requires : tie.Need-text-length-requires Inv-loop μ-loop
 text-length-requires c κs = c .element .ensures .1
 
-
-
 -- src/lib.rt:129:9
 add-k : tie.Need-add-k Inv-loop μ-loop
 add-k c = omega (arith, div-le-self (length (c .before .before .before .before .before .before .args .part .now)) (c .before .before .before .before .before .before .args .size))
 
-
-
 -- src/lib.rt:124:5
 loop-less : tie.Need-loop-less Inv-loop μ-loop
 loop-less c = omega arith
-
-
 
 -- src/lib.rt:124:5
 loop-again : tie.Need-loop-again Inv-loop μ-loop
@@ -85,8 +68,6 @@ loop-again c =
     let next = largest-next (λ i. length (elementText (elementAt (c .before .before .before .before .before .before .args .part .now) (i * c .before .before .before .before .before .before .args .size + c .before .before .before .before .before .before .args .skip)))) (c .before .before .before .before .loop .k) in
     let here = c .before .text-length .ensures .0 ∙ ap (λ x. length (elementText x)) (c .before .before .element .ensures .0) in
     (omega arith, ⊎-elim (λ w. omega (arith, next, here)) (λ w. omega (arith, next, here)) (c .if1 .came), ⊎-elim (λ w. omega (arith, c .before .text-length .ensures .1)) (λ w. omega arith) (c .if1 .came))
-
-
 
 -- src/lib.rt:116:1
 returns : tie.Need-returns Inv-loop μ-loop
