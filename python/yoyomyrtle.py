@@ -1,0 +1,368 @@
+"""Weight tables and the digit adder for Python callers, and a writer of table files.
+
+The calls are those of include/yoyomyrtle.h, made through the shared library that `bin/build library` writes to target/. It is loaded at
+the first call; YOYOMYRTLE_LIBRARY names one that lies elsewhere. What the library knows is asked of it and not worked out here again.
+
+A table is the bytes of its file. A row is a list of digits (or bytes), each the index of an alphabet digit, lowest place first. A call
+that is refused raises Refused, which says whose fault it is, its number and place, and what docs/REFUSALS.md has on the number.
+
+With TERN, 2 2 plus 1 2 is 0 2 1; then place 0 of the first row becomes -2, the digit with index 4:
+
+>>> check(tern())
+Checked(depth=1, leaves=9, digits=5)
+>>> first, second = row(tern(), [2, 2]), row(tern(), [1, 2])
+>>> added = add(tern(), first, second)
+>>> print(*digits(tern(), added.sum))
+0 2 1
+>>> edited = edit(tern(), first, second, added.sum, row=0, place=0, digit=4)
+>>> print(*digits(tern(), edited.sum), '-', edited.changed, 'changed')
+-1 1 1 - 2 changed
+"""
+import ctypes
+import functools
+import os
+import re
+import struct
+from collections import namedtuple
+
+_ROOT = os.path.dirname(os.path.dirname(os.path.realpath(__file__)))
+_ANSWER_WORDS, _TERN_BYTES, _BIN_BYTES = 8, 165, 187
+_FACTS, _FAULT = 0, 1
+_GROUPS = (None, 'author', 'rows', 'editor')
+# No table is deeper, so that a sum always has room; the answer says how much of it was used.
+_DEEPEST = 8
+
+Checked = namedtuple('Checked', 'depth leaves digits')
+Added = namedtuple('Added', 'places sum')
+Edited = namedtuple('Edited', 'changed first second sum')
+Ran = namedtuple('Ran', 'answers first second sum')
+Explained = namedtuple('Explained', 'wrong counts todo')
+
+
+class Element(namedtuple('Element', 'a b')):
+    """The element a + b*omega; it equals the pair (a, b).
+
+    >>> print(Element(2, -3), Element(-1, 1), Element(0, -1), Element(4, 0))
+    2-3w -1+w -w 4
+    """
+    __slots__ = ()
+
+    def __str__(self):
+        omegas = {0: '', 1: '+w', -1: '-w'}.get(self.b, '%+dw' % self.b)
+        return ('%d' % self.a if self.a or not self.b else '') + (omegas if self.a else omegas.lstrip('+'))
+
+
+class Refused(Exception):
+    """A fault: whose it is ('author', 'rows' or 'editor'), its number and its place.
+
+    >>> try:
+    ...     value(tern(), [0, 7])
+    ... except Refused as fault:
+    ...     print(fault.whose, fault.number, fault.place)
+    rows 21 1
+    """
+
+    def __init__(self, whose, number, place):
+        super().__init__(whose, number, place)
+        self.whose, self.number, self.place = whose, number, place
+
+    @property
+    def explained(self):
+        """What is wrong, what the place counts and what to do, as docs/REFUSALS.md has it; None where the file isn't there."""
+        return _explanations().get(self.number)
+
+    def __str__(self):
+        fault = 'refused %d place %d (%s)' % (self.number, self.place, self.whose)
+        if self.explained is None:
+            return fault
+        return '%s: %s; the place: %s; what to do: %s' % ((fault,) + self.explained)
+
+
+@functools.lru_cache(maxsize=None)
+def _explanations():
+    """The rows of the tables of docs/REFUSALS.md that say what is wrong, by number."""
+    try:
+        with open(os.path.join(_ROOT, 'docs', 'REFUSALS.md'), encoding='utf-8') as text:
+            lines = text.read().splitlines()
+    except OSError:
+        return {}
+    found, listed = {}, False
+    for line in lines:
+        cells = [cell.strip().replace(r'\|', '|') for cell in re.split(r'(?<!\\)\|', line)[1:-1]]
+        # The file may have tables of another kind.
+        listed = 'what is wrong' in cells or listed and bool(cells)
+        if listed and cells[0][:1].isdigit():
+            for number in cells[0].split(','):
+                found[int(number)] = Explained(*cells[1:])
+    return found
+
+
+@functools.lru_cache(maxsize=None)
+def _library():
+    path = os.environ.get('YOYOMYRTLE_LIBRARY') or os.path.join(_ROOT, 'target', 'libyoyomyrtle.so')
+    try:
+        return ctypes.CDLL(os.path.abspath(path))
+    except OSError as trouble:
+        raise OSError("the library can't be loaded (%s); `bin/build library` makes it, YOYOMYRTLE_LIBRARY names one elsewhere"
+                      % trouble) from None
+
+
+def _said(name, *arguments):
+    """What a function of the library returns; a buffer is passed with its length, a number as the type that it has."""
+    passed = []
+    for argument in arguments:
+        passed.append(argument)
+        if isinstance(argument, (bytes, ctypes.Array)):
+            passed.append(ctypes.c_size_t(len(argument)))
+    function = _library()['yoyomyrtle_' + name]
+    function.restype = ctypes.c_uint64
+    return function(*passed)
+
+
+def _facts(name, *arguments):
+    answer = (ctypes.c_int64 * _ANSWER_WORDS)()
+    status = _said(name, *arguments, answer)
+    if status == _FAULT:
+        raise Refused(_GROUPS[answer[0]], answer[1], answer[2])
+    if status != _FACTS:
+        raise OSError('%s returned %d: the library is of another version' % (name, status))
+    return answer[1:]
+
+
+def _bytes(table):
+    # bytes(table) would take a number for a length
+    return memoryview(table).tobytes()
+
+
+def _buffer(row, room=0):
+    """A row where the library may write it, with room behind it."""
+    try:
+        row = bytes(iter(row))
+    except ValueError:
+        raise ValueError('a row has digits from 0 to 255') from None
+    return (ctypes.c_uint8 * (len(row) + room)).from_buffer_copy(row + bytes(room))
+
+
+def _fits(type_, number, limits):
+    fitted = type_(number)
+    if fitted.value != number:
+        raise ValueError('%d is not %s' % (number, limits))
+    return fitted
+
+
+def _size(number):
+    return _fits(ctypes.c_uint64, number, 'from 0 to 2^64 - 1')
+
+
+def _part(number):
+    return _fits(ctypes.c_int32, number, 'a signed number of 32 bits')
+
+
+def check(table):
+    """Checks a table file, all its rules.
+
+    >>> check(bin())
+    Checked(depth=2, leaves=13, digits=3)
+
+    TERN with weight 0 at input 2:
+
+    >>> weights = {(0,): 0, (1,): 0, (2,): 0, (3,): 1, (4,): 1, (-1,): 0, (-2,): -1, (-3,): -1, (-4,): -1}
+    >>> check(table((0, -1, 3, 0), [0, 1, 2, -1, -2], weights))  # doctest: +ELLIPSIS
+    Traceback (most recent call last):
+        ...
+    yoyomyrtle.Refused: refused 14 place 2 (author): ...
+    """
+    return Checked(*_facts('check', _bytes(table))[:3])
+
+
+def add(table, first, second):
+    """Adds two rows; the sum has as many places more as the table is deep.
+
+    >>> add(bin(), [1, 1], [1, 0])
+    Added(places=4, sum=[0, 0, 1, 0])
+    >>> add(bin(), [0, 1], [0, 0])
+    Added(places=4, sum=[0, 1, 0, 0])
+    >>> add(tern(), [], []), add(bin(), [], [])
+    (Added(places=1, sum=[0]), Added(places=2, sum=[0, 0]))
+    """
+    first, second = _buffer(first), _buffer(second)
+    sum = _buffer([], len(first) + _DEEPEST)
+    places = _facts('add', _bytes(table), first, second, sum)[0]
+    return Added(places, sum[:places])
+
+
+def edit(table, first, second, sum, row, place, digit):
+    """Stores a digit at a place of row 0 (the first) or 1 (the second) of an addition and renews the sum. The rows and the sum that
+    are given stay as they are; the answer has the new ones, and how many digits of the sum changed.
+
+    >>> edit(tern(), [2, 2], [1, 2], [0, 2, 1], 0, 0, 4)
+    Edited(changed=2, first=[4, 2], second=[1, 2], sum=[3, 1, 1])
+    """
+    rows = [_buffer(first), _buffer(second), _buffer(sum)]
+    changed = _facts('edit', _bytes(table), *rows, _size(row), _size(place), _size(digit))[0]
+    return Edited(changed, *map(list, rows))
+
+
+def run(table, first, second, edits):
+    """Checks the table, adds the rows and makes edits in turn, each a row number, a place and a digit. The answers are how many digits of
+    the sum each edit changed; for an edit that was refused, which changes nothing, it is a Refused that isn't raised.
+
+    >>> ran = run(tern(), [2, 2], [1, 2], [(0, 0, 4), (0, 2, 0), (1, 1, 0)])
+    >>> ran.answers
+    [2, Refused('editor', 25, 0), 2]
+    >>> ran.first, ran.second, ran.sum
+    ([4, 2], [1, 0], [3, 4, 1])
+    """
+    rows = [_buffer(first), _buffer(second)]
+    # The answer of a run doesn't say how long the sum is. Where the check refuses, it is the run's own refusal.
+    rows.append(_buffer([], len(rows[0]) + check(table).depth))
+    edits = [[_size(number).value for number in edit] for edit in edits]
+    numbers = ctypes.c_size_t * len(edits)
+    columns = [numbers(*(edit[at] for edit in edits)) for at in range(3)]
+    whose, refusals, values = numbers(), numbers(), numbers()
+    _facts('run', _bytes(table), *rows, *columns, whose, refusals, values)
+    answers = [Refused(_GROUPS[group], number, value) if group else value for group, number, value in zip(whose, refusals, values)]
+    return Ran(answers, *map(list, rows))
+
+
+def value(table, row):
+    """The value of a row: its digits, each times the base to the power of its place.
+
+    >>> value(tern(), [2, 2])
+    Element(a=8, b=0)
+    """
+    return Element(*_facts('value', _bytes(table), _buffer(row))[:2])
+
+
+def midpoint(x, y):
+    """The midpoint of two elements, each part rounded down.
+
+    >>> print(midpoint((1, 2), -4))
+    -2+w
+    """
+    return Element(*_facts('midpoint', *map(_part, element(x) + element(y)))[:2])
+
+
+def _carried(name, size):
+    out = (ctypes.c_uint8 * size)()
+    if _said(name, out) != _FACTS:
+        raise OSError('%s has another length: the library is of another version' % name)
+    return bytes(out)
+
+
+def tern():
+    """The carried table TERN: base 3, digits -2 to 2."""
+    return _carried('tern', _TERN_BYTES)
+
+
+def bin():
+    """The carried table BIN: base 2, digits -1 to 1."""
+    return _carried('bin', _BIN_BYTES)
+
+
+def alphabet(table):
+    """The alphabet of a table, in order of index.
+
+    >>> print(*alphabet(tern()))
+    0 1 2 -1 -2
+    """
+    return [value(table, [index]) for index in range(check(table).digits)]
+
+
+def row(table, elements):
+    """The row that has these elements as its digits.
+
+    >>> row(tern(), [-2, 0, 1])
+    [4, 0, 1]
+    """
+    index = {digit: at for at, digit in enumerate(alphabet(table))}
+    try:
+        return [index[element(digit)] for digit in elements]
+    except KeyError as missing:
+        raise ValueError('the alphabet has no digit %s' % missing.args) from None
+
+
+def digits(table, row):
+    """The digits of a row as elements.
+
+    >>> print(*digits(tern(), [4, 0, 1]))
+    -2 0 1
+    """
+    known = dict(enumerate(alphabet(table)))
+    try:
+        return [known[index] for index in row]
+    except KeyError as missing:
+        raise ValueError('the alphabet has no digit with index %s' % missing.args) from None
+
+
+def element(x):
+    """A whole number or a pair as an element."""
+    return Element(x, 0) if isinstance(x, int) else Element(*x)
+
+
+def inputs(alphabet):
+    """The input digits of an alphabet, which are the sums of two of its digits, in the order that `table` gives them: zero and what is
+    above it in order of (a, b), then what is below zero in the order of its negatives.
+
+    >>> print(*inputs([0, 1, 2, -1, -2]))
+    0 1 2 3 4 -1 -2 -3 -4
+    >>> print(*inputs([0, 1, (0, 1)]))
+    0 w 2w 1 1+w 2
+    """
+    known = [element(digit) for digit in alphabet]
+    sums = {Element(x.a + y.a, x.b + y.b) for x in known for y in known}
+    return sorted(sums, key=lambda x: (x < (0, 0), max(x, (-x.a, -x.b))))
+
+
+def _numbers(kind, numbers):
+    """Numbers of 16 bits, lowest byte first; kind is 'h' for signed ones and 'H' for offsets and lengths."""
+    numbers = list(numbers)
+    try:
+        return struct.pack('<%d%s' % (len(numbers), kind), *numbers)
+    except struct.error as trouble:
+        raise ValueError("numbers that can't be written in 16 bits: %s" % trouble) from None
+
+
+def _records(elements):
+    return _numbers('h', (part for x in elements for part in element(x)))
+
+
+def _leaves(digits, leaves):
+    """The sections of leaves and of words."""
+    index = {digit: at for at, digit in enumerate(digits)}
+    indexed = []
+    for word, weight in leaves.items() if hasattr(leaves, 'items') else leaves:
+        try:
+            indexed.append((bytes(index[element(digit)] for digit in word), weight))
+        except (KeyError, ValueError):
+            raise ValueError('the word %s has a digit that is no sum of two alphabet digits, or is past 256 of them' % (word,)) from None
+    records, words = b'', b''
+    for word, weight in sorted(indexed, key=lambda leaf: leaf[0]):
+        records += _numbers('H', (len(words), len(word))) + _records([weight])
+        words += word
+    return records, words
+
+
+def table(base, alphabet, leaves):
+    """The bytes of a table file; `check` says whether it is one to add by.
+
+    `base` is s, t, u, v: omega^2 = s*omega + t, and the base is u + v*omega. An element is a whole number a or a pair (a, b). `alphabet`
+    lists the digits, zero first. `leaves` has a weight for each word, as a mapping or in pairs; a word is a tuple of input digits, that of
+    the place itself and then those below it. Input digits, the order of the leaves and the directory are made here.
+
+    BIN: a 2 carries 1, a 1 carries 1 if the digit below is positive, and the negatives mirror this.
+
+    >>> weights = {(0,): 0, (2,): 1, (-2,): -1}
+    >>> for below in (-2, -1, 0, 1, 2):
+    ...     weights[1, below] = 1 if below > 0 else 0
+    ...     weights[-1, below] = -1 if below < 0 else 0
+    >>> table((0, -1, 2, 0), [0, 1, -1], weights) == bin()
+    True
+    """
+    digits = inputs(alphabet)
+    sections = [_numbers('h', base), _records(alphabet), _records(digits), *_leaves(digits, leaves)]
+    directory, end = b'', 20
+    for section in sections:
+        directory += _numbers('H', (end, len(section)))
+        end += len(section)
+    return directory + b''.join(sections)
