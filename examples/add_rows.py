@@ -1,5 +1,5 @@
 #!/usr/bin/env python3
-"""Checks a table, adds two rows by it and edits a digit of the second; lowest place first:
+"""Checks a table, adds two rows by it and edits a digit of the second; digits as elements, lowest place first:
 
     python3 examples/add_rows.py mine.table
 """
@@ -12,8 +12,12 @@ import yoyomyrtle
 PLACES = 6
 
 
-def show(table, name, row):
-    print('%-6s' % name, *('%5s' % digit for digit in yoyomyrtle.digits(table, row)), '  value', yoyomyrtle.value(table, row))
+def show(table, first, second, sum):
+    for name, row in ('first', first), ('second', second), ('sum', sum):
+        digits = [str(digit).rjust(4) for digit in yoyomyrtle.digits(table, row)]
+        print(name.ljust(6), *digits, ' value', yoyomyrtle.value(table, row))
+    x, y, z = (yoyomyrtle.value(table, row) for row in (first, second, sum))
+    print('the values agree' if (x.a + y.a, x.b + y.b) == z else 'the values differ')
 
 
 def add_and_edit(table):
@@ -22,21 +26,25 @@ def add_and_edit(table):
     first = [(place + 1) % facts.digits for place in range(PLACES)]
     second = [(2 * place + 1) % facts.digits for place in range(PLACES)]
     added = yoyomyrtle.add(table, first, second)
-    show(table, 'first', first)
-    show(table, 'second', second)
-    show(table, 'sum', added.sum)
+    show(table, first, second, added.sum)
     # The second row (row number 1) gets the next digit of the alphabet at place 2.
     edited = yoyomyrtle.edit(table, first, second, added.sum, row=1, place=2, digit=(second[2] + 1) % facts.digits)
     print('edited: %d sum digits changed' % edited.changed)
-    show(table, 'second', edited.second)
-    show(table, 'sum', edited.sum)
+    show(table, edited.first, edited.second, edited.sum)
 
 
-if __name__ == '__main__':
+def main():
     if len(sys.argv) != 2:
         sys.exit('usage: add_rows.py FILE')
     try:
         with open(sys.argv[1], 'rb') as file:
-            add_and_edit(file.read())
+            table = file.read()
+    except OSError as trouble:
+        sys.exit("can't read %s: %s" % (sys.argv[1], trouble.strerror))
+    try:
+        add_and_edit(table)
     except (OSError, yoyomyrtle.Refused) as trouble:
         sys.exit(str(trouble))
+
+
+main()

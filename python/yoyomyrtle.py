@@ -209,9 +209,9 @@ def run(table, first, second, edits):
 
     >>> ran = run(tern(), [2, 2], [1, 2], [(0, 0, 4), (0, 2, 0), (1, 1, 0)])
     >>> ran.answers
-    [2, Refused('editor', 25, 0), 2]
+    [2, Refused('editor', 25, 0), 1]
     >>> ran.first, ran.second, ran.sum
-    ([4, 2], [1, 0], [3, 4, 1])
+    ([4, 2], [1, 0], [3, 3, 1])
     """
     rows = [_buffer(first), _buffer(second)]
     # The answer of a run doesn't say how long the sum is. Where the check refuses, it is the run's own refusal.
