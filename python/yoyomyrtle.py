@@ -86,14 +86,16 @@ def _explanations():
             lines = text.read().splitlines()
     except OSError:
         return {}
-    found, listed = {}, False
+    found, heads = {}, []
     for line in lines:
         cells = [cell.strip().replace(r'\|', '|') for cell in re.split(r'(?<!\\)\|', line)[1:-1]]
-        # The file may have tables of another kind.
-        listed = 'what is wrong' in cells or listed and bool(cells)
-        if listed and cells[0][:1].isdigit():
-            for number in cells[0].split(','):
-                found[int(number)] = Explained(*cells[1:])
+        # A table's first line names its columns. The file may have tables of another kind.
+        if not heads or not cells:
+            heads = cells
+        row = dict(zip(heads, cells))
+        if 'what is wrong' in row:
+            for number in re.findall('[0-9]+', row['number']):
+                found[int(number)] = Explained(row['what is wrong'], row['what the place counts'], row['what to do'])
     return found
 
 
@@ -159,7 +161,7 @@ def _part(number):
 
 
 def check(table):
-    """Checks a table file, all its rules.
+    """Checks a table file by all its rules.
 
     >>> check(bin())
     Checked(depth=2, leaves=13, digits=3)
@@ -216,7 +218,7 @@ def run(table, first, second, edits):
     rows = [_buffer(first), _buffer(second)]
     # The answer of a run doesn't say how long the sum is. Where the check refuses, it is the run's own refusal.
     rows.append(_buffer([], len(rows[0]) + check(table).depth))
-    edits = [[_size(number).value for number in edit] for edit in edits]
+    edits = [(_size(row).value, _size(place).value, _size(digit).value) for row, place, digit in edits]
     numbers = ctypes.c_size_t * len(edits)
     columns = [numbers(*(edit[at] for edit in edits)) for at in range(3)]
     whose, refusals, values = numbers(), numbers(), numbers()
