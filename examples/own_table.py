@@ -3,8 +3,8 @@
 
     python3 examples/own_table.py mine.table
 
-Change BASE and ALPHABET for another one: with (0, -1, 0, 2) and the nine digits a + b*omega, a and b from -1 to 1, it is base 2i. The
-method doesn't end for every choice; where it ends, the check accepts the table.
+Change BASE and ALPHABET for another one, such as base 2i: (0, -1, 0, 2) and the nine digits a + b*omega with a and b from -1 to 1. The
+method doesn't end for every choice, and it is bin/check that says whether a table is one to add by.
 """
 import functools
 import itertools
@@ -84,9 +84,16 @@ def build():
     return table(BASE, ALPHABET, found)
 
 
-if __name__ == '__main__':
+def main():
     if len(sys.argv) != 2:
         sys.exit('usage: own_table.py FILE')
     built = build()
-    with open(sys.argv[1], 'wb') as file:
-        file.write(built)
+    try:
+        with open(sys.argv[1], 'wb') as file:
+            file.write(built)
+    except OSError as trouble:
+        sys.exit("can't write %s: %s" % (sys.argv[1], trouble.strerror))
+
+
+if __name__ == '__main__':
+    main()

@@ -20,6 +20,7 @@ Checked(depth=1, leaves=9, digits=5)
 """
 import ctypes
 import functools
+import operator
 import os
 import re
 import struct
@@ -42,8 +43,8 @@ Explained = namedtuple('Explained', 'wrong counts todo')
 class Element(namedtuple('Element', 'a b')):
     """The element a + b*omega; it equals the pair (a, b).
 
-    >>> print(Element(2, -3), Element(-1, 1), Element(0, -1), Element(4, 0))
-    2-3w -1+w -w 4
+    >>> print(Element(2, 3), Element(-1, 1), Element(0, -1), Element(4, 0))
+    2+3w -1+w -w 4
     """
     __slots__ = ()
 
@@ -146,6 +147,7 @@ def _buffer(row, room=0):
 
 
 def _fits(type_, number, limits):
+    number = operator.index(number)
     fitted = type_(number)
     if fitted.value != number:
         raise ValueError('%d is not %s' % (number, limits))
@@ -298,8 +300,9 @@ def digits(table, row):
 
 
 def element(x):
-    """A whole number or a pair as an element."""
-    return Element(x, 0) if isinstance(x, int) else Element(*x)
+    """A whole number, of whatever type, or a pair of them as an element."""
+    a, b = (x, 0) if hasattr(x, '__index__') else x
+    return Element(operator.index(a), operator.index(b))
 
 
 def inputs(alphabet):
