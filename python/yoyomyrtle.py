@@ -49,8 +49,10 @@ class Element(namedtuple('Element', 'a b')):
     __slots__ = ()
 
     def __str__(self):
-        omegas = {0: '', 1: '+w', -1: '-w'}.get(self.b, '%+dw' % self.b)
-        return ('%d' % self.a if self.a or not self.b else '') + (omegas if self.a else omegas.lstrip('+'))
+        if self.b == 0:
+            return '%d' % self.a
+        omegas = {1: '+w', -1: '-w'}.get(self.b, '%+dw' % self.b)
+        return '%d%s' % (self.a, omegas) if self.a else omegas.lstrip('+')
 
 
 class Refused(Exception):
