@@ -36,48 +36,95 @@ use Rattle.listing.proofs.put_expanding.Reads as put-expanding-reads
 use Rattle.octets.proofs.put.Reads as put-reads
 use Rattle.text.proofs.put_signed.Reads as put-signed-reads
 
--- a number that was read, as the machine holds it
-abbrev Read : ℤ → ℤ → Type 0
-Read z n = (z ≡ n) × (natAbs z ≤ 32768)
+-- the section, T and N of its numbers, and whether it is expanding
+abbrev base : tie.After-signed4 → List ℕ
+base c = c .before .before .before .before .before .before .args .base .now
 
+abbrev trace : tie.After-signed4 → ℤ
+trace c = baseTrace (sOf (base c)) (uOf (base c)) (vOf (base c))
+
+abbrev norm : tie.After-signed4 → ℤ
+norm c = baseNorm (sOf (base c)) (tOf (base c)) (uOf (base c)) (vOf (base c))
+
+abbrev expands : tie.After-signed4 → Bool
+expands c = expanding (sOf (base c)) (tOf (base c)) (uOf (base c)) (vOf (base c))
+
+-- the four numbers as the machine holds them
 abbrev held : ℤ → ℤ
 held z = toZ w64 (ofZ w64 z)
 
--- T, N and the test, of the numbers as they stand in the section
-module _ (base : List ℕ) (is : BasePart base) (s t u v : ℤ) (s-read : Read s (sOf base)) (t-read : Read t (tOf base)) (u-read : Read u (uOf base)) (v-read : Read v (vOf base)) where
-  limits : BaseLimits (held s) (held t) (held u) (held v)
-  limits = rw (passed-on s _ s-read, passed-on t _ t-read, passed-on u _ u-read, passed-on v _ v-read) (base-limits base is)
+abbrev s : tie.After-signed4 → ℤ
+s c = held (c .before .before .before .signed .result)
 
-  trace-is : (z : ℤ) → z ≡ baseTrace (held s) (held u) (held v) → z ≡ baseTrace (sOf base) (uOf base) (vOf base)
-  trace-is z e = rw (passed-on s _ s-read, passed-on u _ u-read, passed-on v _ v-read) at e
+abbrev t : tie.After-signed4 → ℤ
+t c = held (c .before .before .signed2 .result)
 
-  norm-is : (z : ℤ) → z ≡ baseNorm (held s) (held t) (held u) (held v) → z ≡ baseNorm (sOf base) (tOf base) (uOf base) (vOf base)
-  norm-is z e = rw (passed-on s _ s-read, passed-on t _ t-read, passed-on u _ u-read, passed-on v _ v-read) at e
+abbrev u : tie.After-signed4 → ℤ
+u c = held (c .before .signed3 .result)
 
-  expanding-is : (b : Bool) → b ≡ expanding (held s) (held t) (held u) (held v) → b ≡ expanding (sOf base) (tOf base) (uOf base) (vOf base)
-  expanding-is b e = rw (passed-on s _ s-read, passed-on t _ t-read, passed-on u _ u-read, passed-on v _ v-read) at e
+abbrev v : tie.After-signed4 → ℤ
+v c = held (c .signed4 .result)
 
-  trace-small : natAbs (baseTrace (sOf base) (uOf base) (vOf base)) ≤ 528384
-  trace-small =
-      let l = base-limits base is in omega (arith, trace-size (sOf base) (uOf base) (vOf base) (l .of-s) (l .of-u) (l .of-v))
+limits : (c : tie.After-signed4) → BaseLimits (s c) (t c) (u c) (v c)
+unfolding elementAt span
+limits c =
+    rw (passed-on _ _ (c .before .before .before .signed .ensures), passed-on _ _ (c .before .before .signed2 .ensures), passed-on _ _ (c .before .signed3 .ensures), passed-on _ _ (c .signed4 .ensures))
+    (base-limits (base c) (c .before .before .before .before .before .before .pre .0))
 
-  norm-small : natAbs (baseNorm (sOf base) (tOf base) (uOf base) (vOf base)) ≤ 528384
-  norm-small = norm-size (base-limits base is)
-
--- a number that fits 32 bits and is cast to them
-module _ (z n : ℤ) (e : z ≡ n) (h : natAbs n ≤ 528384) where
+-- a number that was found, as it is cast to 32 bits
+module _ (z n : ℤ) (found : z ≡ n) (h : natAbs n ≤ 528384) where
   abbrev number : Term
   number = leaf n 528384 h
 
   narrow : toZ w32 (ofZ w32 (held z)) ≡ n
   narrow =
-      ap (λ y. toZ w32 (ofZ w32 (held y))) e ∙ ap (λ y. toZ w32 (ofZ w32 y)) (stored-is w64 number refl) ∙ stored-is w32 number refl
+      ap (λ y. toZ w32 (ofZ w32 (held y))) found ∙ ap (λ y. toZ w32 (ofZ w32 y)) (stored-is w64 number refl) ∙ stored-is w32 number refl
 
   cast-fits : SFits w32 (held z)
-  cast-fits = rw (e, stored-is w64 number refl) (plain-fits w32 number refl)
+  cast-fits = rw (found, stored-is w64 number refl) (plain-fits w32 number refl)
 
-  short : length (decimalZ n) ≤ 7
-  short = whole-short 5 n (omega arith)
+module _ (c : tie.After-signed4) where
+  small : BaseLimits (sOf (base c)) (tOf (base c)) (uOf (base c)) (vOf (base c))
+  small = base-limits (base c) (c .before .before .before .before .before .before .pre .0)
+
+  trace-small : natAbs (trace c) ≤ 528384
+  trace-small =
+      omega (arith, trace-size (sOf (base c)) (uOf (base c)) (vOf (base c)) (small .of-s) (small .of-u) (small .of-v))
+
+  trace-short : length (decimalZ (trace c)) ≤ 7
+  trace-short = whole-short 5 (trace c) (omega (arith, trace-small))
+
+  norm-short : length (decimalZ (norm c)) ≤ 7
+  norm-short = whole-short 5 (norm c) (omega (arith, norm-size small))
+
+  module _ (z : ℤ) (given : z ≡ baseTrace (s c) (u c) (v c)) where
+    trace-is : z ≡ trace c
+    unfolding elementAt span
+    trace-is =
+        rw (passed-on _ _ (c .before .before .before .signed .ensures), passed-on _ _ (c .before .signed3 .ensures), passed-on _ _ (c .signed4 .ensures)) at given
+
+    trace-cast : toZ w32 (ofZ w32 (held z)) ≡ trace c
+    trace-cast = narrow z (trace c) trace-is trace-small
+
+    trace-fits : SFits w32 (held z)
+    trace-fits = cast-fits z (trace c) trace-is trace-small
+
+  module _ (z : ℤ) (given : z ≡ baseNorm (s c) (t c) (u c) (v c)) where
+    norm-is : z ≡ norm c
+    unfolding elementAt span
+    norm-is =
+        rw (passed-on _ _ (c .before .before .before .signed .ensures), passed-on _ _ (c .before .before .signed2 .ensures), passed-on _ _ (c .before .signed3 .ensures), passed-on _ _ (c .signed4 .ensures)) at given
+
+    norm-cast : toZ w32 (ofZ w32 (held z)) ≡ norm c
+    norm-cast = narrow z (norm c) norm-is (norm-size small)
+
+    norm-fits : SFits w32 (held z)
+    norm-fits = cast-fits z (norm c) norm-is (norm-size small)
+
+  expanding-is : (b : Bool) → b ≡ expanding (s c) (t c) (u c) (v c) → b ≡ expands c
+  unfolding elementAt span
+  expanding-is b given =
+      rw (passed-on _ _ (c .before .before .before .signed .ensures), passed-on _ _ (c .before .before .signed2 .ensures), passed-on _ _ (c .before .signed3 .ensures), passed-on _ _ (c .signed4 .ensures)) at given
 
 -- src/lib.rt:62:9
 signed-requires : tie.Need-signed-requires
@@ -105,18 +152,19 @@ put-requires c κs = search needs
 
 -- src/lib.rt:67:46
 base-trace-requires : tie.Need-base-trace-requires
-unfolding elementAt span
-base-trace-requires c κs = let l = limits (c .before .before .before .before .before .before .before .before .before .before .before .before .args .base .now) (c .before .before .before .before .before .before .before .before .before .before .before .before .pre .0) _ _ _ _ (c .before .before .before .before .before .before .before .before .before .signed .ensures) (c .before .before .before .before .before .before .before .before .signed2 .ensures) (c .before .before .before .before .before .before .before .signed3 .ensures) (c .before .before .before .before .before .before .signed4 .ensures) in (l .of-s, l .of-u, l .of-v)
+base-trace-requires c κs = let l = limits (c .before .before .before .before .before .before) in (l .of-s, l .of-u, l .of-v)
+
 
 -- src/lib.rt:67:46
 cast-put-signed : tie.Need-cast-put-signed
-unfolding elementAt span
-cast-put-signed c = cast-fits _ _ (trace-is (c .before .before .before .before .before .before .before .before .before .before .before .before .before .args .base .now) (c .before .before .before .before .before .before .before .before .before .before .before .before .before .pre .0) _ _ _ _ (c .before .before .before .before .before .before .before .before .before .before .signed .ensures) (c .before .before .before .before .before .before .before .before .before .signed2 .ensures) (c .before .before .before .before .before .before .before .before .signed3 .ensures) (c .before .before .before .before .before .before .before .signed4 .ensures) _ (c .base-trace .ensures)) (trace-small (c .before .before .before .before .before .before .before .before .before .before .before .before .before .args .base .now) (c .before .before .before .before .before .before .before .before .before .before .before .before .before .pre .0) _ _ _ _ (c .before .before .before .before .before .before .before .before .before .before .signed .ensures) (c .before .before .before .before .before .before .before .before .before .signed2 .ensures) (c .before .before .before .before .before .before .before .before .signed3 .ensures) (c .before .before .before .before .before .before .before .signed4 .ensures))
+cast-put-signed c = trace-fits (c .before .before .before .before .before .before .before) _ (c .base-trace .ensures)
+
 
 -- src/lib.rt:67:9
 put-signed-requires : tie.Need-put-signed-requires
-unfolding elementAt span bytesOf
-put-signed-requires c κs = rw (narrow _ _ (trace-is (c .before .before .before .before .before .before .before .before .before .before .before .before .before .args .base .now) (c .before .before .before .before .before .before .before .before .before .before .before .before .before .pre .0) _ _ _ _ (c .before .before .before .before .before .before .before .before .before .before .signed .ensures) (c .before .before .before .before .before .before .before .before .before .signed2 .ensures) (c .before .before .before .before .before .before .before .before .signed3 .ensures) (c .before .before .before .before .before .before .before .signed4 .ensures) _ (c .base-trace .ensures)) (trace-small (c .before .before .before .before .before .before .before .before .before .before .before .before .before .args .base .now) (c .before .before .before .before .before .before .before .before .before .before .before .before .before .pre .0) _ _ _ _ (c .before .before .before .before .before .before .before .before .before .before .signed .ensures) (c .before .before .before .before .before .before .before .before .before .signed2 .ensures) (c .before .before .before .before .before .before .before .before .signed3 .ensures) (c .before .before .before .before .before .before .before .signed4 .ensures))) (omega (arith, short _ _ (trace-is (c .before .before .before .before .before .before .before .before .before .before .before .before .before .args .base .now) (c .before .before .before .before .before .before .before .before .before .before .before .before .before .pre .0) _ _ _ _ (c .before .before .before .before .before .before .before .before .before .before .signed .ensures) (c .before .before .before .before .before .before .before .before .before .signed2 .ensures) (c .before .before .before .before .before .before .before .before .signed3 .ensures) (c .before .before .before .before .before .before .before .signed4 .ensures) _ (c .base-trace .ensures)) (trace-small (c .before .before .before .before .before .before .before .before .before .before .before .before .before .args .base .now) (c .before .before .before .before .before .before .before .before .before .before .before .before .before .pre .0) _ _ _ _ (c .before .before .before .before .before .before .before .before .before .before .signed .ensures) (c .before .before .before .before .before .before .before .before .before .signed2 .ensures) (c .before .before .before .before .before .before .before .before .signed3 .ensures) (c .before .before .before .before .before .before .before .signed4 .ensures)), c .before .before .before .before .before .before .before .before .before .before .before .before .before .pre .1))
+unfolding bytesOf
+put-signed-requires c κs = rw (trace-cast (c .before .before .before .before .before .before .before) _ (c .base-trace .ensures)) (omega (arith, trace-short (c .before .before .before .before .before .before .before), c .before .before .before .before .before .before .before .before .before .before .before .before .before .pre .1))
+
 
 -- src/lib.rt:68:40
 slice-aggregate-put-2 : tie.Need-slice-aggregate-put-2
@@ -124,38 +172,40 @@ slice-aggregate-put-2 c = search needs
 
 -- src/lib.rt:68:9
 put-requires-2 : tie.Need-put-requires-2
-unfolding elementAt span
-put-requires-2 c κs = omega (arith, short _ _ (trace-is (c .before .before .before .before .before .before .before .before .before .before .before .before .before .before .before .before .before .before .args .base .now) (c .before .before .before .before .before .before .before .before .before .before .before .before .before .before .before .before .before .before .pre .0) _ _ _ _ (c .before .before .before .before .before .before .before .before .before .before .before .before .before .before .before .signed .ensures) (c .before .before .before .before .before .before .before .before .before .before .before .before .before .before .signed2 .ensures) (c .before .before .before .before .before .before .before .before .before .before .before .before .before .signed3 .ensures) (c .before .before .before .before .before .before .before .before .before .before .before .before .signed4 .ensures) _ (c .before .before .before .before .before .base-trace .ensures)) (trace-small (c .before .before .before .before .before .before .before .before .before .before .before .before .before .before .before .before .before .before .args .base .now) (c .before .before .before .before .before .before .before .before .before .before .before .before .before .before .before .before .before .before .pre .0) _ _ _ _ (c .before .before .before .before .before .before .before .before .before .before .before .before .before .before .before .signed .ensures) (c .before .before .before .before .before .before .before .before .before .before .before .before .before .before .signed2 .ensures) (c .before .before .before .before .before .before .before .before .before .before .before .before .before .signed3 .ensures) (c .before .before .before .before .before .before .before .before .before .before .before .before .signed4 .ensures)), c .before .before .before .before .before .before .before .before .before .before .before .before .before .before .before .before .before .before .pre .1, (rw (narrow _ _ (trace-is (c .before .before .before .before .before .before .before .before .before .before .before .before .before .before .before .before .before .before .args .base .now) (c .before .before .before .before .before .before .before .before .before .before .before .before .before .before .before .before .before .before .pre .0) _ _ _ _ (c .before .before .before .before .before .before .before .before .before .before .before .before .before .before .before .signed .ensures) (c .before .before .before .before .before .before .before .before .before .before .before .before .before .before .signed2 .ensures) (c .before .before .before .before .before .before .before .before .before .before .before .before .before .signed3 .ensures) (c .before .before .before .before .before .before .before .before .before .before .before .before .signed4 .ensures) _ (c .before .before .before .before .before .base-trace .ensures)) (trace-small (c .before .before .before .before .before .before .before .before .before .before .before .before .before .before .before .before .before .before .args .base .now) (c .before .before .before .before .before .before .before .before .before .before .before .before .before .before .before .before .before .before .pre .0) _ _ _ _ (c .before .before .before .before .before .before .before .before .before .before .before .before .before .before .before .signed .ensures) (c .before .before .before .before .before .before .before .before .before .before .before .before .before .before .signed2 .ensures) (c .before .before .before .before .before .before .before .before .before .before .before .before .before .signed3 .ensures) (c .before .before .before .before .before .before .before .before .before .before .before .before .signed4 .ensures))) at (c .before .before .before .before .put-signed .ensures .0)))
+put-requires-2 c κs =
+    let first = rw (trace-cast (c .before .before .before .before .before .before .before .before .before .before .before .before) _ (c .before .before .before .before .before .base-trace .ensures)) at (c .before .before .before .before .put-signed .ensures .0) in
+    omega (arith, trace-short (c .before .before .before .before .before .before .before .before .before .before .before .before), first, c .before .before .before .before .before .before .before .before .before .before .before .before .before .before .before .before .before .before .pre .1)
+
 
 -- src/lib.rt:69:43
 base-norm-requires : tie.Need-base-norm-requires
-unfolding elementAt span
-base-norm-requires c κs = limits (c .before .before .before .before .before .before .before .before .before .before .before .before .before .before .before .before .before .before .before .before .before .before .args .base .now) (c .before .before .before .before .before .before .before .before .before .before .before .before .before .before .before .before .before .before .before .before .before .before .pre .0) _ _ _ _ (c .before .before .before .before .before .before .before .before .before .before .before .before .before .before .before .before .before .before .before .signed .ensures) (c .before .before .before .before .before .before .before .before .before .before .before .before .before .before .before .before .before .before .signed2 .ensures) (c .before .before .before .before .before .before .before .before .before .before .before .before .before .before .before .before .before .signed3 .ensures) (c .before .before .before .before .before .before .before .before .before .before .before .before .before .before .before .before .signed4 .ensures)
+base-norm-requires c κs = limits (c .before .before .before .before .before .before .before .before .before .before .before .before .before .before .before .before)
+
 
 -- src/lib.rt:69:43
 cast-put-signed-2 : tie.Need-cast-put-signed-2
-unfolding elementAt span
-cast-put-signed-2 c = cast-fits _ _ (norm-is (c .before .before .before .before .before .before .before .before .before .before .before .before .before .before .before .before .before .before .before .before .before .before .before .args .base .now) (c .before .before .before .before .before .before .before .before .before .before .before .before .before .before .before .before .before .before .before .before .before .before .before .pre .0) _ _ _ _ (c .before .before .before .before .before .before .before .before .before .before .before .before .before .before .before .before .before .before .before .before .signed .ensures) (c .before .before .before .before .before .before .before .before .before .before .before .before .before .before .before .before .before .before .before .signed2 .ensures) (c .before .before .before .before .before .before .before .before .before .before .before .before .before .before .before .before .before .before .signed3 .ensures) (c .before .before .before .before .before .before .before .before .before .before .before .before .before .before .before .before .before .signed4 .ensures) _ (c .base-norm .ensures)) (norm-small (c .before .before .before .before .before .before .before .before .before .before .before .before .before .before .before .before .before .before .before .before .before .before .before .args .base .now) (c .before .before .before .before .before .before .before .before .before .before .before .before .before .before .before .before .before .before .before .before .before .before .before .pre .0) _ _ _ _ (c .before .before .before .before .before .before .before .before .before .before .before .before .before .before .before .before .before .before .before .before .signed .ensures) (c .before .before .before .before .before .before .before .before .before .before .before .before .before .before .before .before .before .before .before .signed2 .ensures) (c .before .before .before .before .before .before .before .before .before .before .before .before .before .before .before .before .before .before .signed3 .ensures) (c .before .before .before .before .before .before .before .before .before .before .before .before .before .before .before .before .before .signed4 .ensures))
+cast-put-signed-2 c = norm-fits (c .before .before .before .before .before .before .before .before .before .before .before .before .before .before .before .before .before) _ (c .base-norm .ensures)
+
 
 -- src/lib.rt:69:9
 put-signed-requires-2 : tie.Need-put-signed-requires-2
-unfolding elementAt span
 put-signed-requires-2 c κs =
-    let first = rw (narrow _ _ (trace-is (c .before .before .before .before .before .before .before .before .before .before .before .before .before .before .before .before .before .before .before .before .before .before .before .args .base .now) (c .before .before .before .before .before .before .before .before .before .before .before .before .before .before .before .before .before .before .before .before .before .before .before .pre .0) _ _ _ _ (c .before .before .before .before .before .before .before .before .before .before .before .before .before .before .before .before .before .before .before .before .signed .ensures) (c .before .before .before .before .before .before .before .before .before .before .before .before .before .before .before .before .before .before .before .signed2 .ensures) (c .before .before .before .before .before .before .before .before .before .before .before .before .before .before .before .before .before .before .signed3 .ensures) (c .before .before .before .before .before .before .before .before .before .before .before .before .before .before .before .before .before .signed4 .ensures) _ (c .before .before .before .before .before .before .before .before .before .before .base-trace .ensures)) (trace-small (c .before .before .before .before .before .before .before .before .before .before .before .before .before .before .before .before .before .before .before .before .before .before .before .args .base .now) (c .before .before .before .before .before .before .before .before .before .before .before .before .before .before .before .before .before .before .before .before .before .before .before .pre .0) _ _ _ _ (c .before .before .before .before .before .before .before .before .before .before .before .before .before .before .before .before .before .before .before .before .signed .ensures) (c .before .before .before .before .before .before .before .before .before .before .before .before .before .before .before .before .before .before .before .signed2 .ensures) (c .before .before .before .before .before .before .before .before .before .before .before .before .before .before .before .before .before .before .signed3 .ensures) (c .before .before .before .before .before .before .before .before .before .before .before .before .before .before .before .before .before .signed4 .ensures))) at (c .before .before .before .before .before .before .before .before .before .put-signed .ensures .0) in
-    rw (narrow _ _ (norm-is (c .before .before .before .before .before .before .before .before .before .before .before .before .before .before .before .before .before .before .before .before .before .before .before .args .base .now) (c .before .before .before .before .before .before .before .before .before .before .before .before .before .before .before .before .before .before .before .before .before .before .before .pre .0) _ _ _ _ (c .before .before .before .before .before .before .before .before .before .before .before .before .before .before .before .before .before .before .before .before .signed .ensures) (c .before .before .before .before .before .before .before .before .before .before .before .before .before .before .before .before .before .before .before .signed2 .ensures) (c .before .before .before .before .before .before .before .before .before .before .before .before .before .before .before .before .before .before .signed3 .ensures) (c .before .before .before .before .before .before .before .before .before .before .before .before .before .before .before .before .before .signed4 .ensures) _ (c .base-norm .ensures)) (norm-small (c .before .before .before .before .before .before .before .before .before .before .before .before .before .before .before .before .before .before .before .before .before .before .before .args .base .now) (c .before .before .before .before .before .before .before .before .before .before .before .before .before .before .before .before .before .before .before .before .before .before .before .pre .0) _ _ _ _ (c .before .before .before .before .before .before .before .before .before .before .before .before .before .before .before .before .before .before .before .before .signed .ensures) (c .before .before .before .before .before .before .before .before .before .before .before .before .before .before .before .before .before .before .before .signed2 .ensures) (c .before .before .before .before .before .before .before .before .before .before .before .before .before .before .before .before .before .before .signed3 .ensures) (c .before .before .before .before .before .before .before .before .before .before .before .before .before .before .before .before .before .signed4 .ensures))) (omega (arith, short _ _ (trace-is (c .before .before .before .before .before .before .before .before .before .before .before .before .before .before .before .before .before .before .before .before .before .before .before .args .base .now) (c .before .before .before .before .before .before .before .before .before .before .before .before .before .before .before .before .before .before .before .before .before .before .before .pre .0) _ _ _ _ (c .before .before .before .before .before .before .before .before .before .before .before .before .before .before .before .before .before .before .before .before .signed .ensures) (c .before .before .before .before .before .before .before .before .before .before .before .before .before .before .before .before .before .before .before .signed2 .ensures) (c .before .before .before .before .before .before .before .before .before .before .before .before .before .before .before .before .before .before .signed3 .ensures) (c .before .before .before .before .before .before .before .before .before .before .before .before .before .before .before .before .before .signed4 .ensures) _ (c .before .before .before .before .before .before .before .before .before .before .base-trace .ensures)) (trace-small (c .before .before .before .before .before .before .before .before .before .before .before .before .before .before .before .before .before .before .before .before .before .before .before .args .base .now) (c .before .before .before .before .before .before .before .before .before .before .before .before .before .before .before .before .before .before .before .before .before .before .before .pre .0) _ _ _ _ (c .before .before .before .before .before .before .before .before .before .before .before .before .before .before .before .before .before .before .before .before .signed .ensures) (c .before .before .before .before .before .before .before .before .before .before .before .before .before .before .before .before .before .before .before .signed2 .ensures) (c .before .before .before .before .before .before .before .before .before .before .before .before .before .before .before .before .before .before .signed3 .ensures) (c .before .before .before .before .before .before .before .before .before .before .before .before .before .before .before .before .before .signed4 .ensures)), short _ _ (norm-is (c .before .before .before .before .before .before .before .before .before .before .before .before .before .before .before .before .before .before .before .before .before .before .before .args .base .now) (c .before .before .before .before .before .before .before .before .before .before .before .before .before .before .before .before .before .before .before .before .before .before .before .pre .0) _ _ _ _ (c .before .before .before .before .before .before .before .before .before .before .before .before .before .before .before .before .before .before .before .before .signed .ensures) (c .before .before .before .before .before .before .before .before .before .before .before .before .before .before .before .before .before .before .before .signed2 .ensures) (c .before .before .before .before .before .before .before .before .before .before .before .before .before .before .before .before .before .before .signed3 .ensures) (c .before .before .before .before .before .before .before .before .before .before .before .before .before .before .before .before .before .signed4 .ensures) _ (c .base-norm .ensures)) (norm-small (c .before .before .before .before .before .before .before .before .before .before .before .before .before .before .before .before .before .before .before .before .before .before .before .args .base .now) (c .before .before .before .before .before .before .before .before .before .before .before .before .before .before .before .before .before .before .before .before .before .before .before .pre .0) _ _ _ _ (c .before .before .before .before .before .before .before .before .before .before .before .before .before .before .before .before .before .before .before .before .signed .ensures) (c .before .before .before .before .before .before .before .before .before .before .before .before .before .before .before .before .before .before .before .signed2 .ensures) (c .before .before .before .before .before .before .before .before .before .before .before .before .before .before .before .before .before .before .signed3 .ensures) (c .before .before .before .before .before .before .before .before .before .before .before .before .before .before .before .before .before .signed4 .ensures)), first, c .before .before .before .before .before .before .before .before .before .before .before .before .before .before .before .before .before .before .before .before .before .before .before .pre .1))
+    let first = rw (trace-cast (c .before .before .before .before .before .before .before .before .before .before .before .before .before .before .before .before .before) _ (c .before .before .before .before .before .before .before .before .before .before .base-trace .ensures)) at (c .before .before .before .before .before .before .before .before .before .put-signed .ensures .0) in
+    rw (norm-cast (c .before .before .before .before .before .before .before .before .before .before .before .before .before .before .before .before .before) _ (c .base-norm .ensures)) (omega (arith, trace-short (c .before .before .before .before .before .before .before .before .before .before .before .before .before .before .before .before .before), norm-short (c .before .before .before .before .before .before .before .before .before .before .before .before .before .before .before .before .before), first, c .before .before .before .before .before .before .before .before .before .before .before .before .before .before .before .before .before .before .before .before .before .before .before .pre .1))
+
 
 -- src/lib.rt:70:19
 is-expanding-requires : tie.Need-is-expanding-requires
-unfolding elementAt span
-is-expanding-requires c κs = limits (c .before .before .before .before .before .before .before .before .before .before .before .before .before .before .before .before .before .before .before .before .before .before .before .before .before .before .args .base .now) (c .before .before .before .before .before .before .before .before .before .before .before .before .before .before .before .before .before .before .before .before .before .before .before .before .before .before .pre .0) _ _ _ _ (c .before .before .before .before .before .before .before .before .before .before .before .before .before .before .before .before .before .before .before .before .before .before .before .signed .ensures) (c .before .before .before .before .before .before .before .before .before .before .before .before .before .before .before .before .before .before .before .before .before .before .signed2 .ensures) (c .before .before .before .before .before .before .before .before .before .before .before .before .before .before .before .before .before .before .before .before .before .signed3 .ensures) (c .before .before .before .before .before .before .before .before .before .before .before .before .before .before .before .before .before .before .before .before .signed4 .ensures)
+is-expanding-requires c κs = limits (c .before .before .before .before .before .before .before .before .before .before .before .before .before .before .before .before .before .before .before .before)
+
 
 -- src/lib.rt:70:5
 put-expanding-requires : tie.Need-put-expanding-requires
-unfolding elementAt span
 put-expanding-requires c κs =
-    let first = rw (narrow _ _ (trace-is (c .before .before .before .before .before .before .before .before .before .before .before .before .before .before .before .before .before .before .before .before .before .before .before .before .before .before .before .before .args .base .now) (c .before .before .before .before .before .before .before .before .before .before .before .before .before .before .before .before .before .before .before .before .before .before .before .before .before .before .before .before .pre .0) _ _ _ _ (c .before .before .before .before .before .before .before .before .before .before .before .before .before .before .before .before .before .before .before .before .before .before .before .before .before .signed .ensures) (c .before .before .before .before .before .before .before .before .before .before .before .before .before .before .before .before .before .before .before .before .before .before .before .before .signed2 .ensures) (c .before .before .before .before .before .before .before .before .before .before .before .before .before .before .before .before .before .before .before .before .before .before .before .signed3 .ensures) (c .before .before .before .before .before .before .before .before .before .before .before .before .before .before .before .before .before .before .before .before .before .before .signed4 .ensures) _ (c .before .before .before .before .before .before .before .before .before .before .before .before .before .before .before .base-trace .ensures)) (trace-small (c .before .before .before .before .before .before .before .before .before .before .before .before .before .before .before .before .before .before .before .before .before .before .before .before .before .before .before .before .args .base .now) (c .before .before .before .before .before .before .before .before .before .before .before .before .before .before .before .before .before .before .before .before .before .before .before .before .before .before .before .before .pre .0) _ _ _ _ (c .before .before .before .before .before .before .before .before .before .before .before .before .before .before .before .before .before .before .before .before .before .before .before .before .before .signed .ensures) (c .before .before .before .before .before .before .before .before .before .before .before .before .before .before .before .before .before .before .before .before .before .before .before .before .signed2 .ensures) (c .before .before .before .before .before .before .before .before .before .before .before .before .before .before .before .before .before .before .before .before .before .before .before .signed3 .ensures) (c .before .before .before .before .before .before .before .before .before .before .before .before .before .before .before .before .before .before .before .before .before .before .signed4 .ensures))) at (c .before .before .before .before .before .before .before .before .before .before .before .before .before .before .put-signed .ensures .0) in
-    let second = rw (narrow _ _ (norm-is (c .before .before .before .before .before .before .before .before .before .before .before .before .before .before .before .before .before .before .before .before .before .before .before .before .before .before .before .before .args .base .now) (c .before .before .before .before .before .before .before .before .before .before .before .before .before .before .before .before .before .before .before .before .before .before .before .before .before .before .before .before .pre .0) _ _ _ _ (c .before .before .before .before .before .before .before .before .before .before .before .before .before .before .before .before .before .before .before .before .before .before .before .before .before .signed .ensures) (c .before .before .before .before .before .before .before .before .before .before .before .before .before .before .before .before .before .before .before .before .before .before .before .before .signed2 .ensures) (c .before .before .before .before .before .before .before .before .before .before .before .before .before .before .before .before .before .before .before .before .before .before .before .signed3 .ensures) (c .before .before .before .before .before .before .before .before .before .before .before .before .before .before .before .before .before .before .before .before .before .before .signed4 .ensures) _ (c .before .before .before .before .before .base-norm .ensures)) (norm-small (c .before .before .before .before .before .before .before .before .before .before .before .before .before .before .before .before .before .before .before .before .before .before .before .before .before .before .before .before .args .base .now) (c .before .before .before .before .before .before .before .before .before .before .before .before .before .before .before .before .before .before .before .before .before .before .before .before .before .before .before .before .pre .0) _ _ _ _ (c .before .before .before .before .before .before .before .before .before .before .before .before .before .before .before .before .before .before .before .before .before .before .before .before .before .signed .ensures) (c .before .before .before .before .before .before .before .before .before .before .before .before .before .before .before .before .before .before .before .before .before .before .before .before .signed2 .ensures) (c .before .before .before .before .before .before .before .before .before .before .before .before .before .before .before .before .before .before .before .before .before .before .before .signed3 .ensures) (c .before .before .before .before .before .before .before .before .before .before .before .before .before .before .before .before .before .before .before .before .before .before .signed4 .ensures))) at (c .before .before .before .before .put-signed2 .ensures .0) in
-    omega (arith, short _ _ (trace-is (c .before .before .before .before .before .before .before .before .before .before .before .before .before .before .before .before .before .before .before .before .before .before .before .before .before .before .before .before .args .base .now) (c .before .before .before .before .before .before .before .before .before .before .before .before .before .before .before .before .before .before .before .before .before .before .before .before .before .before .before .before .pre .0) _ _ _ _ (c .before .before .before .before .before .before .before .before .before .before .before .before .before .before .before .before .before .before .before .before .before .before .before .before .before .signed .ensures) (c .before .before .before .before .before .before .before .before .before .before .before .before .before .before .before .before .before .before .before .before .before .before .before .before .signed2 .ensures) (c .before .before .before .before .before .before .before .before .before .before .before .before .before .before .before .before .before .before .before .before .before .before .before .signed3 .ensures) (c .before .before .before .before .before .before .before .before .before .before .before .before .before .before .before .before .before .before .before .before .before .before .signed4 .ensures) _ (c .before .before .before .before .before .before .before .before .before .before .before .before .before .before .before .base-trace .ensures)) (trace-small (c .before .before .before .before .before .before .before .before .before .before .before .before .before .before .before .before .before .before .before .before .before .before .before .before .before .before .before .before .args .base .now) (c .before .before .before .before .before .before .before .before .before .before .before .before .before .before .before .before .before .before .before .before .before .before .before .before .before .before .before .before .pre .0) _ _ _ _ (c .before .before .before .before .before .before .before .before .before .before .before .before .before .before .before .before .before .before .before .before .before .before .before .before .before .signed .ensures) (c .before .before .before .before .before .before .before .before .before .before .before .before .before .before .before .before .before .before .before .before .before .before .before .before .signed2 .ensures) (c .before .before .before .before .before .before .before .before .before .before .before .before .before .before .before .before .before .before .before .before .before .before .before .signed3 .ensures) (c .before .before .before .before .before .before .before .before .before .before .before .before .before .before .before .before .before .before .before .before .before .before .signed4 .ensures)), short _ _ (norm-is (c .before .before .before .before .before .before .before .before .before .before .before .before .before .before .before .before .before .before .before .before .before .before .before .before .before .before .before .before .args .base .now) (c .before .before .before .before .before .before .before .before .before .before .before .before .before .before .before .before .before .before .before .before .before .before .before .before .before .before .before .before .pre .0) _ _ _ _ (c .before .before .before .before .before .before .before .before .before .before .before .before .before .before .before .before .before .before .before .before .before .before .before .before .before .signed .ensures) (c .before .before .before .before .before .before .before .before .before .before .before .before .before .before .before .before .before .before .before .before .before .before .before .before .signed2 .ensures) (c .before .before .before .before .before .before .before .before .before .before .before .before .before .before .before .before .before .before .before .before .before .before .before .signed3 .ensures) (c .before .before .before .before .before .before .before .before .before .before .before .before .before .before .before .before .before .before .before .before .before .before .signed4 .ensures) _ (c .before .before .before .before .before .base-norm .ensures)) (norm-small (c .before .before .before .before .before .before .before .before .before .before .before .before .before .before .before .before .before .before .before .before .before .before .before .before .before .before .before .before .args .base .now) (c .before .before .before .before .before .before .before .before .before .before .before .before .before .before .before .before .before .before .before .before .before .before .before .before .before .before .before .before .pre .0) _ _ _ _ (c .before .before .before .before .before .before .before .before .before .before .before .before .before .before .before .before .before .before .before .before .before .before .before .before .before .signed .ensures) (c .before .before .before .before .before .before .before .before .before .before .before .before .before .before .before .before .before .before .before .before .before .before .before .before .signed2 .ensures) (c .before .before .before .before .before .before .before .before .before .before .before .before .before .before .before .before .before .before .before .before .before .before .before .signed3 .ensures) (c .before .before .before .before .before .before .before .before .before .before .before .before .before .before .before .before .before .before .before .before .before .before .signed4 .ensures)), first, second, c .before .before .before .before .before .before .before .before .before .before .before .before .before .before .before .before .before .before .before .before .before .before .before .before .before .before .before .before .pre .1)
+    let first = rw (trace-cast (c .before .before .before .before .before .before .before .before .before .before .before .before .before .before .before .before .before .before .before .before .before .before) _ (c .before .before .before .before .before .before .before .before .before .before .before .before .before .before .before .base-trace .ensures)) at (c .before .before .before .before .before .before .before .before .before .before .before .before .before .before .put-signed .ensures .0) in
+    let second = rw (norm-cast (c .before .before .before .before .before .before .before .before .before .before .before .before .before .before .before .before .before .before .before .before .before .before) _ (c .before .before .before .before .before .base-norm .ensures)) at (c .before .before .before .before .put-signed2 .ensures .0) in
+    omega (arith, trace-short (c .before .before .before .before .before .before .before .before .before .before .before .before .before .before .before .before .before .before .before .before .before .before), norm-short (c .before .before .before .before .before .before .before .before .before .before .before .before .before .before .before .before .before .before .before .before .before .before), first, second, c .before .before .before .before .before .before .before .before .before .before .before .before .before .before .before .before .before .before .before .before .before .before .before .before .before .before .before .before .pre .1)
+
 
 -- src/lib.rt:55:1
 same-length : tie.Need-same-length
@@ -163,22 +213,24 @@ same-length c = search needs
 
 -- src/lib.rt:55:1
 returns : tie.Need-returns
-unfolding elementAt span bytesOf normLine
+unfolding bytesOf normLine
 returns c =
-    let s = c .before .before .before .before .before .before .before .before .before .before .before .before .before .before .before .before .before .before .before .before .before .before .before .before .before .before .before .before .before .before .before .args .out .now in
-    let first = rw (narrow _ _ (trace-is (c .before .before .before .before .before .before .before .before .before .before .before .before .before .before .before .before .before .before .before .before .before .before .before .before .before .before .before .before .before .before .before .args .base .now) (c .before .before .before .before .before .before .before .before .before .before .before .before .before .before .before .before .before .before .before .before .before .before .before .before .before .before .before .before .before .before .before .pre .0) _ _ _ _ (c .before .before .before .before .before .before .before .before .before .before .before .before .before .before .before .before .before .before .before .before .before .before .before .before .before .before .before .before .signed .ensures) (c .before .before .before .before .before .before .before .before .before .before .before .before .before .before .before .before .before .before .before .before .before .before .before .before .before .before .before .signed2 .ensures) (c .before .before .before .before .before .before .before .before .before .before .before .before .before .before .before .before .before .before .before .before .before .before .before .before .before .before .signed3 .ensures) (c .before .before .before .before .before .before .before .before .before .before .before .before .before .before .before .before .before .before .before .before .before .before .before .before .before .signed4 .ensures) _ (c .before .before .before .before .before .before .before .before .before .before .before .before .before .before .before .before .before .before .base-trace .ensures)) (trace-small (c .before .before .before .before .before .before .before .before .before .before .before .before .before .before .before .before .before .before .before .before .before .before .before .before .before .before .before .before .before .before .before .args .base .now) (c .before .before .before .before .before .before .before .before .before .before .before .before .before .before .before .before .before .before .before .before .before .before .before .before .before .before .before .before .before .before .before .pre .0) _ _ _ _ (c .before .before .before .before .before .before .before .before .before .before .before .before .before .before .before .before .before .before .before .before .before .before .before .before .before .before .before .before .signed .ensures) (c .before .before .before .before .before .before .before .before .before .before .before .before .before .before .before .before .before .before .before .before .before .before .before .before .before .before .before .signed2 .ensures) (c .before .before .before .before .before .before .before .before .before .before .before .before .before .before .before .before .before .before .before .before .before .before .before .before .before .before .signed3 .ensures) (c .before .before .before .before .before .before .before .before .before .before .before .before .before .before .before .before .before .before .before .before .before .before .before .before .before .signed4 .ensures))) at (c .before .before .before .before .before .before .before .before .before .before .before .before .before .before .before .before .before .put-signed .ensures) in
-    let second = rw (narrow _ _ (norm-is (c .before .before .before .before .before .before .before .before .before .before .before .before .before .before .before .before .before .before .before .before .before .before .before .before .before .before .before .before .before .before .before .args .base .now) (c .before .before .before .before .before .before .before .before .before .before .before .before .before .before .before .before .before .before .before .before .before .before .before .before .before .before .before .before .before .before .before .pre .0) _ _ _ _ (c .before .before .before .before .before .before .before .before .before .before .before .before .before .before .before .before .before .before .before .before .before .before .before .before .before .before .before .before .signed .ensures) (c .before .before .before .before .before .before .before .before .before .before .before .before .before .before .before .before .before .before .before .before .before .before .before .before .before .before .before .signed2 .ensures) (c .before .before .before .before .before .before .before .before .before .before .before .before .before .before .before .before .before .before .before .before .before .before .before .before .before .before .signed3 .ensures) (c .before .before .before .before .before .before .before .before .before .before .before .before .before .before .before .before .before .before .before .before .before .before .before .before .before .signed4 .ensures) _ (c .before .before .before .before .before .before .before .before .base-norm .ensures)) (norm-small (c .before .before .before .before .before .before .before .before .before .before .before .before .before .before .before .before .before .before .before .before .before .before .before .before .before .before .before .before .before .before .before .args .base .now) (c .before .before .before .before .before .before .before .before .before .before .before .before .before .before .before .before .before .before .before .before .before .before .before .before .before .before .before .before .before .before .before .pre .0) _ _ _ _ (c .before .before .before .before .before .before .before .before .before .before .before .before .before .before .before .before .before .before .before .before .before .before .before .before .before .before .before .before .signed .ensures) (c .before .before .before .before .before .before .before .before .before .before .before .before .before .before .before .before .before .before .before .before .before .before .before .before .before .before .before .signed2 .ensures) (c .before .before .before .before .before .before .before .before .before .before .before .before .before .before .before .before .before .before .before .before .before .before .before .before .before .before .signed3 .ensures) (c .before .before .before .before .before .before .before .before .before .before .before .before .before .before .before .before .before .before .before .before .before .before .before .before .before .signed4 .ensures))) at (c .before .before .before .before .before .before .before .put-signed2 .ensures) in
-    let third = rw (expanding-is (c .before .before .before .before .before .before .before .before .before .before .before .before .before .before .before .before .before .before .before .before .before .before .before .before .before .before .before .before .before .before .before .args .base .now) (c .before .before .before .before .before .before .before .before .before .before .before .before .before .before .before .before .before .before .before .before .before .before .before .before .before .before .before .before .before .before .before .pre .0) _ _ _ _ (c .before .before .before .before .before .before .before .before .before .before .before .before .before .before .before .before .before .before .before .before .before .before .before .before .before .before .before .before .signed .ensures) (c .before .before .before .before .before .before .before .before .before .before .before .before .before .before .before .before .before .before .before .before .before .before .before .before .before .before .before .signed2 .ensures) (c .before .before .before .before .before .before .before .before .before .before .before .before .before .before .before .before .before .before .before .before .before .before .before .before .before .before .signed3 .ensures) (c .before .before .before .before .before .before .before .before .before .before .before .before .before .before .before .before .before .before .before .before .before .before .before .before .before .signed4 .ensures) _ (c .before .before .before .before .is-expanding .ensures)) at (c .before .before .put-expanding .ensures) in
-    let trace = decimalZ (baseTrace (sOf (c .before .before .before .before .before .before .before .before .before .before .before .before .before .before .before .before .before .before .before .before .before .before .before .before .before .before .before .before .before .before .before .args .base .now)) (uOf (c .before .before .before .before .before .before .before .before .before .before .before .before .before .before .before .before .before .before .before .before .before .before .before .before .before .before .before .before .before .before .before .args .base .now)) (vOf (c .before .before .before .before .before .before .before .before .before .before .before .before .before .before .before .before .before .before .before .before .before .before .before .before .before .before .before .before .before .before .before .args .base .now))) in
-    let norm = decimalZ (baseNorm (sOf (c .before .before .before .before .before .before .before .before .before .before .before .before .before .before .before .before .before .before .before .before .before .before .before .before .before .before .before .before .before .before .before .args .base .now)) (tOf (c .before .before .before .before .before .before .before .before .before .before .before .before .before .before .before .before .before .before .before .before .before .before .before .before .before .before .before .before .before .before .before .args .base .now)) (uOf (c .before .before .before .before .before .before .before .before .before .before .before .before .before .before .before .before .before .before .before .before .before .before .before .before .before .before .before .before .before .before .before .args .base .now)) (vOf (c .before .before .before .before .before .before .before .before .before .before .before .before .before .before .before .before .before .before .before .before .before .before .before .before .before .before .before .before .before .before .before .args .base .now))) in
-    let word = expandingWord (expanding (sOf (c .before .before .before .before .before .before .before .before .before .before .before .before .before .before .before .before .before .before .before .before .before .before .before .before .before .before .before .before .before .before .before .args .base .now)) (tOf (c .before .before .before .before .before .before .before .before .before .before .before .before .before .before .before .before .before .before .before .before .before .before .before .before .before .before .before .before .before .before .before .args .base .now)) (uOf (c .before .before .before .before .before .before .before .before .before .before .before .before .before .before .before .before .before .before .before .before .before .before .before .before .before .before .before .before .before .before .before .args .base .now)) (vOf (c .before .before .before .before .before .before .before .before .before .before .before .before .before .before .before .before .before .before .before .before .before .before .before .before .before .before .before .before .before .before .before .args .base .now))) in
-    let front = length-append trace (bytesOf ", N = " ++ (norm ++ word)) in
-    let back = length-append norm word in
-    let tall = short _ _ (trace-is (c .before .before .before .before .before .before .before .before .before .before .before .before .before .before .before .before .before .before .before .before .before .before .before .before .before .before .before .before .before .before .before .args .base .now) (c .before .before .before .before .before .before .before .before .before .before .before .before .before .before .before .before .before .before .before .before .before .before .before .before .before .before .before .before .before .before .before .pre .0) _ _ _ _ (c .before .before .before .before .before .before .before .before .before .before .before .before .before .before .before .before .before .before .before .before .before .before .before .before .before .before .before .before .signed .ensures) (c .before .before .before .before .before .before .before .before .before .before .before .before .before .before .before .before .before .before .before .before .before .before .before .before .before .before .before .signed2 .ensures) (c .before .before .before .before .before .before .before .before .before .before .before .before .before .before .before .before .before .before .before .before .before .before .before .before .before .before .signed3 .ensures) (c .before .before .before .before .before .before .before .before .before .before .before .before .before .before .before .before .before .before .before .before .before .before .before .before .before .signed4 .ensures) _ (c .before .before .before .before .before .before .before .before .before .before .before .before .before .before .before .before .before .before .base-trace .ensures)) (trace-small (c .before .before .before .before .before .before .before .before .before .before .before .before .before .before .before .before .before .before .before .before .before .before .before .before .before .before .before .before .before .before .before .args .base .now) (c .before .before .before .before .before .before .before .before .before .before .before .before .before .before .before .before .before .before .before .before .before .before .before .before .before .before .before .before .before .before .before .pre .0) _ _ _ _ (c .before .before .before .before .before .before .before .before .before .before .before .before .before .before .before .before .before .before .before .before .before .before .before .before .before .before .before .before .signed .ensures) (c .before .before .before .before .before .before .before .before .before .before .before .before .before .before .before .before .before .before .before .before .before .before .before .before .before .before .before .signed2 .ensures) (c .before .before .before .before .before .before .before .before .before .before .before .before .before .before .before .before .before .before .before .before .before .before .before .before .before .before .signed3 .ensures) (c .before .before .before .before .before .before .before .before .before .before .before .before .before .before .before .before .before .before .before .before .before .before .before .before .before .signed4 .ensures)) in
-    let long = short _ _ (norm-is (c .before .before .before .before .before .before .before .before .before .before .before .before .before .before .before .before .before .before .before .before .before .before .before .before .before .before .before .before .before .before .before .args .base .now) (c .before .before .before .before .before .before .before .before .before .before .before .before .before .before .before .before .before .before .before .before .before .before .before .before .before .before .before .before .before .before .before .pre .0) _ _ _ _ (c .before .before .before .before .before .before .before .before .before .before .before .before .before .before .before .before .before .before .before .before .before .before .before .before .before .before .before .before .signed .ensures) (c .before .before .before .before .before .before .before .before .before .before .before .before .before .before .before .before .before .before .before .before .before .before .before .before .before .before .before .signed2 .ensures) (c .before .before .before .before .before .before .before .before .before .before .before .before .before .before .before .before .before .before .before .before .before .before .before .before .before .before .signed3 .ensures) (c .before .before .before .before .before .before .before .before .before .before .before .before .before .before .before .before .before .before .before .before .before .before .before .before .before .signed4 .ensures) _ (c .before .before .before .before .before .before .before .before .base-norm .ensures)) (norm-small (c .before .before .before .before .before .before .before .before .before .before .before .before .before .before .before .before .before .before .before .before .before .before .before .before .before .before .before .before .before .before .before .args .base .now) (c .before .before .before .before .before .before .before .before .before .before .before .before .before .before .before .before .before .before .before .before .before .before .before .before .before .before .before .before .before .before .before .pre .0) _ _ _ _ (c .before .before .before .before .before .before .before .before .before .before .before .before .before .before .before .before .before .before .before .before .before .before .before .before .before .before .before .before .signed .ensures) (c .before .before .before .before .before .before .before .before .before .before .before .before .before .before .before .before .before .before .before .before .before .before .before .before .before .before .before .signed2 .ensures) (c .before .before .before .before .before .before .before .before .before .before .before .before .before .before .before .before .before .before .before .before .before .before .before .before .before .before .signed3 .ensures) (c .before .before .before .before .before .before .before .before .before .before .before .before .before .before .before .before .before .before .before .before .before .before .before .before .before .signed4 .ensures)) in
-    let end = expanding-short (expanding (sOf (c .before .before .before .before .before .before .before .before .before .before .before .before .before .before .before .before .before .before .before .before .before .before .before .before .before .before .before .before .before .before .before .args .base .now)) (tOf (c .before .before .before .before .before .before .before .before .before .before .before .before .before .before .before .before .before .before .before .before .before .before .before .before .before .before .before .before .before .before .before .args .base .now)) (uOf (c .before .before .before .before .before .before .before .before .before .before .before .before .before .before .before .before .before .before .before .before .before .before .before .before .before .before .before .before .before .before .before .args .base .now)) (vOf (c .before .before .before .before .before .before .before .before .before .before .before .before .before .before .before .before .before .before .before .before .before .before .before .before .before .before .before .before .before .before .before .args .base .now))) in
-    let all = put-all (next s _ _ (bytesOf "T = ") _ 0 _ _ (c .before .before .before .before .before .before .before .before .before .before .before .before .before .before .before .before .before .before .before .before .before .before .put .ensures) (next _ _ _ trace _ _ _ _ first (next _ _ _ (bytesOf ", N = ") _ _ _ _ (c .before .before .before .before .before .before .before .before .before .before .before .before .put2 .ensures) (next _ _ _ norm word _ _ _ second (last _ _ _ _ _ third))))) (omega (arith, tall, long, end, front, back, c .before .before .before .before .before .before .before .before .before .before .before .before .before .before .before .before .before .before .before .before .before .before .before .before .before .before .before .before .before .before .before .pre .1)) in
-    put-line s _ _ _ _ 64 all refl (omega (arith, tall, long, end, front, back))
+    let d = c .before .before .before .before .before .before .before .before .before .before .before .before .before .before .before .before .before .before .before .before .before .before .before .before .before in
+    let out = c .before .before .before .before .before .before .before .before .before .before .before .before .before .before .before .before .before .before .before .before .before .before .before .before .before .before .before .before .before .before .before .args .out .now in
+    let first = rw (trace-cast d _ (c .before .before .before .before .before .before .before .before .before .before .before .before .before .before .before .before .before .before .base-trace .ensures)) at (c .before .before .before .before .before .before .before .before .before .before .before .before .before .before .before .before .before .put-signed .ensures) in
+    let second = rw (norm-cast d _ (c .before .before .before .before .before .before .before .before .base-norm .ensures)) at (c .before .before .before .before .before .before .before .put-signed2 .ensures) in
+    let third = rw (expanding-is d _ (c .before .before .before .before .is-expanding .ensures)) at (c .before .before .put-expanding .ensures) in
+    let T = decimalZ (trace d) in
+    let N = decimalZ (norm d) in
+    let word = expandingWord (expands d) in
+    let front = length-append T (bytesOf ", N = " ++ (N ++ word)) in
+    let back = length-append N word in
+    let tall = trace-short d in
+    let long = norm-short d in
+    let end = expanding-short (expands d) in
+    let tail = next _ _ _ (bytesOf ", N = ") _ _ _ _ (c .before .before .before .before .before .before .before .before .before .before .before .before .put2 .ensures) (next _ _ _ N word _ _ _ second (last _ _ _ _ _ third)) in
+    let all = put-all (next out _ _ (bytesOf "T = ") _ 0 _ _ (c .before .before .before .before .before .before .before .before .before .before .before .before .before .before .before .before .before .before .before .before .before .before .put .ensures) (next _ _ _ T _ _ _ _ first tail)) (omega (arith, tall, long, end, front, back, c .before .before .before .before .before .before .before .before .before .before .before .before .before .before .before .before .before .before .before .before .before .before .before .before .before .before .before .before .before .before .before .pre .1)) in
+    put-line out _ _ _ _ 64 all refl (omega (arith, tall, long, end, front, back))
 
 pub norm-line-spec : {M : Type 1} → statement M
 norm-line-spec =
