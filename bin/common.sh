@@ -65,7 +65,7 @@ answer() { # FILE LABEL
         return 2
         ;;
     *)
-        say "the program failed with status $ended"
+        say "the program gave no answer (status $ended)"
         return 2
         ;;
     esac
