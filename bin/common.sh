@@ -1,4 +1,4 @@
-# shellcheck shell=sh
+# shellcheck shell=sh disable=SC2154
 # What the commands of this folder share. A command sets `self` to its own file, links followed, and then reads this one, which takes
 # the options off its arguments. The comment at a command's head is its help.
 set -u
@@ -24,9 +24,8 @@ misused() {
     exit 2
 }
 
-# Where input or output is closed, the next thing opened would stand in for it. A folder stands in for input: it can't be read either.
+# Where standard input is closed, the next thing opened would stand in for it. A folder does: it can't be read either.
 { true 3<&0; } 2>/dev/null || exec </
-{ true 3>&1; } 2>/dev/null || trouble "can't write"
 
 case ${1-} in
 --help)
