@@ -11,18 +11,16 @@ enum { DIGITS = 6, DEEPEST = 8, EDITS = 3, LONGEST_FILE = 65535 };
 static uint8_t table[LONGEST_FILE + 1];
 static int64_t answer[YOYOMYRTLE_ANSWER_WORDS];
 
-static size_t load(const char *name) {
-    if (name == NULL) {
-        yoyomyrtle_tern(table, sizeof table);
-        return YOYOMYRTLE_TERN_BYTES;
-    }
+/* Reads a file into the table; 0 where it can't. A folder can be opened and not read. */
+static int load(const char *name, size_t *length) {
     FILE *file = fopen(name, "rb");
     if (file == NULL) {
         return 0;
     }
-    size_t length = fread(table, 1, sizeof table, file);
+    *length = fread(table, 1, sizeof table, file);
+    int whole = !ferror(file);
     fclose(file);
-    return length;
+    return whole;
 }
 
 static const char *const groups[] = {"nobody", "author", "rows", "editor"};
@@ -41,7 +39,13 @@ static void print_row(const char *name, const uint8_t *row, size_t length) {
 }
 
 int main(int argc, char **argv) {
-    size_t length = load(argc > 1 ? argv[1] : NULL);
+    size_t length = YOYOMYRTLE_TERN_BYTES;
+    if (argc < 2) {
+        yoyomyrtle_tern(table, sizeof table);
+    } else if (!load(argv[1], &length)) {
+        fprintf(stderr, "can't read %s\n", argv[1]);
+        return 2;
+    }
     if (yoyomyrtle_check(table, length, answer, YOYOMYRTLE_ANSWER_WORDS) != YOYOMYRTLE_FACTS) {
         return refused();
     }

@@ -81,6 +81,14 @@ fn tern() -> Vec<u8> {
     table
 }
 
+/// The file named, else TERN; as an error the name of a file that can't be read.
+fn load(name: Option<String>) -> Result<Vec<u8>, String> {
+    let Some(name) = name else {
+        return Ok(tern());
+    };
+    fs::read(&name).map_err(|_| name)
+}
+
 /// The answer's words, as an error where they name a fault.
 fn facts(returned: u64, words: Answer) -> Result<Answer, Answer> {
     if returned == 0 {
@@ -132,9 +140,13 @@ fn run(table: &[u8]) -> Result<(), Answer> {
 }
 
 fn main() -> ExitCode {
-    let table = env::args()
-        .nth(1)
-        .map_or_else(tern, |name| fs::read(name).unwrap_or_default());
+    let table = match load(env::args().nth(1)) {
+        Ok(table) => table,
+        Err(name) => {
+            eprintln!("can't read {name}");
+            return ExitCode::from(2);
+        }
+    };
     let Err([group, number, place, ..]) = run(&table) else {
         return ExitCode::SUCCESS;
     };

@@ -1,7 +1,15 @@
-/* Weight tables and the digit adder, for C callers. Link libadder_c.a, which `rt staticlib adder_c` writes to target/staticlib.
+/* Weight tables and the digit adder, for C callers. Link libadder_c.a, which `bin/build library` writes to target/staticlib.
  *
- * Each buffer is a pointer and its length. Buffers lent to one call must not overlap, the answer array included, and each must
- * hold as many bytes or words as its length says. No call keeps a pointer after it returns or asks for memory.
+ * The archive is for x86-64 Linux: ELF, the System V calling convention, instructions that every such processor has. Its code is position
+ * independent, so that it may go into a shared library; bin/build makes one too, target/libyoyomyrtle.so. It needs memcpy and memset from
+ * outside and nothing else. It has no variables of its own, so that calls may run on several threads at once, each on its own buffers.
+ *
+ * Stack in bytes, at the most: check and run 73,000 (of these 71,000 even with TERN), add and edit 3,300, value 2,200, the others 100. Where
+ * memcpy and memset are looked up on first use, the dynamic linker takes some 3,000 more at that time.
+ *
+ * Each buffer is a pointer and its length, and must hold as many bytes or words as its length says; the pointer may be NULL where the length
+ * is 0. A buffer that a call may write, which is one without const and the answer array too, must not overlap any other buffer of that call.
+ * Those that it only reads may be the same or overlap each other. No call keeps a pointer after it returns or asks for memory.
  *
  * The answer array is the last parameter. Word 0 is 0 for facts, 1 for a fault of the table's author, 2 of whoever lends the rows,
  * 3 of the editor. After 0 come the facts that are named at each call below; after 1, 2 or 3 the refusal number and its place.

@@ -1,0 +1,193 @@
+/* What include/yoyomyrtle.h promises besides the answers, tried: NULL where a length is 0, buffers that are only read lent twice, and the
+ * stack that a call takes, with the tables and rows of the stored vectors (docs/VECTORS.md has their format) on standard input.
+ *
+ *     cc -std=c99 -I include tests/header.c target/staticlib/libadder_c.a -o header && ./header <crates/vectors/stdin */
+#define _XOPEN_SOURCE 700
+#include <stdio.h>
+#include <stdlib.h>
+#include <string.h>
+#include <ucontext.h>
+
+#include "yoyomyrtle.h"
+
+/* A buffer without bytes, as two arguments. */
+#define NONE NULL, 0
+#define ANSWER answer, YOYOMYRTLE_ANSWER_WORDS
+
+enum { TABLE, FIRST, SECOND, SUM, BUFFERS };
+enum { LONGEST = 70000, EDITS = 3, DIGITS = 5 };
+
+static int64_t answer[YOYOMYRTLE_ANSWER_WORDS];
+static uint8_t tern[YOYOMYRTLE_TERN_BYTES];
+static int wrong;
+
+static void judge(const char *what, int right) {
+    if (!right) {
+        printf("%s: not as promised\n", what);
+        wrong++;
+    }
+}
+
+/* Judges what a call has returned and the first words of its answer. */
+static void told(const char *what, uint64_t returned, uint64_t expected, int64_t whose, int64_t number, int64_t place) {
+    judge(what, returned == expected && answer[0] == whose && answer[1] == number && answer[2] == place);
+    memset(answer, 0, sizeof answer);
+}
+
+static void facts(const char *what, uint64_t returned, int64_t fact) {
+    told(what, returned, YOYOMYRTLE_FACTS, 0, fact, 0);
+}
+
+static void fault(const char *what, uint64_t returned, int64_t whose, int64_t number) {
+    told(what, returned, YOYOMYRTLE_FAULT, whose, number, 0);
+}
+
+static void too_short(const char *what, uint64_t returned) {
+    told(what, returned, YOYOMYRTLE_TOO_SHORT, 0, 0, 0);
+}
+
+/* Each buffer of each call. The sum of empty rows is one digit with TERN. */
+static void nothing_lent(void) {
+    uint8_t sum[1];
+    fault("check: file", yoyomyrtle_check(NONE, ANSWER), 1, 1);
+    fault("value: table", yoyomyrtle_value(NONE, NONE, ANSWER), 1, 1);
+    facts("value: row", yoyomyrtle_value(tern, sizeof tern, NONE, ANSWER), 0);
+    fault("add: table", yoyomyrtle_add(NONE, NONE, NONE, NONE, ANSWER), 1, 1);
+    facts("add: rows", yoyomyrtle_add(tern, sizeof tern, NONE, NONE, sum, 1, ANSWER), 1);
+    fault("add: sum", yoyomyrtle_add(tern, sizeof tern, NONE, NONE, NONE, ANSWER), 2, 23);
+    fault("edit: table", yoyomyrtle_edit(NONE, NONE, NONE, NONE, 0, 0, 0, ANSWER), 1, 1);
+    fault("edit: rows", yoyomyrtle_edit(tern, sizeof tern, NONE, NONE, sum, 1, 0, 0, 0, ANSWER), 3, 25);
+    fault("edit: sum", yoyomyrtle_edit(tern, sizeof tern, NONE, NONE, NONE, 0, 0, 0, ANSWER), 2, 23);
+    fault("run: table", yoyomyrtle_run(NONE, NONE, NONE, NONE, NONE, NONE, NONE, NONE, NONE, NONE, ANSWER), 1, 1);
+    facts("run: rows", yoyomyrtle_run(tern, sizeof tern, NONE, NONE, sum, 1, NONE, NONE, NONE, NONE, NONE, NONE, ANSWER), 0);
+    fault("run: sum", yoyomyrtle_run(tern, sizeof tern, NONE, NONE, NONE, NONE, NONE, NONE, NONE, NONE, NONE, ANSWER), 2, 23);
+    too_short("check: answer", yoyomyrtle_check(tern, sizeof tern, NONE));
+    too_short("value: answer", yoyomyrtle_value(tern, sizeof tern, NONE, NONE));
+    too_short("add: answer", yoyomyrtle_add(tern, sizeof tern, NONE, NONE, sum, 1, NONE));
+    too_short("edit: answer", yoyomyrtle_edit(tern, sizeof tern, NONE, NONE, sum, 1, 0, 0, 0, NONE));
+    too_short("run: answer", yoyomyrtle_run(tern, sizeof tern, NONE, NONE, sum, 1, NONE, NONE, NONE, NONE, NONE, NONE, NONE));
+    too_short("midpoint: answer", yoyomyrtle_midpoint(1, 2, 3, 4, NONE));
+    too_short("tern: out", yoyomyrtle_tern(NONE));
+    too_short("bin: out", yoyomyrtle_bin(NONE));
+}
+
+/* TERN's words are the input indexes in order, the last bytes of the file, so that the first five make a row. */
+static void lent_twice(void) {
+    const uint8_t *part = tern + sizeof tern - 9;
+    uint8_t first[DIGITS], second[DIGITS], sum[DIGITS + 1], same[DIGITS + 1];
+    memcpy(first, part, DIGITS);
+    memcpy(second, part, DIGITS);
+    facts("add: rows apart", yoyomyrtle_add(tern, sizeof tern, first, DIGITS, second, DIGITS, sum, sizeof sum, ANSWER), DIGITS + 1);
+    facts("add: one row", yoyomyrtle_add(tern, sizeof tern, part, DIGITS, part, DIGITS, same, sizeof same, ANSWER), DIGITS + 1);
+    judge("add: the sum of one row", memcmp(sum, same, sizeof sum) == 0);
+
+    const size_t ones[EDITS] = {1, 1, 1};
+    size_t whose[EDITS], numbers[EDITS], values[EDITS];
+    facts("run: one list", yoyomyrtle_run(tern, sizeof tern, first, DIGITS, second, DIGITS, sum, sizeof sum, ones, EDITS, ones, EDITS,
+                                          ones, EDITS, whose, EDITS, numbers, EDITS, values, EDITS, ANSWER), EDITS);
+    judge("run: the edits of one list", whose[2] == 0 && numbers[2] == 0 && values[2] == 0);
+}
+
+/* What the calls below are given: buffers of one vector, those that it lacks being empty, and an edit. */
+static uint8_t space[BUFFERS][LONGEST], *lent[BUFFERS];
+static size_t length[BUFFERS];
+static const size_t rows[EDITS] = {0, 1, 0}, places[EDITS] = {0, 1, 5}, digits[EDITS] = {1, 0, 2};
+static size_t answers[3][EDITS];
+
+#define LENT(buffer) lent[buffer], length[buffer]
+
+static void no_call(void) {}
+static void check_call(void) { yoyomyrtle_check(LENT(TABLE), ANSWER); }
+static void add_call(void) { yoyomyrtle_add(LENT(TABLE), LENT(FIRST), LENT(SECOND), LENT(SUM), ANSWER); }
+static void edit_call(void) { yoyomyrtle_edit(LENT(TABLE), LENT(FIRST), LENT(SECOND), LENT(SUM), 1, 0, 1, ANSWER); }
+static void run_call(void) {
+    yoyomyrtle_run(LENT(TABLE), LENT(FIRST), LENT(SECOND), LENT(SUM), rows, EDITS, places, EDITS, digits, EDITS, answers[0], EDITS,
+                   answers[1], EDITS, answers[2], EDITS, ANSWER);
+}
+static void value_call(void) { yoyomyrtle_value(LENT(TABLE), LENT(FIRST), ANSWER); }
+static void midpoint_call(void) { yoyomyrtle_midpoint(1, 2, 3, 4, ANSWER); }
+static void tern_call(void) { yoyomyrtle_tern(space[TABLE], LONGEST); }
+static void bin_call(void) { yoyomyrtle_bin(space[TABLE], LONGEST); }
+
+/* The bytes that the header names; the calls that write a table come last, since they write over the vector's. */
+static struct {
+    const char *name;
+    void (*call)(void);
+    size_t promised, most;
+} calls[] = {
+    {"check", check_call, 73000, 0}, {"add", add_call, 3300, 0},           {"edit", edit_call, 3300, 0}, {"run", run_call, 73000, 0},
+    {"value", value_call, 2200, 0},  {"midpoint", midpoint_call, 100, 0}, {"tern", tern_call, 100, 0},  {"bin", bin_call, 100, 0},
+};
+
+enum { CALLS = sizeof calls / sizeof *calls, STACK = 256 * 1024, PAINT = 0xa5 };
+
+/* How much of a painted stack a call has written on. */
+static size_t stack_of(void (*call)(void)) {
+    static uint8_t stack[STACK];
+    static ucontext_t here, there;
+    memset(stack, PAINT, STACK);
+    getcontext(&there);
+    there.uc_stack.ss_sp = stack;
+    there.uc_stack.ss_size = STACK;
+    there.uc_link = &here;
+    makecontext(&there, call, 0);
+    swapcontext(&here, &there);
+    size_t kept = 0;
+    while (kept < STACK && stack[kept] == PAINT) {
+        kept++;
+    }
+    return STACK - kept;
+}
+
+static void read_bytes(uint8_t *to, size_t count) {
+    if (fread(to, 1, count, stdin) != count) {
+        printf("the vectors are cut short\n");
+        exit(1);
+    }
+}
+
+/* Takes the next vector's buffers; 0 where there is none. */
+static int next_vector(void) {
+    static const size_t buffers[] = {0, 1, 4, 4, 2, 0, 0, 0}, more[] = {0, 0, 0, 24, 0, 16, 0, 0};
+    int call = getchar();
+    uint8_t bytes[24];
+    if (call == EOF) {
+        return 0;
+    }
+    for (size_t buffer = 0; buffer < BUFFERS; buffer++) {
+        lent[buffer] = NULL;
+        length[buffer] = 0;
+        if (buffer < buffers[call]) {
+            read_bytes(bytes, 4);
+            lent[buffer] = space[buffer];
+            length[buffer] = bytes[0] + 256u * bytes[1] + 65536u * bytes[2];
+            read_bytes(lent[buffer], length[buffer]);
+        }
+    }
+    read_bytes(bytes, more[call]);
+    return 1;
+}
+
+static void stack_taken(void) {
+    size_t vectors = 0;
+    for (; next_vector(); vectors++) {
+        for (size_t k = 0; k < CALLS; k++) {
+            size_t taken = stack_of(calls[k].call) - stack_of(no_call);
+            calls[k].most = taken > calls[k].most ? taken : calls[k].most;
+        }
+    }
+    judge("vectors", vectors > 0);
+    for (size_t k = 0; k < CALLS; k++) {
+        printf("%s: %d bytes of stack at the most\n", calls[k].name, (int)calls[k].most);
+        judge(calls[k].name, calls[k].most <= calls[k].promised);
+    }
+}
+
+int main(void) {
+    yoyomyrtle_tern(tern, sizeof tern);
+    nothing_lent();
+    lent_twice();
+    stack_taken();
+    printf("%d things not as promised\n", wrong);
+    return wrong > 0;
+}
