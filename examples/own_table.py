@@ -4,7 +4,7 @@
     python3 examples/own_table.py mine.table
 
 Change BASE and ALPHABET for another one, such as base 2i: (0, -1, 0, 2) and the nine digits a + b*omega with a and b from -1 to 1. The
-method doesn't end for every choice, and it is bin/check that says whether a table is one to add by.
+method doesn't end for every choice. docs/TABLES.md says how it goes, and bin/check whether a table is one to add by.
 """
 import functools
 import itertools
@@ -59,11 +59,12 @@ def choice(word):
     if not word:
         return weights()
     values = [plus(word[0], weight) for weight in choice(word[1:])]
-    kept = []
-    while values:
+    kept = [] if any(map(any, word)) else [(0, 0)]  # zeros have to stay zeros
+    while True:
+        values = [x for x in values if not set(kept) & set(serving(x))]
+        if not values:
+            return kept
         kept.append(max(choice(word[:-1]), key=lambda weight: sum(weight in serving(x) for x in values)))
-        values = [x for x in values if kept[-1] not in serving(x)]
-    return kept
 
 
 def leaves(word=()):

@@ -2,7 +2,6 @@
 ghost use mathlib.Core.Path.{_≡_};
 ghost use Prim.Native.Nat.{_+_, _≤_};
 ghost use lib.ListN.{length};
-ghost use lib.IntN.{natAbs};
 ghost use Rattle.lists.specs.Overwrite.{overwrite};
 ghost use Rattle.ring.specs.Tests.{Within};
 ghost use Rattle.listing_rules.specs.Element.{omegaText, realText, signText, elementText, right};

@@ -8,7 +8,7 @@ use lib.ListN.{length, getD}
 use Rattle.layout_rules.specs.Limit.{limitCheckIn}
 use Rattle.ring.specs.Base.{baseTrace, baseNorm}
 use Rattle.ring.specs.Tests.{expanding}
-use Rattle.digit_rules.specs.Base.{sOf, tOf, uOf, vOf}
+use Rattle.digit_rules.specs.Base.{sOf, tOf}
 use Rattle.digit_rules.specs.Record.{elementAt, recordAt, elementCount}
 use Rattle.numeration.specs.LeafOf.{largest}
 use Rattle.text_rules.specs.Bytes.{bytesOf}

@@ -1,4 +1,4 @@
-// The program `check`: a table on standard input, one line on standard output. It only moves bytes; `table::check_line` makes the line.
+// The program `check`: a table on standard input, one line on standard output. It only moves bytes; `line::check_line` makes the line.
 fn main() {
     // one byte more than a file may have: a longer input is refused by its size
     let mut file = io::large_buffer();

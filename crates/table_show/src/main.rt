@@ -2,7 +2,6 @@
 // moves bytes; `line`, `listing` and `leaf_lines` make the lines.
 ghost use mathlib.Core.Path.{_≡_};
 ghost use Prim.Native.Nat.{_≤_};
-ghost use lib.ListN.{length};
 ghost use Rattle.layout_rules.specs.Directory.{directoryCheck};
 use leaf_lines::Columns;
 

@@ -1,3 +1,4 @@
+-- The part without ω, the sign and the part with ω, one behind the other; a whole number is its decimal text.
 use Rattle.listing_rules.proofs.Pieces.{put-more}
 use Rattle.listing_rules.proofs.Element.{element-whole, element-both}
 use Rattle.listing_rules.specs.Element.{omegaText, realText, signText, elementText}
@@ -17,13 +18,6 @@ use mathlib.Core.Path.{_≡_, refl, sym, ap, _∙_}
 use borrow.Author.Needs.{needs}
 use Rattle.element_text.proofs.put_element.Statement.{statement}
 use Rattle.element_text.proofs.put_element.Tie as tie
-use Rattle.element_text.proofs.put_element.Reads as reads
-use Rattle.element_text.proofs.put_element.Lts as lts
-use Rattle.element_text.proofs.put_omega.Reads as put-omega-reads
-use Rattle.element_text.proofs.put_real.Reads as put-real-reads
-use Rattle.element_text.proofs.put_sign.Reads as put-sign-reads
-use Rattle.magnitude.proofs.size.Reads as size-reads
-use Rattle.text.proofs.put_signed.Reads as put-signed-reads
 
 -- a part as the machine has it, in 64 bits and cast to 32
 abbrev at : (x : List ℤ) → Within 32768 x → ℕ → Term
@@ -47,63 +41,49 @@ module _ (x : List ℤ) (h : Within 32768 x) (n : ℕ) (found : n ≡ natAbs (to
   lengths d =
       ap length (both d) ∙ length-append (realText (part x 0)) _ ∙ ap (λ (k : ℕ). length (realText (part x 0)) + k) (length-append (signText (part x 0) (part x 1)) (omegaText n))
 
--- src/lib.rt:57:13
 array-copy-out-a : tie.Need-array-copy-out-a
 array-copy-out-a c = search needs
 
--- src/lib.rt:57:13
 cast-a : tie.Need-cast-a
 cast-a c = rw (stored-is w64 (at (c .before .before .args .t3) (c .before .before .pre .1) 0) refl) (plain-fits w32 (at (c .before .before .args .t3) (c .before .before .pre .1) 0) refl)
 
--- src/lib.rt:58:13
 array-copy-out-b : tie.Need-array-copy-out-b
 array-copy-out-b c = search needs
 
--- src/lib.rt:58:13
 cast-b : tie.Need-cast-b
 cast-b c = rw (stored-is w64 (at (c .before .before .before .args .t3) (c .before .before .before .pre .1) 1) refl) (plain-fits w32 (at (c .before .before .before .args .t3) (c .before .before .before .pre .1) 1) refl)
 
--- src/lib.rt:59:29
 array-copy-out-size : tie.Need-array-copy-out-size
 array-copy-out-size c = search needs
 
--- src/lib.rt:59:9
 size-requires : tie.Need-size-requires
 size-requires c κs = stored-below w64 (at (c .before .before .before .before .args .t3) (c .before .before .before .before .pre .1) 1) refl
 
--- src/lib.rt:61:9
 put-signed-requires : tie.Need-put-signed-requires
 put-signed-requires c κs = rw (narrow (c .before .before .before .before .before .before .before .args .t3) (c .before .before .before .before .before .before .before .pre .1) 0) (omega (arith, c .before .before .before .before .before .before .before .pre .0, ap length (whole (c .before .before .before .before .before .before .before .args .t3) (c .before .before .before .before .before .before .before .pre .1) _ (c .before .before .size .ensures) (c .before .if1 .taken))))
 
--- src/lib.rt:61:9
 same-length : tie.Need-same-length
 same-length c = search needs
 
--- src/lib.rt:61:9
 returns : tie.Need-returns
 returns c = rw (whole (c .before .before .before .before .before .before .before .before .before .before .args .t3) (c .before .before .before .before .before .before .before .before .before .before .pre .1) _ (c .before .before .before .before .before .size .ensures) (c .before .before .before .before .if1 .taken)) (rw (narrow (c .before .before .before .before .before .before .before .before .before .before .args .t3) (c .before .before .before .before .before .before .before .before .before .before .pre .1) 0) at (c .before .before .put-signed .ensures))
 
--- src/lib.rt:63:9
 put-real-requires : tie.Need-put-real-requires
 put-real-requires c κs = rw (narrow (c .before .before .before .before .before .before .before .args .t3) (c .before .before .before .before .before .before .before .pre .1) 0) (omega (arith, c .before .before .before .before .before .before .before .pre .0, lengths (c .before .before .before .before .before .before .before .args .t3) (c .before .before .before .before .before .before .before .pre .1) _ (c .before .before .size .ensures) (c .before .if1 .left)))
 
--- src/lib.rt:64:9
 put-sign-requires : tie.Need-put-sign-requires
 put-sign-requires c κs =
     rw (narrow (c .before .before .before .before .before .before .before .before .before .before .before .args .t3) (c .before .before .before .before .before .before .before .before .before .before .before .pre .1) 0, narrow (c .before .before .before .before .before .before .before .before .before .before .before .args .t3) (c .before .before .before .before .before .before .before .before .before .before .before .pre .1) 1) (omega (arith, c .before .before .before .before .before .before .before .before .before .before .before .pre .0, lengths (c .before .before .before .before .before .before .before .before .before .before .before .args .t3) (c .before .before .before .before .before .before .before .before .before .before .before .pre .1) _ (c .before .before .before .before .before .before .size .ensures) (c .before .before .before .before .before .if1 .left), (rw (narrow (c .before .before .before .before .before .before .before .before .before .before .before .args .t3) (c .before .before .before .before .before .before .before .before .before .before .before .pre .1) 0) at (c .before .before .before .put-real .ensures .0))))
 
--- src/lib.rt:65:5
 put-omega-requires : tie.Need-put-omega-requires
 put-omega-requires c κs =
     let real = rw (narrow (c .before .before .before .before .before .before .before .before .before .before .before .before .before .before .before .args .t3) (c .before .before .before .before .before .before .before .before .before .before .before .before .before .before .before .pre .1) 0) at (c .before .before .before .before .before .before .before .put-real .ensures .0) in
     let sign = rw (narrow (c .before .before .before .before .before .before .before .before .before .before .before .before .before .before .before .args .t3) (c .before .before .before .before .before .before .before .before .before .before .before .before .before .before .before .pre .1) 0, narrow (c .before .before .before .before .before .before .before .before .before .before .before .before .before .before .before .args .t3) (c .before .before .before .before .before .before .before .before .before .before .before .before .before .before .before .pre .1) 1) at (c .before .before .before .put-sign .ensures .0) in
     omega (arith, c .before .before .before .before .before .before .before .before .before .before .before .before .before .before .before .pre .0, lengths (c .before .before .before .before .before .before .before .before .before .before .before .before .before .before .before .args .t3) (c .before .before .before .before .before .before .before .before .before .before .before .before .before .before .before .pre .1) _ (c .before .before .before .before .before .before .before .before .before .before .size .ensures) (c .before .before .before .before .before .before .before .before .before .if1 .left), real, sign)
 
--- src/lib.rt:51:1
 same-length-2 : tie.Need-same-length-2
 same-length-2 c = search needs
 
--- src/lib.rt:51:1
 returns-2 : tie.Need-returns-2
 returns-2 c =
     let x = c .before .before .before .before .before .before .before .before .before .before .before .before .before .before .before .before .before .before .args .t3 in

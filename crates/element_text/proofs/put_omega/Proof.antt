@@ -1,56 +1,43 @@
+-- One ω is written without its number.
 use Rattle.listing_rules.proofs.Pieces.{put-more}
 use Rattle.listing_rules.proofs.Element.{omega-one, omega-more}
 use Rattle.text_rules.specs.Decimal.{decimal}
 use Rattle.text_rules.specs.Bytes.{bytesOf}
 use lib.ListN.{length, length-append}
 use native.Mathlib.Omega.{arith}
-use mathlib.Core.List.{[], _++_}
 use mathlib.Core.Path.{ap}
 use borrow.Author.Needs.{needs}
 use Rattle.element_text.proofs.put_omega.Statement.{statement}
 use Rattle.element_text.proofs.put_omega.Tie as tie
-use Rattle.element_text.proofs.put_omega.Reads as reads
-use Rattle.element_text.proofs.put_omega.Lts as lts
-use Rattle.octets.proofs.put.Reads as put-reads
-use Rattle.text.proofs.put_decimal.Reads as put-decimal-reads
 
--- src/lib.rt:17:37
 slice-aggregate-put : tie.Need-slice-aggregate-put
 slice-aggregate-put c = search needs
 
--- src/lib.rt:17:9
 put-requires : tie.Need-put-requires
 unfolding bytesOf
 put-requires c κs = omega (arith, ap length (omega-one (c .before .before .before .before .args .n) (c .before .before .if1 .taken)))
 
--- src/lib.rt:17:9
 same-length : tie.Need-same-length
 same-length c = search needs
 
--- src/lib.rt:17:9
 returns : tie.Need-returns
 unfolding bytesOf
 returns c = rw (omega-one (c .before .before .before .before .before .before .before .args .n) (c .before .before .before .before .before .if1 .taken)) (c .before .before .put .ensures)
 
--- src/lib.rt:19:9
 put-decimal-requires : tie.Need-put-decimal-requires
 unfolding bytesOf
 put-decimal-requires c κs = omega (arith, ap length (omega-more (c .before .before .before .args .n) (c .before .if1 .left)), length-append (decimal (c .before .before .before .args .n)) (bytesOf "w"))
 
--- src/lib.rt:20:27
 slice-aggregate-put-2 : tie.Need-slice-aggregate-put-2
 slice-aggregate-put-2 c = search needs
 
--- src/lib.rt:20:5
 put-requires-2 : tie.Need-put-requires-2
 unfolding bytesOf
 put-requires-2 c κs = omega (arith, ap length (omega-more (c .before .before .before .before .before .before .before .before .args .n) (c .before .before .before .before .before .before .if1 .left)), length-append (decimal (c .before .before .before .before .before .before .before .before .args .n)) (bytesOf "w"))
 
--- src/lib.rt:11:1
 same-length-2 : tie.Need-same-length-2
 same-length-2 c = search needs
 
--- src/lib.rt:11:1
 returns-2 : tie.Need-returns-2
 unfolding bytesOf
 returns-2 c =

@@ -1,3 +1,4 @@
+-- After some spaces the buffer has as many written as are filled beyond the text.
 use Rattle.listing_rules.proofs.Pieces.{put-more, space-more}
 use Rattle.listing_rules.proofs.Element.{right-length}
 use Rattle.listing_rules.specs.Element.{right}
@@ -10,9 +11,6 @@ use Prim.Native.Nat.{ℕ, _+_, _-_, _≤_}
 use mathlib.Core.Path.{_≡_, refl, sym, ap, ap₂, _∙_}
 use Rattle.element_text.proofs.put_right.Statement.{statement}
 use Rattle.element_text.proofs.put_right.Tie as tie
-use Rattle.element_text.proofs.put_right.Reads as reads
-use Rattle.element_text.proofs.put_right.Lts as lts
-use Rattle.octets.proofs.put.Reads as put-reads
 
 abbrev Inv-loop : tie.InvT-loop
 Inv-loop out₀ at width text end₀ filled₀ out end filled =
@@ -25,29 +23,23 @@ Inv-loop out₀ at width text end₀ filled₀ out end filled =
 abbrev μ-loop : tie.MeasureT-loop
 μ-loop out₀ at width text end₀ filled₀ out end filled = width - filled
 
--- src/lib.rt:76:5
 loop-holds : tie.Need-loop-holds Inv-loop μ-loop
 loop-holds c =
     let none : length (c .before .before .args .text .now) - length (c .before .before .args .text .now) ≡ 0 = omega arith in
     (omega arith, omega arith, omega arith, sym (overwrite-none (c .before .before .args .out .now) (c .before .before .args .at)) ∙ ap (λ (k : ℕ). overwrite (c .before .before .args .out .now) (c .before .before .args .at) (replicate k 32)) (sym none), refl)
 
--- src/lib.rt:77:9
 slice-write-out : tie.Need-slice-write-out Inv-loop μ-loop
 slice-write-out c = omega (arith, right-length (c .before .before .before .before .args .width) (c .before .before .before .before .args .text .now))
 
--- src/lib.rt:78:9
 add-end : tie.Need-add-end Inv-loop μ-loop
 add-end c = omega (arith, right-length (c .before .before .before .before .args .width) (c .before .before .before .before .args .text .now))
 
--- src/lib.rt:79:9
 add-filled : tie.Need-add-filled Inv-loop μ-loop
 add-filled c = omega arith
 
--- src/lib.rt:76:5
 loop-less : tie.Need-loop-less Inv-loop μ-loop
 loop-less c = omega arith
 
--- src/lib.rt:76:5
 loop-again : tie.Need-loop-again Inv-loop μ-loop
 loop-again c =
     let k : ℕ = c .before .loop .filled - length (c .before .before .before .before .args .text .now) in
@@ -59,15 +51,12 @@ loop-again c =
       simp length-set (c .before .loop .inv .4),
     )
 
--- src/lib.rt:81:5
 put-requires : tie.Need-put-requires Inv-loop μ-loop
 put-requires c κs = omega (arith, right-length (c .before .before .before .before .before .args .width) (c .before .before .before .before .before .args .text .now))
 
--- src/lib.rt:69:1
 same-length : tie.Need-same-length Inv-loop μ-loop
 same-length c = search needs
 
--- src/lib.rt:69:1
 returns : tie.Need-returns Inv-loop μ-loop
 unfolding right
 returns c =

@@ -1,3 +1,4 @@
+-- A minus below zero, and else a plus where something stands before.
 use Rattle.element_text.proofs.Zero.{is-zero, not-zero, sign-test}
 use Rattle.listing_rules.proofs.Pieces.{put-none}
 use Rattle.listing_rules.proofs.Element.{sign-below, sign-none, sign-above}
@@ -9,46 +10,34 @@ use mathlib.Core.Path.{ap}
 use borrow.Author.Needs.{needs}
 use Rattle.element_text.proofs.put_sign.Statement.{statement}
 use Rattle.element_text.proofs.put_sign.Tie as tie
-use Rattle.element_text.proofs.put_sign.Reads as reads
-use Rattle.element_text.proofs.put_sign.Lts as lts
-use Rattle.octets.proofs.put.Reads as put-reads
 
--- src/lib.rt:42:37
 slice-aggregate-put : tie.Need-slice-aggregate-put
 slice-aggregate-put c = search needs
 
--- src/lib.rt:42:9
 put-requires : tie.Need-put-requires
 unfolding bytesOf
 put-requires c κs = omega (arith, ap length (sign-below (c .before .before .before .before .args .a) (c .before .before .before .before .args .b) (sign-test w32 (c .before .before .before .before .args .b) _ (c .before .before .before .before .fits .b) (c .before .before .if1 .taken))))
 
--- src/lib.rt:42:9
 same-length : tie.Need-same-length
 same-length c = search needs
 
--- src/lib.rt:42:9
 returns : tie.Need-returns
 unfolding bytesOf
 returns c = rw (sign-below (c .before .before .before .before .before .before .before .args .a) (c .before .before .before .before .before .before .before .args .b) (sign-test w32 (c .before .before .before .before .before .before .before .args .b) _ (c .before .before .before .before .before .before .before .fits .b) (c .before .before .before .before .before .if1 .taken))) (c .before .before .put .ensures)
 
--- src/lib.rt:45:9
 returns-2 : tie.Need-returns-2
 returns-2 c = rw (sign-none (c .before .before .before .args .a) (c .before .before .before .args .b) (sign-test w32 (c .before .before .before .args .b) _ (c .before .before .before .fits .b) (c .before .if1 .left)) (is-zero w32 (c .before .before .before .args .a) (c .before .before .before .fits .a) (search needs) (c .if2 .taken))) (put-none (c .before .before .before .args .out .now) (c .before .before .before .args .at))
 
--- src/lib.rt:47:26
 slice-aggregate-put-2 : tie.Need-slice-aggregate-put-2
 slice-aggregate-put-2 c = search needs
 
--- src/lib.rt:47:5
 put-requires-2 : tie.Need-put-requires-2
 unfolding bytesOf
 put-requires-2 c κs = omega (arith, ap length (sign-above (c .before .before .before .before .before .args .a) (c .before .before .before .before .before .args .b) (sign-test w32 (c .before .before .before .before .before .args .b) _ (c .before .before .before .before .before .fits .b) (c .before .before .before .if1 .left)) (not-zero w32 (c .before .before .before .before .before .args .a) (c .before .before .if2 .left))))
 
--- src/lib.rt:36:1
 same-length-2 : tie.Need-same-length-2
 same-length-2 c = search needs
 
--- src/lib.rt:36:1
 returns-3 : tie.Need-returns-3
 unfolding bytesOf
 returns-3 c = rw (sign-above (c .before .before .before .before .before .before .before .before .args .a) (c .before .before .before .before .before .before .before .before .args .b) (sign-test w32 (c .before .before .before .before .before .before .before .before .args .b) _ (c .before .before .before .before .before .before .before .before .fits .b) (c .before .before .before .before .before .before .if1 .left)) (not-zero w32 (c .before .before .before .before .before .before .before .before .args .a) (c .before .before .before .before .before .if2 .left))) (c .before .before .put2 .ensures)

@@ -1,53 +1,38 @@
+-- The record, or `?` where there is none.
 use Rattle.listing_rules.proofs.Lines.{input-there, input-missing}
 use Rattle.listing_rules.proofs.Element.{element-short}
 use Rattle.text_rules.specs.Bytes.{bytesOf}
 use native.Mathlib.Omega.{arith}
-use mathlib.Core.Path.{ap}
 use borrow.Author.Needs.{needs}
 use Rattle.leaf_lines.proofs.input_text.Statement.{statement}
 use Rattle.leaf_lines.proofs.input_text.Tie as tie
-use Rattle.leaf_lines.proofs.input_text.Reads as reads
-use Rattle.leaf_lines.proofs.input_text.Lts as lts
-use Rattle.digits.proofs.record_at.Reads as record-at-reads
-use Rattle.element_text.proofs.put_element.Reads as put-element-reads
-use Rattle.layout.proofs.record_count.Reads as record-count-reads
-use Rattle.octets.proofs.put.Reads as put-reads
 
--- src/lib.rt:27:12
 record-count-requires : tie.Need-record-count-requires
 record-count-requires c κs = search needs
 
--- src/lib.rt:28:50
 record-at-requires : tie.Need-record-at-requires
 record-at-requires c κs = search needs
 
--- src/lib.rt:28:9
 put-element-requires : tie.Need-put-element-requires
 put-element-requires c κs = (omega (arith, element-short _ (c .record-at .ensures .1), c .before .before .before .before .before .before .pre), c .record-at .ensures .1)
 
--- src/lib.rt:28:9
 same-length : tie.Need-same-length
 same-length c = search needs
 
--- src/lib.rt:28:9
 returns : tie.Need-returns
 returns c =
     let named = rw (c .before .before .before .record-at .ensures .0) at (c .before .before .put-element .ensures) in
     rw (input-there (c .before .before .before .before .before .before .before .before .before .args .inputs .now) (c .before .before .before .before .before .before .before .before .before .args .k) (omega arith)) (omega (arith, named .0), named .1)
 
--- src/lib.rt:30:25
 slice-aggregate-put : tie.Need-slice-aggregate-put
 slice-aggregate-put c = search needs
 
--- src/lib.rt:30:5
 put-requires : tie.Need-put-requires
 put-requires c κs = search needs
 
--- src/lib.rt:22:1
 same-length-2 : tie.Need-same-length-2
 same-length-2 c = search needs
 
--- src/lib.rt:22:1
 returns-2 : tie.Need-returns-2
 unfolding bytesOf
 returns-2 c = rw (input-missing (c .before .before .before .before .before .before .before .before .before .args .inputs .now) (c .before .before .before .before .before .before .before .before .before .args .k) (omega arith)) (omega (arith, c .before .before .put .ensures .0), c .before .before .put .ensures .1)

@@ -1,3 +1,4 @@
+-- Six pieces, one behind the other: at most 20, 1, 112, 3, 13 and 1 bytes.
 use Rattle.listing_rules.proofs.Pieces.{last, next, put-all, put-line}
 use Rattle.listing_rules.proofs.Lines.{word-short}
 use Rattle.listing_rules.proofs.Element.{element-short, right-short}
@@ -16,12 +17,6 @@ use mathlib.Core.Path.{refl}
 use borrow.Author.Needs.{needs}
 use Rattle.leaf_lines.proofs.leaf_line.Statement.{statement}
 use Rattle.leaf_lines.proofs.leaf_line.Tie as tie
-use Rattle.leaf_lines.proofs.leaf_line.Reads as reads
-use Rattle.leaf_lines.proofs.leaf_line.Lts as lts
-use Rattle.leaf_lines.proofs.put_aligned.Reads as put-aligned-reads
-use Rattle.leaf_lines.proofs.put_number.Reads as put-number-reads
-use Rattle.leaf_lines.proofs.put_word.Reads as put-word-reads
-use Rattle.octets.proofs.put.Reads as put-reads
 
 -- the three pieces that aren't words of the line: at most 20, 112 and 13 bytes
 number-short : (n : ℕ) → Fits w64 n → length (right 4 (decimal n)) ≤ 20
@@ -34,55 +29,44 @@ word-room s given =
 weight-room : (s : tie.Start) → length (right (s .args .columns .weights) (elementText (s .args .weight))) ≤ 13
 weight-room s = right-short (s .args .columns .weights) (elementText (s .args .weight)) 13 (s .pre .1 .1 .2) (element-short (s .args .weight) (s .pre .1 .0))
 
--- src/lib.rt:108:9
 put-number-requires : tie.Need-put-number-requires
 put-number-requires c κs = omega (arith, number-short (c .before .before .before .before .args .leaf) (c .before .before .before .before .fits .leaf), c .before .before .before .before .pre .0)
 
--- src/lib.rt:109:43
 slice-aggregate-put : tie.Need-slice-aggregate-put
 slice-aggregate-put c = search needs
 
--- src/lib.rt:109:9
 put-requires : tie.Need-put-requires
 put-requires c κs = omega (arith, number-short (c .before .before .before .before .before .before .before .before .before .args .leaf) (c .before .before .before .before .before .before .before .before .before .fits .leaf), c .before .before .before .before .before .before .before .before .before .pre .0, c .before .before .before .before .put-number .ensures .0)
 
--- src/lib.rt:110:9
 put-word-requires : tie.Need-put-word-requires
 unfolding bytesOf
 put-word-requires c κs =
     omega (arith, number-short (c .before .before .before .before .before .before .before .before .before .before .before .before .before .args .leaf) (c .before .before .before .before .before .before .before .before .before .before .before .before .before .fits .leaf), word-room (c .before .before .before .before .before .before .before .before .before .before .before .before .before) (λ k. omega (arith, c .before .before .before .before .before .before .before .before .before .before .before .before .shared-slice-known .given k)), c .before .before .before .before .before .before .before .before .before .before .before .before .before .pre .0, c .before .before .before .before .before .before .before .before .put-number .ensures .0, c .before .before .before .put .ensures .0)
 
--- src/lib.rt:111:43
 slice-aggregate-put-2 : tie.Need-slice-aggregate-put-2
 slice-aggregate-put-2 c = search needs
 
--- src/lib.rt:111:9
 put-requires-2 : tie.Need-put-requires-2
 unfolding bytesOf
 put-requires-2 c κs =
     omega (arith, number-short (c .before .before .before .before .before .before .before .before .before .before .before .before .before .before .before .before .before .before .args .leaf) (c .before .before .before .before .before .before .before .before .before .before .before .before .before .before .before .before .before .before .fits .leaf), word-room (c .before .before .before .before .before .before .before .before .before .before .before .before .before .before .before .before .before .before) (λ k. omega (arith, c .before .before .before .before .before .before .before .before .before .before .before .before .before .before .before .before .before .shared-slice-known .given k)), c .before .before .before .before .before .before .before .before .before .before .before .before .before .before .before .before .before .before .pre .0, c .before .before .before .before .before .before .before .before .before .before .before .before .before .put-number .ensures .0, c .before .before .before .before .before .before .before .before .put .ensures .0, c .before .before .before .before .put-word .ensures .0)
 
--- src/lib.rt:112:9
 put-aligned-requires : tie.Need-put-aligned-requires
 unfolding bytesOf
 put-aligned-requires c κs =
     (omega (arith, number-short (c .before .before .before .before .before .before .before .before .before .before .before .before .before .before .before .before .before .before .before .before .before .before .args .leaf) (c .before .before .before .before .before .before .before .before .before .before .before .before .before .before .before .before .before .before .before .before .before .before .fits .leaf), word-room (c .before .before .before .before .before .before .before .before .before .before .before .before .before .before .before .before .before .before .before .before .before .before) (λ k. omega (arith, c .before .before .before .before .before .before .before .before .before .before .before .before .before .before .before .before .before .before .before .before .before .shared-slice-known .given k)), weight-room (c .before .before .before .before .before .before .before .before .before .before .before .before .before .before .before .before .before .before .before .before .before .before), c .before .before .before .before .before .before .before .before .before .before .before .before .before .before .before .before .before .before .before .before .before .before .pre .0, c .before .before .before .before .before .before .before .before .before .before .before .before .before .before .before .before .before .put-number .ensures .0, c .before .before .before .before .before .before .before .before .before .before .before .before .put .ensures .0, c .before .before .before .before .before .before .before .before .put-word .ensures .0, c .before .before .before .put2 .ensures .0), c .before .before .before .before .before .before .before .before .before .before .before .before .before .before .before .before .before .before .before .before .before .before .pre .1 .0)
 
--- src/lib.rt:113:27
 slice-aggregate-put-3 : tie.Need-slice-aggregate-put-3
 slice-aggregate-put-3 c = search needs
 
--- src/lib.rt:113:5
 put-requires-3 : tie.Need-put-requires-3
 unfolding bytesOf
 put-requires-3 c κs =
     omega (arith, number-short (c .before .before .before .before .before .before .before .before .before .before .before .before .before .before .before .before .before .before .before .before .before .before .before .before .before .before .before .args .leaf) (c .before .before .before .before .before .before .before .before .before .before .before .before .before .before .before .before .before .before .before .before .before .before .before .before .before .before .before .fits .leaf), word-room (c .before .before .before .before .before .before .before .before .before .before .before .before .before .before .before .before .before .before .before .before .before .before .before .before .before .before .before) (λ k. omega (arith, c .before .before .before .before .before .before .before .before .before .before .before .before .before .before .before .before .before .before .before .before .before .before .before .before .before .before .shared-slice-known .given k)), weight-room (c .before .before .before .before .before .before .before .before .before .before .before .before .before .before .before .before .before .before .before .before .before .before .before .before .before .before .before), c .before .before .before .before .before .before .before .before .before .before .before .before .before .before .before .before .before .before .before .before .before .before .before .before .before .before .before .pre .0, c .before .before .before .before .before .before .before .before .before .before .before .before .before .before .before .before .before .before .before .before .before .before .put-number .ensures .0, c .before .before .before .before .before .before .before .before .before .before .before .before .before .before .before .before .before .put .ensures .0, c .before .before .before .before .before .before .before .before .before .before .before .before .before .put-word .ensures .0, c .before .before .before .before .before .before .before .before .put2 .ensures .0, c .before .before .before .before .put-aligned .ensures .0)
 
--- src/lib.rt:99:1
 same-length : tie.Need-same-length
 same-length c = search needs
 
--- src/lib.rt:99:1
 returns : tie.Need-returns
 unfolding bytesOf leafLine
 returns c =

@@ -1,3 +1,4 @@
+-- The text is made apart, since its length says where it starts; a space before it.
 use Rattle.listing_rules.proofs.Pieces.{last, next, put-all, put-taken}
 use Rattle.listing_rules.proofs.Lines.{digit-short}
 use Rattle.listing_rules.specs.Listing.{digitText, columnText}
@@ -5,52 +6,38 @@ use Rattle.listing_rules.specs.Element.{right}
 use Rattle.text_rules.specs.Bytes.{bytesOf}
 use lib.Seq.{length-take-le}
 use native.Mathlib.Omega.{arith}
-use mathlib.Core.Path.{sym, ap, _∙_}
+use mathlib.Core.Path.{sym}
 use borrow.Author.Needs.{needs}
 use Rattle.leaf_lines.proofs.put_column.Statement.{statement}
 use Rattle.leaf_lines.proofs.put_column.Tie as tie
-use Rattle.leaf_lines.proofs.put_column.Reads as reads
-use Rattle.leaf_lines.proofs.put_column.Lts as lts
-use Rattle.element_text.proofs.put_right.Reads as put-right-reads
-use Rattle.leaf_lines.proofs.digit_text.Reads as digit-text-reads
-use Rattle.octets.proofs.put.Reads as put-reads
 
--- src/lib.rt:55:41
 slice-aggregate-digit-text : tie.Need-slice-aggregate-digit-text
 slice-aggregate-digit-text c = search needs
 
--- src/lib.rt:55:9
 digit-text-requires : tie.Need-digit-text-requires
 digit-text-requires c κs = search needs
 
--- src/lib.rt:56:38
 slice-aggregate-put : tie.Need-slice-aggregate-put
 slice-aggregate-put c = search needs
 
--- src/lib.rt:56:9
 put-requires : tie.Need-put-requires
 unfolding columnText bytesOf
 put-requires c κs = omega (arith, c .before .before .before .before .before .before .before .before .pre)
 
--- src/lib.rt:57:48
 array-share-prefix-digit : tie.Need-array-share-prefix-digit
 array-share-prefix-digit c = omega (arith, digit-short (c .before .before .before .before .before .before .before .before .before .before .before .before .args .inputs .now) (λ k. omega (arith, c .before .before .before .before .before .before .before .before .before .before .before .shared-slice-known .given k)) (c .before .before .before .before .before .before .before .before .before .before .before .before .args .word .now) (c .before .before .before .before .before .before .before .before .before .before .before .before .args .i), c .before .before .before .before .before .before .before .digit-text .ensures .0)
 
--- src/lib.rt:57:48
 slice-aggregate-put-right : tie.Need-slice-aggregate-put-right
 slice-aggregate-put-right c =
     sym (length-take-le (c .before .before .before .before .before .before .before .before .digit-text .result) _ (omega (arith, digit-short (c .before .before .before .before .before .before .before .before .before .before .before .before .before .args .inputs .now) (λ k. omega (arith, c .before .before .before .before .before .before .before .before .before .before .before .before .shared-slice-known .given k)) (c .before .before .before .before .before .before .before .before .before .before .before .before .before .args .word .now) (c .before .before .before .before .before .before .before .before .before .before .before .before .before .args .i), c .before .before .before .before .before .before .before .before .digit-text .ensures .0)))
 
--- src/lib.rt:57:5
 put-right-requires : tie.Need-put-right-requires
 unfolding columnText bytesOf
 put-right-requires c κs = rw (put-taken _ _ (digitText (c .before .before .before .before .before .before .before .before .before .before .before .before .before .args .inputs .now) (c .before .before .before .before .before .before .before .before .before .before .before .before .before .args .word .now) (c .before .before .before .before .before .before .before .before .before .before .before .before .before .args .i)) _ (c .before .before .before .before .before .before .before .before .digit-text .ensures .0) (c .before .before .before .before .before .before .before .before .digit-text .ensures .1)) (omega (arith, c .before .before .before .before .before .before .before .before .before .before .before .before .before .pre, c .before .before .before .before .put .ensures .0))
 
--- src/lib.rt:49:1
 same-length : tie.Need-same-length
 same-length c = search needs
 
--- src/lib.rt:49:1
 returns : tie.Need-returns
 unfolding columnText bytesOf
 returns c =

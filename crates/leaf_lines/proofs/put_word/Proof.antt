@@ -1,17 +1,14 @@
+-- After some columns the buffer has their texts written.
 use Rattle.listing_rules.proofs.Pieces.{Put, put-none, put-more}
 use Rattle.listing_rules.proofs.Lines.{word-next, word-before}
-use Rattle.listing_rules.specs.Listing.{columnText, wordText}
+use Rattle.listing_rules.specs.Listing.{wordText}
 use borrow.Author.Needs.{needs}
-use lib.ListN.{length, length-append}
+use lib.ListN.{length}
 use native.Mathlib.Omega.{arith}
-use Prim.Native.Nat.{_+_, _-_, _≤_}
-use mathlib.Core.List.{_++_}
-use mathlib.Core.Path.{_≡_, refl, sym, ap, _∙_}
+use Prim.Native.Nat.{_-_, _≤_}
+use mathlib.Core.Path.{_≡_, refl}
 use Rattle.leaf_lines.proofs.put_word.Statement.{statement}
 use Rattle.leaf_lines.proofs.put_word.Tie as tie
-use Rattle.leaf_lines.proofs.put_word.Reads as reads
-use Rattle.leaf_lines.proofs.put_word.Lts as lts
-use Rattle.leaf_lines.proofs.put_column.Reads as put-column-reads
 
 abbrev Inv-loop : tie.InvT-loop
 Inv-loop inputs word columns width out₀ at end₀ i₀ out end i = (i ≤ columns) × Put out₀ out at end (wordText width inputs word i) × (length out ≡ length out₀)
@@ -19,36 +16,29 @@ Inv-loop inputs word columns width out₀ at end₀ i₀ out end i = (i ≤ colu
 abbrev μ-loop : tie.MeasureT-loop
 μ-loop inputs word columns width out₀ at end₀ i₀ out end i = columns - i
 
--- src/lib.rt:68:5
 loop-holds : tie.Need-loop-holds Inv-loop μ-loop
 unfolding wordText
 loop-holds c = (omega arith, put-none (c .before .before .before .args .out .now) (c .before .before .before .args .at), refl)
 
--- src/lib.rt:69:9
 put-column-requires : tie.Need-put-column-requires Inv-loop μ-loop
 put-column-requires c κs =
     omega (arith, c .before .before .before .before .before .before .pre, c .before .before .loop .inv .1 .0, c .before .before .loop .inv .2, word-before (c .before .before .before .before .before .before .args .width) (c .before .before .before .before .before .before .args .inputs .now) (c .before .before .before .before .before .before .args .word .now) (c .before .before .loop .i) (c .before .before .before .before .before .before .args .columns) (c .before .loop-test .taken))
 
--- src/lib.rt:70:9
 add-i : tie.Need-add-i Inv-loop μ-loop
 add-i c = omega arith
 
--- src/lib.rt:68:5
 loop-less : tie.Need-loop-less Inv-loop μ-loop
 loop-less c = omega arith
 
--- src/lib.rt:68:5
 loop-again : tie.Need-loop-again Inv-loop μ-loop
 loop-again c =
     let before = word-before (c .before .before .before .before .before .before .before .before .before .args .width) (c .before .before .before .before .before .before .before .before .before .args .inputs .now) (c .before .before .before .before .before .before .before .before .before .args .word .now) (c .before .before .before .before .before .loop .i) (c .before .before .before .before .before .before .before .before .before .args .columns) (c .before .before .before .before .loop-test .taken) in
     let next = put-more (c .before .before .before .before .before .before .before .before .before .args .out .now) _ _ (wordText (c .before .before .before .before .before .before .before .before .before .args .width) (c .before .before .before .before .before .before .before .before .before .args .inputs .now) (c .before .before .before .before .before .before .before .before .before .args .word .now) (c .before .before .before .before .before .loop .i)) _ (c .before .before .before .before .before .before .before .before .before .args .at) _ _ (c .before .before .before .before .before .loop .inv .1) (c .before .before .put-column .ensures) (omega (arith, before, c .before .before .before .before .before .before .before .before .before .pre)) in
     (omega arith, rw (word-next (c .before .before .before .before .before .before .before .before .before .args .width) (c .before .before .before .before .before .before .before .before .before .args .inputs .now) (c .before .before .before .before .before .before .before .before .before .args .word .now) (c .before .before .before .before .before .loop .i)) next, search needs)
 
--- src/lib.rt:61:1
 same-length : tie.Need-same-length Inv-loop μ-loop
 same-length c = c .before .loop .inv .2
 
--- src/lib.rt:61:1
 returns : tie.Need-returns Inv-loop μ-loop
 returns c = let all : c .before .loop .i ≡ c .before .before .before .before .before .args .columns = omega arith in rw all at (c .before .loop .inv .1)
 

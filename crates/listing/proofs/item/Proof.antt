@@ -1,44 +1,33 @@
+-- A space and the text of the record.
 use mathlib.Core.List.{_++_}
 use mathlib.Core.Path.{ap}
 use Rattle.listing_rules.proofs.Pieces.{put-more, put-line}
 use Rattle.listing_rules.proofs.Element.{element-short}
 use Rattle.listing_rules.specs.Element.{elementText}
 use Rattle.listing_rules.specs.Listing.{itemText}
-use Rattle.digit_rules.specs.Record.{recordAt}
 use Rattle.text_rules.specs.Bytes.{bytesOf}
 use lib.ListN.{length}
 use native.Mathlib.Omega.{arith}
 use borrow.Author.Needs.{needs}
 use Rattle.listing.proofs.item.Statement.{statement}
 use Rattle.listing.proofs.item.Tie as tie
-use Rattle.listing.proofs.item.Reads as reads
-use Rattle.listing.proofs.item.Lts as lts
-use Rattle.digits.proofs.record_at.Reads as record-at-reads
-use Rattle.element_text.proofs.put_element.Reads as put-element-reads
-use Rattle.octets.proofs.put.Reads as put-reads
 
--- src/lib.rt:80:34
 slice-aggregate-put : tie.Need-slice-aggregate-put
 slice-aggregate-put c = search needs
 
--- src/lib.rt:80:9
 put-requires : tie.Need-put-requires
 put-requires c κs = search needs
 
--- src/lib.rt:81:40
 record-at-requires : tie.Need-record-at-requires
 record-at-requires c κs = search needs
 
--- src/lib.rt:81:5
 put-element-requires : tie.Need-put-element-requires
 unfolding bytesOf
 put-element-requires c κs = (omega (arith, element-short _ (c .record-at .ensures .1)), c .record-at .ensures .1)
 
--- src/lib.rt:74:1
 same-length : tie.Need-same-length
 same-length c = search needs
 
--- src/lib.rt:74:1
 returns : tie.Need-returns
 unfolding bytesOf itemText
 returns c =

@@ -1,10 +1,10 @@
+-- T and N are found for the numbers of the section and fit 32 bits; five pieces, one behind the other.
 use Rattle.listing_rules.proofs.Pieces.{last, next, put-all, put-line}
 use Rattle.listing_rules.proofs.Lines.{expanding-short}
 use Rattle.listing_rules.proofs.Element.{whole-short}
 use Rattle.listing_rules.specs.Listing.{expandingWord, normLine}
 use Rattle.digit_rules.proofs.Record.{passed-on}
 use Rattle.digit_rules.proofs.Base.{base-limits}
-use Rattle.digit_rules.specs.Digits.{BasePart}
 use Rattle.digit_rules.specs.Base.{sOf, tOf, uOf, vOf}
 use Rattle.digit_rules.specs.Record.{elementAt}
 use Rattle.text_rules.specs.Decimal.{decimalZ}
@@ -26,15 +26,6 @@ use mathlib.Core.Path.{_≡_, refl, ap, _∙_}
 use borrow.Author.Needs.{needs}
 use Rattle.listing.proofs.norm_line.Statement.{statement}
 use Rattle.listing.proofs.norm_line.Tie as tie
-use Rattle.listing.proofs.norm_line.Reads as reads
-use Rattle.listing.proofs.norm_line.Lts as lts
-use Rattle.base_tests.proofs.base_norm.Reads as base-norm-reads
-use Rattle.base_tests.proofs.base_trace.Reads as base-trace-reads
-use Rattle.base_tests.proofs.is_expanding.Reads as is-expanding-reads
-use Rattle.layout.proofs.signed.Reads as signed-reads
-use Rattle.listing.proofs.put_expanding.Reads as put-expanding-reads
-use Rattle.octets.proofs.put.Reads as put-reads
-use Rattle.text.proofs.put_signed.Reads as put-signed-reads
 
 -- the section, T and N of its numbers, and whether it is expanding
 abbrev base : tie.After-signed4 → List ℕ
@@ -126,92 +117,65 @@ module _ (c : tie.After-signed4) where
   expanding-is b given =
       rw (passed-on _ _ (c .before .before .before .signed .ensures), passed-on _ _ (c .before .before .signed2 .ensures), passed-on _ _ (c .before .signed3 .ensures), passed-on _ _ (c .signed4 .ensures)) at given
 
--- src/lib.rt:62:9
 signed-requires : tie.Need-signed-requires
 signed-requires c κs = search needs
 
--- src/lib.rt:63:9
 signed-requires-2 : tie.Need-signed-requires-2
 signed-requires-2 c κs = search needs
 
--- src/lib.rt:64:9
 signed-requires-3 : tie.Need-signed-requires-3
 signed-requires-3 c κs = search needs
 
--- src/lib.rt:65:9
 signed-requires-4 : tie.Need-signed-requires-4
 signed-requires-4 c κs = search needs
 
--- src/lib.rt:66:37
 slice-aggregate-put : tie.Need-slice-aggregate-put
 slice-aggregate-put c = search needs
 
--- src/lib.rt:66:9
 put-requires : tie.Need-put-requires
 put-requires c κs = search needs
 
--- src/lib.rt:67:46
 base-trace-requires : tie.Need-base-trace-requires
 base-trace-requires c κs = let l = limits (c .before .before .before .before .before .before) in (l .of-s, l .of-u, l .of-v)
 
-
--- src/lib.rt:67:46
 cast-put-signed : tie.Need-cast-put-signed
 cast-put-signed c = trace-fits (c .before .before .before .before .before .before .before) _ (c .base-trace .ensures)
 
-
--- src/lib.rt:67:9
 put-signed-requires : tie.Need-put-signed-requires
 unfolding bytesOf
 put-signed-requires c κs = rw (trace-cast (c .before .before .before .before .before .before .before) _ (c .base-trace .ensures)) (omega (arith, trace-short (c .before .before .before .before .before .before .before), c .before .before .before .before .before .before .before .before .before .before .before .before .before .pre .1))
 
-
--- src/lib.rt:68:40
 slice-aggregate-put-2 : tie.Need-slice-aggregate-put-2
 slice-aggregate-put-2 c = search needs
 
--- src/lib.rt:68:9
 put-requires-2 : tie.Need-put-requires-2
 put-requires-2 c κs =
     let first = rw (trace-cast (c .before .before .before .before .before .before .before .before .before .before .before .before) _ (c .before .before .before .before .before .base-trace .ensures)) at (c .before .before .before .before .put-signed .ensures .0) in
     omega (arith, trace-short (c .before .before .before .before .before .before .before .before .before .before .before .before), first, c .before .before .before .before .before .before .before .before .before .before .before .before .before .before .before .before .before .before .pre .1)
 
-
--- src/lib.rt:69:43
 base-norm-requires : tie.Need-base-norm-requires
 base-norm-requires c κs = limits (c .before .before .before .before .before .before .before .before .before .before .before .before .before .before .before .before)
 
-
--- src/lib.rt:69:43
 cast-put-signed-2 : tie.Need-cast-put-signed-2
 cast-put-signed-2 c = norm-fits (c .before .before .before .before .before .before .before .before .before .before .before .before .before .before .before .before .before) _ (c .base-norm .ensures)
 
-
--- src/lib.rt:69:9
 put-signed-requires-2 : tie.Need-put-signed-requires-2
 put-signed-requires-2 c κs =
     let first = rw (trace-cast (c .before .before .before .before .before .before .before .before .before .before .before .before .before .before .before .before .before) _ (c .before .before .before .before .before .before .before .before .before .before .base-trace .ensures)) at (c .before .before .before .before .before .before .before .before .before .put-signed .ensures .0) in
     rw (norm-cast (c .before .before .before .before .before .before .before .before .before .before .before .before .before .before .before .before .before) _ (c .base-norm .ensures)) (omega (arith, trace-short (c .before .before .before .before .before .before .before .before .before .before .before .before .before .before .before .before .before), norm-short (c .before .before .before .before .before .before .before .before .before .before .before .before .before .before .before .before .before), first, c .before .before .before .before .before .before .before .before .before .before .before .before .before .before .before .before .before .before .before .before .before .before .before .pre .1))
 
-
--- src/lib.rt:70:19
 is-expanding-requires : tie.Need-is-expanding-requires
 is-expanding-requires c κs = limits (c .before .before .before .before .before .before .before .before .before .before .before .before .before .before .before .before .before .before .before .before)
 
-
--- src/lib.rt:70:5
 put-expanding-requires : tie.Need-put-expanding-requires
 put-expanding-requires c κs =
     let first = rw (trace-cast (c .before .before .before .before .before .before .before .before .before .before .before .before .before .before .before .before .before .before .before .before .before .before) _ (c .before .before .before .before .before .before .before .before .before .before .before .before .before .before .before .base-trace .ensures)) at (c .before .before .before .before .before .before .before .before .before .before .before .before .before .before .put-signed .ensures .0) in
     let second = rw (norm-cast (c .before .before .before .before .before .before .before .before .before .before .before .before .before .before .before .before .before .before .before .before .before .before) _ (c .before .before .before .before .before .base-norm .ensures)) at (c .before .before .before .before .put-signed2 .ensures .0) in
     omega (arith, trace-short (c .before .before .before .before .before .before .before .before .before .before .before .before .before .before .before .before .before .before .before .before .before .before), norm-short (c .before .before .before .before .before .before .before .before .before .before .before .before .before .before .before .before .before .before .before .before .before .before), first, second, c .before .before .before .before .before .before .before .before .before .before .before .before .before .before .before .before .before .before .before .before .before .before .before .before .before .before .before .before .pre .1)
 
-
--- src/lib.rt:55:1
 same-length : tie.Need-same-length
 same-length c = search needs
 
--- src/lib.rt:55:1
 returns : tie.Need-returns
 unfolding bytesOf normLine
 returns c =

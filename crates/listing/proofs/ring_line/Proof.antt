@@ -1,3 +1,4 @@
+-- Five pieces, one behind the other; the first record has its highest power first and is written the other way round.
 use Rattle.listing_rules.proofs.Pieces.{last, next, put-all, put-line}
 use Rattle.listing_rules.proofs.Element.{element-short}
 use Rattle.listing_rules.specs.Listing.{ringLine}
@@ -13,16 +14,11 @@ use mir.Syntax.{w64}
 use lib.ListN.{length, length-append}
 use lib.IntN.{ℤ}
 use native.Mathlib.Omega.{arith}
-use mathlib.Core.List.{List, [], _∷_, _++_, append-assoc}
-use mathlib.Core.Path.{_≡_, refl, ap, ap₂, _∙_}
+use mathlib.Core.List.{List, [], _∷_, _++_}
+use mathlib.Core.Path.{_≡_, refl, ap, ap₂}
 use borrow.Author.Needs.{needs}
 use Rattle.listing.proofs.ring_line.Statement.{statement}
 use Rattle.listing.proofs.ring_line.Tie as tie
-use Rattle.listing.proofs.ring_line.Reads as reads
-use Rattle.listing.proofs.ring_line.Lts as lts
-use Rattle.digits.proofs.record_at.Reads as record-at-reads
-use Rattle.element_text.proofs.put_element.Reads as put-element-reads
-use Rattle.octets.proofs.put.Reads as put-reads
 
 -- the first record's parts, exchanged, as the code hands them on
 module _ (x : List ℤ) (h : Within 32768 x) where
@@ -32,70 +28,56 @@ module _ (x : List ℤ) (h : Within 32768 x) where
   exchanged-within : Within 32768 (part x 1 ∷ part x 0 ∷ [])
   exchanged-within = within-two 32768 (part x 1) (part x 0) (within-part 32768 x h 1) (within-part 32768 x h 0)
 
--- src/lib.rt:27:17
 record-at-requires : tie.Need-record-at-requires
 record-at-requires c κs = search needs
 
--- src/lib.rt:28:36
 slice-aggregate-put : tie.Need-slice-aggregate-put
 slice-aggregate-put c = search needs
 
--- src/lib.rt:28:9
 put-requires : tie.Need-put-requires
 put-requires c κs = search needs
 
--- src/lib.rt:29:55
 array-copy-out-t20 : tie.Need-array-copy-out-t20
 array-copy-out-t20 c = search needs
 
--- src/lib.rt:29:65
 array-copy-out-t23 : tie.Need-array-copy-out-t23
 array-copy-out-t23 c = search needs
 
--- src/lib.rt:29:9
 put-element-requires : tie.Need-put-element-requires
 unfolding bytesOf
 put-element-requires c κs =
     let small = exchanged-within _ (c .before .before .before .before .before .before .before .before .record-at .ensures .1) in
     rw (exchanged _ (c .before .before .before .before .before .before .before .before .record-at .ensures .1)) (omega (arith, element-short _ small), small)
 
--- src/lib.rt:30:42
 slice-aggregate-put-2 : tie.Need-slice-aggregate-put-2
 slice-aggregate-put-2 c = search needs
 
--- src/lib.rt:30:9
 put-requires-2 : tie.Need-put-requires-2
 put-requires-2 c κs =
     let small = element-short _ (exchanged-within _ (c .before .before .before .before .before .before .before .before .before .before .before .before .before .record-at .ensures .1)) in
     omega (arith, small, (rw (exchanged _ (c .before .before .before .before .before .before .before .before .before .before .before .before .before .record-at .ensures .1)) at (c .before .before .before .before .put-element .ensures .0)))
 
--- src/lib.rt:31:54
 record-at-requires-2 : tie.Need-record-at-requires-2
 record-at-requires-2 c κs = search needs
 
--- src/lib.rt:31:9
 put-element-requires-2 : tie.Need-put-element-requires-2
 put-element-requires-2 c κs =
     let small = element-short _ (exchanged-within _ (c .before .before .before .before .before .before .before .before .before .before .before .before .before .before .before .before .before .before .record-at .ensures .1)) in
     let end = rw (exchanged _ (c .before .before .before .before .before .before .before .before .before .before .before .before .before .before .before .before .before .before .record-at .ensures .1)) at (c .before .before .before .before .before .before .before .before .before .put-element .ensures .0) in
     (omega (arith, small, end, element-short _ (c .record-at2 .ensures .1)), c .record-at2 .ensures .1)
 
--- src/lib.rt:32:27
 slice-aggregate-put-3 : tie.Need-slice-aggregate-put-3
 slice-aggregate-put-3 c = search needs
 
--- src/lib.rt:32:5
 put-requires-3 : tie.Need-put-requires-3
 put-requires-3 c κs =
     let small = element-short _ (exchanged-within _ (c .before .before .before .before .before .before .before .before .before .before .before .before .before .before .before .before .before .before .before .before .before .before .before .record-at .ensures .1)) in
     let end = rw (exchanged _ (c .before .before .before .before .before .before .before .before .before .before .before .before .before .before .before .before .before .before .before .before .before .before .before .record-at .ensures .1)) at (c .before .before .before .before .before .before .before .before .before .before .before .before .before .before .put-element .ensures .0) in
     omega (arith, small, end, element-short _ (c .before .before .before .before .before .record-at2 .ensures .1))
 
--- src/lib.rt:21:1
 same-length : tie.Need-same-length
 same-length c = search needs
 
--- src/lib.rt:21:1
 returns : tie.Need-returns
 unfolding bytesOf ringLine
 returns c =

@@ -1,30 +1,23 @@
+-- A word longer than eight is left out.
 use Rattle.listing_rules.specs.Listing.{wordShown}
-use native.Mathlib.Omega.{arith}
 use borrow.Author.Tests.{lt-ltb, le-ltb}
 use borrow.Author.Needs.{needs}
 use Rattle.listing.proofs.shown.Statement.{statement}
 use Rattle.listing.proofs.shown.Tie as tie
-use Rattle.listing.proofs.shown.Reads as reads
-use Rattle.listing.proofs.shown.Lts as lts
 
--- src/lib.rt:100:16
 sub-result : tie.Need-sub-result
 sub-result c = search needs
 
--- src/lib.rt:100:16
 part-result-start : tie.Need-part-result-start
 part-result-start c = search needs
 
--- src/lib.rt:100:16
 part-result-end : tie.Need-part-result-end
 part-result-end c = search needs
 
--- src/lib.rt:100:9
 returns : tie.Need-returns
 unfolding wordShown
 returns c = rw (lt-ltb _ _ (c .before .if1 .taken), wordShown)
 
--- src/lib.rt:96:1
 returns-2 : tie.Need-returns-2
 unfolding wordShown
 returns-2 c = rw (le-ltb _ _ (c .if1 .left), wordShown)

@@ -1,3 +1,4 @@
+-- After some records the longest is the largest of their texts' lengths.
 use native.Mathlib.Nat.{le-div-iff-mul-le, add-mul, div-le-self}
 use borrow.Author.Needs.{needs}
 use Rattle.listing_rules.specs.Listing.{widest}
@@ -12,10 +13,6 @@ use mathlib.Core.Logic.{⊎-elim}
 use mathlib.Core.Path.{_≡_, refl, ap, _∙_}
 use Rattle.listing.proofs.width.Statement.{statement}
 use Rattle.listing.proofs.width.Tie as tie
-use Rattle.listing.proofs.width.Reads as reads
-use Rattle.listing.proofs.width.Lts as lts
-use Rattle.digits.proofs.element.Reads as element-reads
-use Rattle.listing.proofs.text_length.Reads as text-length-reads
 
 -- the element of a record of the part, which ends before the part does
 inside : (n size skip k : ℕ) → 0 < size → skip + 4 ≤ size → k < n / size → k * size + skip + 4 ≤ n
@@ -29,47 +26,37 @@ Inv-loop part size skip count longest₀ k₀ longest k =
 abbrev μ-loop : tie.MeasureT-loop
 μ-loop part size skip count longest₀ k₀ longest k = count - k
 
--- src/lib.rt:121:17
 div-count : tie.Need-div-count Inv-loop μ-loop
 div-count c = search needs
 
--- src/lib.rt:124:5
 loop-holds : tie.Need-loop-holds Inv-loop μ-loop
 unfolding largest
 loop-holds c = (omega arith, refl, omega arith)
 
--- src/lib.rt:125:56
 mul-element : tie.Need-mul-element Inv-loop μ-loop
 mul-element c = omega (arith, inside (length (c .before .before .before .args .part .now)) (c .before .before .before .args .size) (c .before .before .before .args .skip) (c .before .loop .k) (c .before .before .before .pre .0) (c .before .before .before .pre .1) (c .loop-test .taken))
 
--- src/lib.rt:125:56
 add-element : tie.Need-add-element Inv-loop μ-loop
 add-element c = omega (arith, inside (length (c .before .before .before .args .part .now)) (c .before .before .before .args .size) (c .before .before .before .args .skip) (c .before .loop .k) (c .before .before .before .pre .0) (c .before .before .before .pre .1) (c .loop-test .taken))
 
--- src/lib.rt:125:34
 element-requires : tie.Need-element-requires Inv-loop μ-loop
 element-requires c κs = inside (length (c .before .before .before .args .part .now)) (c .before .before .before .args .size) (c .before .before .before .args .skip) (c .before .loop .k) (c .before .before .before .pre .0) (c .before .before .before .pre .1) (c .loop-test .taken)
 
--- src/lib.rt:125:13
 text-length-requires : tie.Need-text-length-requires Inv-loop μ-loop
 text-length-requires c κs = c .element .ensures .1
 
--- src/lib.rt:129:9
 add-k : tie.Need-add-k Inv-loop μ-loop
 add-k c = omega (arith, div-le-self (length (c .before .before .before .before .before .before .args .part .now)) (c .before .before .before .before .before .before .args .size))
 
--- src/lib.rt:124:5
 loop-less : tie.Need-loop-less Inv-loop μ-loop
 loop-less c = omega arith
 
--- src/lib.rt:124:5
 loop-again : tie.Need-loop-again Inv-loop μ-loop
 loop-again c =
     let next = largest-next (λ i. length (elementText (elementAt (c .before .before .before .before .before .before .args .part .now) (i * c .before .before .before .before .before .before .args .size + c .before .before .before .before .before .before .args .skip)))) (c .before .before .before .before .loop .k) in
     let here = c .before .text-length .ensures .0 ∙ ap (λ x. length (elementText x)) (c .before .before .element .ensures .0) in
     (omega arith, ⊎-elim (λ w. omega (arith, next, here)) (λ w. omega (arith, next, here)) (c .if1 .came), ⊎-elim (λ w. omega (arith, c .before .text-length .ensures .1)) (λ w. omega arith) (c .if1 .came))
 
--- src/lib.rt:116:1
 returns : tie.Need-returns Inv-loop μ-loop
 unfolding widest
 returns c =

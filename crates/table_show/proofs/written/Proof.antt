@@ -1,25 +1,19 @@
+-- The part ends inside the buffer.
 use lib.Seq.{length-take-le}
 use mathlib.Core.Path.{sym}
 use borrow.Author.Needs.{needs}
 use Rattle.table_show.proofs.written.Statement.{statement}
 use Rattle.table_show.proofs.written.Tie as tie
-use Rattle.table_show.proofs.written.Reads as reads
-use Rattle.table_show.proofs.written.Lts as lts
-use Rattle.table_show.proofs.write.Reads as write-reads
 
--- src/main.rt:23:15
 slice-aggregate-write : tie.Need-slice-aggregate-write
 slice-aggregate-write c = sym (length-take-le (c .before .before .before .args .end) _ (c .before .if1 .taken))
 
--- src/main.rt:23:9
 write-requires : tie.Need-write-requires
 write-requires c κs = search needs
 
--- src/main.rt:21:1
 returns : tie.Need-returns
 returns c = search needs
 
--- src/main.rt:21:1
 returns-2 : tie.Need-returns-2
 returns-2 c = search needs
 
