@@ -121,7 +121,8 @@ pub fn leaf_line(
     requires room { ⌜ 256 ≤ length (now out) ⌝ }
     requires parts { ⌜ Within 32768 weight ⌝ }
     requires few { ⌜ (columns .count ≤ 8) × (columns .digits ≤ 13) × (columns .weights ≤ 13) ⌝ }
-    ensures count { λ r. ⌜ r ≡ length (leafLine (columns .count) (columns .digits) (columns .weights) (now (inputs .entry)) (now (word .entry)) leaf weight) ⌝ }
+    ensures count { λ r. ⌜ r ≡ length
+        (leafLine (columns .count) (columns .digits) (columns .weights) (now (inputs .entry)) (now (word .entry)) leaf weight) ⌝ }
     ensures buffer { λ r. ⌜ now (out .exit) ≡ overwrite (now (out .entry)) 0
         (leafLine (columns .count) (columns .digits) (columns .weights) (now (inputs .entry)) (now (word .entry)) leaf weight) ⌝ }
     ensures within { λ r. ⌜ r ≤ 256 ⌝ }

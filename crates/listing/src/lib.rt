@@ -5,10 +5,9 @@ ghost use lib.ListN.{length};
 ghost use Rattle.lists.specs.Overwrite.{overwrite};
 ghost use Rattle.ring.specs.Tests.{Within};
 ghost use Rattle.digit_rules.specs.Record.{recordAt, elementCount};
-ghost use Rattle.digit_rules.specs.Base.{sOf, tOf, uOf, vOf};
 ghost use Rattle.digit_rules.specs.Digits.{BasePart};
 ghost use Rattle.listing_rules.specs.Element.{elementText};
-ghost use Rattle.listing_rules.specs.Listing.{ringLine, limitedBase, expandingWord, normLine, itemText};
+ghost use Rattle.listing_rules.specs.Listing.{ringLine, limitedBase, expandingWord, normLineOf, itemText};
 ghost use Rattle.listing_rules.specs.Listing.{columnsFor, wordShown, widest};
 
 // The base section.
@@ -54,9 +53,8 @@ fn put_expanding(expanding: bool, at: usize, out: &mut [u8]) -> usize
 // Writes the line of T and N; the count of its bytes.
 pub fn norm_line(base: &[u8], out: &mut [u8]) -> usize
     requires { ⌜ BasePart (now base) × (64 ≤ length (now out)) ⌝ }
-    ensures count { λ r. ⌜ r ≡ length (normLine (sOf (now (base .entry))) (tOf (now (base .entry))) (uOf (now (base .entry))) (vOf (now (base .entry)))) ⌝ }
-    ensures buffer { λ r. ⌜ now (out .exit) ≡ overwrite (now (out .entry)) 0
-        (normLine (sOf (now (base .entry))) (tOf (now (base .entry))) (uOf (now (base .entry))) (vOf (now (base .entry)))) ⌝ }
+    ensures count { λ r. ⌜ r ≡ length (normLineOf (now (base .entry))) ⌝ }
+    ensures buffer { λ r. ⌜ now (out .exit) ≡ overwrite (now (out .entry)) 0 (normLineOf (now (base .entry))) ⌝ }
     ensures within { λ r. ⌜ r ≤ 64 ⌝ }
 {
     let s = layout::signed(base, 0);

@@ -8,7 +8,7 @@ use lib.ListN.{length, getD}
 use Rattle.layout_rules.specs.Limit.{limitCheckIn}
 use Rattle.ring.specs.Base.{baseTrace, baseNorm}
 use Rattle.ring.specs.Tests.{expanding}
-use Rattle.digit_rules.specs.Base.{sOf, tOf}
+use Rattle.digit_rules.specs.Base.{sOf, tOf, uOf, vOf}
 use Rattle.digit_rules.specs.Record.{elementAt, recordAt, elementCount}
 use Rattle.numeration.specs.LeafOf.{largest}
 use Rattle.text_rules.specs.Bytes.{bytesOf}
@@ -32,6 +32,9 @@ expandingWord false = bytesOf ", not expanding\n"
 unfoldable pub normLine : ℤ → ℤ → ℤ → ℤ → List ℕ
 normLine s t u v =
     bytesOf "T = " ++ (decimalZ (baseTrace s u v) ++ (bytesOf ", N = " ++ (decimalZ (baseNorm s t u v) ++ expandingWord (expanding s t u v))))
+
+abbrev pub normLineOf : List ℕ → List ℕ
+normLineOf base = normLine (sOf base) (tOf base) (uOf base) (vOf base)
 
 -- a digit of a list, behind a space
 unfoldable pub itemText : List ℤ → List ℕ
@@ -57,7 +60,8 @@ wordText width inputs word (suc i) = wordText width inputs word i ++ columnText 
 -- the number of a leaf, its word and its weight
 unfoldable pub leafLine : ℕ → ℕ → ℕ → List ℕ → List ℕ → ℕ → List ℤ → List ℕ
 leafLine columns width weights inputs word leaf weight =
-    right 4 (decimal leaf) ++ (bytesOf ":" ++ (wordText width inputs word columns ++ (bytesOf " | " ++ (right weights (elementText weight) ++ bytesOf "\n"))))
+    right 4 (decimal leaf)
+    ++ (bytesOf ":" ++ (wordText width inputs word columns ++ (bytesOf " | " ++ (right weights (elementText weight) ++ bytesOf "\n"))))
 
 -- how many columns words of this depth get, and a word as it is shown: one that is longer than a word may be can't be read
 unfoldable pub columnsFor : ℕ → ℕ

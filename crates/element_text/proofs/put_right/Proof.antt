@@ -1,5 +1,5 @@
 -- After some spaces the buffer has as many written as are filled beyond the text.
-use Rattle.listing_rules.proofs.Pieces.{put-more, space-more}
+use Rattle.listing_rules.proofs.Pieces.{Put, put-more, space-more}
 use Rattle.listing_rules.proofs.Element.{right-length}
 use Rattle.listing_rules.specs.Element.{right}
 use Rattle.lists.proofs.Overwrite.{overwrite-none}
@@ -25,8 +25,9 @@ abbrev μ-loop : tie.MeasureT-loop
 
 loop-holds : tie.Need-loop-holds Inv-loop μ-loop
 loop-holds c =
-    let none : length (c .before .before .args .text .now) - length (c .before .before .args .text .now) ≡ 0 = omega arith in
-    (omega arith, omega arith, omega arith, sym (overwrite-none (c .before .before .args .out .now) (c .before .before .args .at)) ∙ ap (λ (k : ℕ). overwrite (c .before .before .args .out .now) (c .before .before .args .at) (replicate k 32)) (sym none), refl)
+    let a = c .before .before .args in
+    let none : length (a .text .now) - length (a .text .now) ≡ 0 = omega arith in
+    (omega arith, omega arith, omega arith, sym (overwrite-none (a .out .now) (a .at)) ∙ ap (λ (k : ℕ). overwrite (a .out .now) (a .at) (replicate k 32)) (sym none), refl)
 
 slice-write-out : tie.Need-slice-write-out Inv-loop μ-loop
 slice-write-out c = omega (arith, right-length (c .before .before .before .before .args .width) (c .before .before .before .before .args .text .now))
@@ -42,14 +43,13 @@ loop-less c = omega arith
 
 loop-again : tie.Need-loop-again Inv-loop μ-loop
 loop-again c =
-    let k : ℕ = c .before .loop .filled - length (c .before .before .before .before .args .text .now) in
-    let next : c .before .loop .filled + 1 - length (c .before .before .before .before .args .text .now) ≡ k + 1 = omega arith in (
-      omega arith,
-      omega arith,
-      omega arith,
-      ap₂ (λ x (i : ℕ). set x i 32) (c .before .loop .inv .3) (c .before .loop .inv .2) ∙ space-more (c .before .before .before .before .args .out .now) (c .before .before .before .before .args .at) k (omega (arith, right-length (c .before .before .before .before .args .width) (c .before .before .before .before .args .text .now))) ∙ ap (λ (i : ℕ). overwrite (c .before .before .before .before .args .out .now) (c .before .before .before .before .args .at) (replicate i 32)) (sym next),
-      simp length-set (c .before .loop .inv .4),
-    )
+    let a = c .before .before .before .before .args in
+    let loop = c .before .loop in
+    let k : ℕ = loop .filled - length (a .text .now) in
+    let next : loop .filled + 1 - length (a .text .now) ≡ k + 1 = omega arith in
+    let room = right-length (a .width) (a .text .now) in
+    let one = ap₂ (λ x (i : ℕ). set x i 32) (loop .inv .3) (loop .inv .2) ∙ space-more (a .out .now) (a .at) k (omega (arith, room)) in
+    (omega arith, omega arith, omega arith, one ∙ ap (λ (i : ℕ). overwrite (a .out .now) (a .at) (replicate i 32)) (sym next), simp length-set (loop .inv .4))
 
 put-requires : tie.Need-put-requires Inv-loop μ-loop
 put-requires c κs = omega (arith, right-length (c .before .before .before .before .before .args .width) (c .before .before .before .before .before .args .text .now))
@@ -60,9 +60,13 @@ same-length c = search needs
 returns : tie.Need-returns Inv-loop μ-loop
 unfolding right
 returns c =
-    let spaces : c .before .before .before .before .before .loop .filled - length (c .before .before .before .before .before .before .before .before .args .text .now) ≡ c .before .before .before .before .before .before .before .before .args .width - length (c .before .before .before .before .before .before .before .before .args .text .now) = omega arith in
-    let before : (c .before .before .before .before .before .loop .end ≡ c .before .before .before .before .before .before .before .before .args .at + length (replicate {A = ℕ} (c .before .before .before .before .before .before .before .before .args .width - length (c .before .before .before .before .before .before .before .before .args .text .now)) 32)) × (c .before .before .before .before .before .loop .out ≡ overwrite (c .before .before .before .before .before .before .before .before .args .out .now) (c .before .before .before .before .before .before .before .before .args .at) (replicate (c .before .before .before .before .before .before .before .before .args .width - length (c .before .before .before .before .before .before .before .before .args .text .now)) 32)) = (omega (arith, length-replicate {A = ℕ} (c .before .before .before .before .before .before .before .before .args .width - length (c .before .before .before .before .before .before .before .before .args .text .now)) 32), c .before .before .before .before .before .loop .inv .3 ∙ ap (λ (i : ℕ). overwrite (c .before .before .before .before .before .before .before .before .args .out .now) (c .before .before .before .before .before .before .before .before .args .at) (replicate i 32)) spaces) in
-    put-more (c .before .before .before .before .before .before .before .before .args .out .now) _ _ (replicate (c .before .before .before .before .before .before .before .before .args .width - length (c .before .before .before .before .before .before .before .before .args .text .now)) 32) (c .before .before .before .before .before .before .before .before .args .text .now) (c .before .before .before .before .before .before .before .before .args .at) _ _ before (c .before .before .put .ensures) (omega (arith, length-replicate {A = ℕ} (c .before .before .before .before .before .before .before .before .args .width - length (c .before .before .before .before .before .before .before .before .args .text .now)) 32, right-length (c .before .before .before .before .before .before .before .before .args .width) (c .before .before .before .before .before .before .before .before .args .text .now)))
+    let a = c .before .before .before .before .before .before .before .before .args in
+    let loop = c .before .before .before .before .before .loop in
+    let n : ℕ = a .width - length (a .text .now) in
+    let all : loop .filled - length (a .text .now) ≡ n = omega arith in
+    let long : length (replicate {A = ℕ} n 32) ≡ n = length-replicate n 32 in
+    let spaces : Put (a .out .now) (loop .out) (a .at) (loop .end) (replicate n 32) = (omega (arith, long), loop .inv .3 ∙ ap (λ (i : ℕ). overwrite (a .out .now) (a .at) (replicate i 32)) all) in
+    put-more (a .out .now) _ _ (replicate n 32) (a .text .now) (a .at) _ _ spaces (c .before .before .put .ensures) (omega (arith, long, right-length (a .width) (a .text .now)))
 
 pub put-right-spec : {M : Type 1} → statement M
 put-right-spec =

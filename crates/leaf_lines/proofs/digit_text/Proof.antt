@@ -21,7 +21,9 @@ same-length : tie.Need-same-length
 same-length c = search needs
 
 returns : tie.Need-returns
-returns c = rw (digit-there (c .before .before .before .before .before .before .before .before .before .before .args .inputs .now) (c .before .before .before .before .before .before .before .before .before .before .args .word .now) (c .before .before .before .before .before .before .before .before .before .before .args .i) (c .before .before .before .before .before .before .if1 .taken)) (rw (c .before .before .before .before .wide .ensures .0) at (c .before .before .input-text .ensures))
+returns c =
+    let a = c .before .before .before .before .before .before .before .before .before .before .args in
+    rw (digit-there (a .inputs .now) (a .word .now) (a .i) (c .before .before .before .before .before .before .if1 .taken)) (rw (c .before .before .before .before .wide .ensures .0) at (c .before .before .input-text .ensures))
 
 slice-aggregate-put : tie.Need-slice-aggregate-put
 slice-aggregate-put c = search needs
@@ -34,7 +36,10 @@ same-length-2 c = search needs
 
 returns-2 : tie.Need-returns-2
 unfolding bytesOf
-returns-2 c = rw (digit-unread (c .before .before .before .before .before .before .before .before .before .before .args .inputs .now) (c .before .before .before .before .before .before .before .before .before .before .args .word .now) (c .before .before .before .before .before .before .before .before .before .before .args .i) (c .before .before .before .before .before .before .if1 .left) (c .before .before .before .before .before .if2 .taken)) (omega (arith, c .before .before .put .ensures .0), c .before .before .put .ensures .1)
+returns-2 c =
+    let a = c .before .before .before .before .before .before .before .before .before .before .args in
+    let put = c .before .before .put .ensures in
+    rw (digit-unread (a .inputs .now) (a .word .now) (a .i) (c .before .before .before .before .before .before .if1 .left) (c .before .before .before .before .before .if2 .taken)) (omega (arith, put .0), put .1)
 
 returns-3 : tie.Need-returns-3
 returns-3 c = rw (digit-past (c .before .before .before .before .before .args .inputs .now) (c .before .before .before .before .before .args .word .now) (c .before .before .before .before .before .args .i) (c .before .if1 .left) (c .if2 .left)) (refl, sym (overwrite-none (c .before .before .before .before .before .args .out .now) 0))

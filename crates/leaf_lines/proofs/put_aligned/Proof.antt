@@ -23,13 +23,17 @@ slice-aggregate-put-right : tie.Need-slice-aggregate-put-right
 slice-aggregate-put-right c = sym (length-take-le (c .before .before .before .put-element .result) _ (omega (arith, element-short _ (c .before .before .before .before .before .before .pre .1), c .before .before .before .put-element .ensures .0)))
 
 put-right-requires : tie.Need-put-right-requires
-put-right-requires c κs = rw (put-taken _ _ (elementText (c .before .before .before .before .before .before .args .x)) (c .before .before .before .put-element .result) (omega (arith, c .before .before .before .put-element .ensures .0)) (c .before .before .before .put-element .ensures .1)) (c .before .before .before .before .before .before .pre .0)
+put-right-requires c κs =
+    let made = c .before .before .before .put-element in
+    rw (put-taken _ _ (elementText (c .before .before .before .before .before .before .args .x)) (made .result) (omega (arith, made .ensures .0)) (made .ensures .1)) (c .before .before .before .before .before .before .pre .0)
 
 same-length : tie.Need-same-length
 same-length c = search needs
 
 returns : tie.Need-returns
-returns c = rw (put-taken _ _ (elementText (c .before .before .before .before .before .before .before .before .before .args .x)) (c .before .before .before .before .before .before .put-element .result) (omega (arith, c .before .before .before .before .before .before .put-element .ensures .0)) (c .before .before .before .before .before .before .put-element .ensures .1)) at (c .before .before .put-right .ensures)
+returns c =
+    let made = c .before .before .before .before .before .before .put-element in
+    rw (put-taken _ _ (elementText (c .before .before .before .before .before .before .before .before .before .args .x)) (made .result) (omega (arith, made .ensures .0)) (made .ensures .1)) at (c .before .before .put-right .ensures)
 
 pub put-aligned-spec : {M : Type 1} → statement M
 put-aligned-spec =

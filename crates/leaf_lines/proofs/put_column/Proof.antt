@@ -1,4 +1,7 @@
 -- The text is made apart, since its length says where it starts; a space before it.
+use lib.ListN.{length}
+use Prim.Native.Nat.{ℕ, _≤_}
+use mathlib.Core.List.{List}
 use Rattle.listing_rules.proofs.Pieces.{last, next, put-all, put-taken}
 use Rattle.listing_rules.proofs.Lines.{digit-short}
 use Rattle.listing_rules.specs.Listing.{digitText, columnText}
@@ -10,6 +13,17 @@ use mathlib.Core.Path.{sym}
 use borrow.Author.Needs.{needs}
 use Rattle.leaf_lines.proofs.put_column.Statement.{statement}
 use Rattle.leaf_lines.proofs.put_column.Tie as tie
+
+-- the digit's text, and that it fits its buffer
+module _ (e : tie.After-shared-slice-known) where
+  abbrev st : tie.Start
+  st = e .before
+
+  abbrev text : List ℕ
+  text = digitText (st .args .inputs .now) (st .args .word .now) (st .args .i)
+
+  text-room : length text ≤ 13
+  text-room = digit-short (st .args .inputs .now) (λ k. omega (arith, e .shared-slice-known .given k)) (st .args .word .now) (st .args .i)
 
 slice-aggregate-digit-text : tie.Need-slice-aggregate-digit-text
 slice-aggregate-digit-text c = search needs
@@ -25,15 +39,18 @@ unfolding columnText bytesOf
 put-requires c κs = omega (arith, c .before .before .before .before .before .before .before .before .pre)
 
 array-share-prefix-digit : tie.Need-array-share-prefix-digit
-array-share-prefix-digit c = omega (arith, digit-short (c .before .before .before .before .before .before .before .before .before .before .before .before .args .inputs .now) (λ k. omega (arith, c .before .before .before .before .before .before .before .before .before .before .before .shared-slice-known .given k)) (c .before .before .before .before .before .before .before .before .before .before .before .before .args .word .now) (c .before .before .before .before .before .before .before .before .before .before .before .before .args .i), c .before .before .before .before .before .before .before .digit-text .ensures .0)
+array-share-prefix-digit c = omega (arith, text-room (c .before .before .before .before .before .before .before .before .before .before .before), c .before .before .before .before .before .before .before .digit-text .ensures .0)
 
 slice-aggregate-put-right : tie.Need-slice-aggregate-put-right
 slice-aggregate-put-right c =
-    sym (length-take-le (c .before .before .before .before .before .before .before .before .digit-text .result) _ (omega (arith, digit-short (c .before .before .before .before .before .before .before .before .before .before .before .before .before .args .inputs .now) (λ k. omega (arith, c .before .before .before .before .before .before .before .before .before .before .before .before .shared-slice-known .given k)) (c .before .before .before .before .before .before .before .before .before .before .before .before .before .args .word .now) (c .before .before .before .before .before .before .before .before .before .before .before .before .before .args .i), c .before .before .before .before .before .before .before .before .digit-text .ensures .0)))
+    sym (length-take-le (c .before .before .before .before .before .before .before .before .digit-text .result) _ (omega (arith, text-room (c .before .before .before .before .before .before .before .before .before .before .before .before), c .before .before .before .before .before .before .before .before .digit-text .ensures .0)))
 
 put-right-requires : tie.Need-put-right-requires
 unfolding columnText bytesOf
-put-right-requires c κs = rw (put-taken _ _ (digitText (c .before .before .before .before .before .before .before .before .before .before .before .before .before .args .inputs .now) (c .before .before .before .before .before .before .before .before .before .before .before .before .before .args .word .now) (c .before .before .before .before .before .before .before .before .before .before .before .before .before .args .i)) _ (c .before .before .before .before .before .before .before .before .digit-text .ensures .0) (c .before .before .before .before .before .before .before .before .digit-text .ensures .1)) (omega (arith, c .before .before .before .before .before .before .before .before .before .before .before .before .before .pre, c .before .before .before .before .put .ensures .0))
+put-right-requires c κs =
+    let e = c .before .before .before .before .before .before .before .before .before .before .before .before in
+    let made = c .before .before .before .before .before .before .before .before .digit-text .ensures in
+    rw (put-taken _ _ (text e) _ (made .0) (made .1)) (omega (arith, st e .pre, c .before .before .before .before .put .ensures .0))
 
 same-length : tie.Need-same-length
 same-length c = search needs
@@ -41,9 +58,11 @@ same-length c = search needs
 returns : tie.Need-returns
 unfolding columnText bytesOf
 returns c =
-    let text = digitText (c .before .before .before .before .before .before .before .before .before .before .before .before .before .before .before .before .args .inputs .now) (c .before .before .before .before .before .before .before .before .before .before .before .before .before .before .before .before .args .word .now) (c .before .before .before .before .before .before .before .before .before .before .before .before .before .before .before .before .args .i) in
-    let placed = rw (put-taken _ _ text _ (c .before .before .before .before .before .before .before .before .before .before .before .digit-text .ensures .0) (c .before .before .before .before .before .before .before .before .before .before .before .digit-text .ensures .1)) at (c .before .before .put-right .ensures) in
-    put-all (next (c .before .before .before .before .before .before .before .before .before .before .before .before .before .before .before .before .args .out .now) _ _ (bytesOf " ") (right (c .before .before .before .before .before .before .before .before .before .before .before .before .before .before .before .before .args .width) text) (c .before .before .before .before .before .before .before .before .before .before .before .before .before .before .before .before .args .at) _ _ (c .before .before .before .before .before .before .before .put .ensures) (last _ _ _ _ _ placed)) (c .before .before .before .before .before .before .before .before .before .before .before .before .before .before .before .before .pre)
+    let e = c .before .before .before .before .before .before .before .before .before .before .before .before .before .before .before in
+    let a = st e .args in
+    let made = c .before .before .before .before .before .before .before .before .before .before .before .digit-text .ensures in
+    let placed = rw (put-taken _ _ (text e) _ (made .0) (made .1)) at (c .before .before .put-right .ensures) in
+    put-all (next (a .out .now) _ _ (bytesOf " ") (right (a .width) (text e)) (a .at) _ _ (c .before .before .before .before .before .before .before .put .ensures) (last _ _ _ _ _ placed)) (st e .pre)
 
 pub put-column-spec : {M : Type 1} → statement M
 put-column-spec =

@@ -1,4 +1,6 @@
 -- After some columns the buffer has their texts written.
+use Rattle.listing_rules.specs.Listing.{columnText, wordText}
+use Prim.Native.Nat.{_+_, _-_, _≤_}
 use Rattle.listing_rules.proofs.Pieces.{Put, put-none, put-more}
 use Rattle.listing_rules.proofs.Lines.{word-next, word-before}
 use Rattle.listing_rules.specs.Listing.{wordText}
@@ -16,13 +18,20 @@ Inv-loop inputs word columns width out₀ at end₀ i₀ out end i = (i ≤ colu
 abbrev μ-loop : tie.MeasureT-loop
 μ-loop inputs word columns width out₀ at end₀ i₀ out end i = columns - i
 
+-- there is room for the next column, and one column more is written
+module _ (c : tie.In-loop Inv-loop μ-loop) where
+  abbrev st : tie.Start Inv-loop μ-loop
+  st = c .before .before .before .before .before
+
+  before : length (wordText (st .args .width) (st .args .inputs .now) (st .args .word .now) (c .before .loop .i)) + length (columnText (st .args .width) (st .args .inputs .now) (st .args .word .now) (c .before .loop .i)) ≤ length (wordText (st .args .width) (st .args .inputs .now) (st .args .word .now) (st .args .columns))
+  before = word-before (st .args .width) (st .args .inputs .now) (st .args .word .now) (c .before .loop .i) (st .args .columns) (c .loop-test .taken)
+
 loop-holds : tie.Need-loop-holds Inv-loop μ-loop
 unfolding wordText
 loop-holds c = (omega arith, put-none (c .before .before .before .args .out .now) (c .before .before .before .args .at), refl)
 
 put-column-requires : tie.Need-put-column-requires Inv-loop μ-loop
-put-column-requires c κs =
-    omega (arith, c .before .before .before .before .before .before .pre, c .before .before .loop .inv .1 .0, c .before .before .loop .inv .2, word-before (c .before .before .before .before .before .before .args .width) (c .before .before .before .before .before .before .args .inputs .now) (c .before .before .before .before .before .before .args .word .now) (c .before .before .loop .i) (c .before .before .before .before .before .before .args .columns) (c .before .loop-test .taken))
+put-column-requires c κs = let d = c .before in omega (arith, c .before .before .before .before .before .before .pre, c .before .before .loop .inv .1 .0, c .before .before .loop .inv .2, before d)
 
 add-i : tie.Need-add-i Inv-loop μ-loop
 add-i c = omega arith
@@ -32,9 +41,12 @@ loop-less c = omega arith
 
 loop-again : tie.Need-loop-again Inv-loop μ-loop
 loop-again c =
-    let before = word-before (c .before .before .before .before .before .before .before .before .before .args .width) (c .before .before .before .before .before .before .before .before .before .args .inputs .now) (c .before .before .before .before .before .before .before .before .before .args .word .now) (c .before .before .before .before .before .loop .i) (c .before .before .before .before .before .before .before .before .before .args .columns) (c .before .before .before .before .loop-test .taken) in
-    let next = put-more (c .before .before .before .before .before .before .before .before .before .args .out .now) _ _ (wordText (c .before .before .before .before .before .before .before .before .before .args .width) (c .before .before .before .before .before .before .before .before .before .args .inputs .now) (c .before .before .before .before .before .before .before .before .before .args .word .now) (c .before .before .before .before .before .loop .i)) _ (c .before .before .before .before .before .before .before .before .before .args .at) _ _ (c .before .before .before .before .before .loop .inv .1) (c .before .before .put-column .ensures) (omega (arith, before, c .before .before .before .before .before .before .before .before .before .pre)) in
-    (omega arith, rw (word-next (c .before .before .before .before .before .before .before .before .before .args .width) (c .before .before .before .before .before .before .before .before .before .args .inputs .now) (c .before .before .before .before .before .before .before .before .before .args .word .now) (c .before .before .before .before .before .loop .i)) next, search needs)
+    let a = c .before .before .before .before .before .before .before .before .before .args in
+    let loop = c .before .before .before .before .before .loop in
+    let room = before (c .before .before .before .before) in
+    let text = wordText (a .width) (a .inputs .now) (a .word .now) (loop .i) in
+    let next = put-more (a .out .now) _ _ text _ (a .at) _ _ (loop .inv .1) (c .before .before .put-column .ensures) (omega (arith, room, c .before .before .before .before .before .before .before .before .before .pre)) in
+    (omega arith, rw (word-next (a .width) (a .inputs .now) (a .word .now) (loop .i)) next, search needs)
 
 same-length : tie.Need-same-length Inv-loop μ-loop
 same-length c = c .before .loop .inv .2

@@ -161,17 +161,25 @@ cast-put-signed-2 c = norm-fits (c .before .before .before .before .before .befo
 
 put-signed-requires-2 : tie.Need-put-signed-requires-2
 put-signed-requires-2 c κs =
+    let room = c .before .before .before .before .before .before .before .before .before .before .before .before .before .before .before .before .before .before .before .before .before .before .before .pre .1 in
+    let tall = trace-short (c .before .before .before .before .before .before .before .before .before .before .before .before .before .before .before .before .before) in
+    let long = norm-short (c .before .before .before .before .before .before .before .before .before .before .before .before .before .before .before .before .before) in
     let first = rw (trace-cast (c .before .before .before .before .before .before .before .before .before .before .before .before .before .before .before .before .before) _ (c .before .before .before .before .before .before .before .before .before .before .base-trace .ensures)) at (c .before .before .before .before .before .before .before .before .before .put-signed .ensures .0) in
-    rw (norm-cast (c .before .before .before .before .before .before .before .before .before .before .before .before .before .before .before .before .before) _ (c .base-norm .ensures)) (omega (arith, trace-short (c .before .before .before .before .before .before .before .before .before .before .before .before .before .before .before .before .before), norm-short (c .before .before .before .before .before .before .before .before .before .before .before .before .before .before .before .before .before), first, c .before .before .before .before .before .before .before .before .before .before .before .before .before .before .before .before .before .before .before .before .before .before .before .pre .1))
+    rw (norm-cast (c .before .before .before .before .before .before .before .before .before .before .before .before .before .before .before .before .before) _ (c .base-norm .ensures)) (omega (arith, tall, long, first, room))
 
 is-expanding-requires : tie.Need-is-expanding-requires
 is-expanding-requires c κs = limits (c .before .before .before .before .before .before .before .before .before .before .before .before .before .before .before .before .before .before .before .before)
 
 put-expanding-requires : tie.Need-put-expanding-requires
 put-expanding-requires c κs =
-    let first = rw (trace-cast (c .before .before .before .before .before .before .before .before .before .before .before .before .before .before .before .before .before .before .before .before .before .before) _ (c .before .before .before .before .before .before .before .before .before .before .before .before .before .before .before .base-trace .ensures)) at (c .before .before .before .before .before .before .before .before .before .before .before .before .before .before .put-signed .ensures .0) in
-    let second = rw (norm-cast (c .before .before .before .before .before .before .before .before .before .before .before .before .before .before .before .before .before .before .before .before .before .before) _ (c .before .before .before .before .before .base-norm .ensures)) at (c .before .before .before .before .put-signed2 .ensures .0) in
-    omega (arith, trace-short (c .before .before .before .before .before .before .before .before .before .before .before .before .before .before .before .before .before .before .before .before .before .before), norm-short (c .before .before .before .before .before .before .before .before .before .before .before .before .before .before .before .before .before .before .before .before .before .before), first, second, c .before .before .before .before .before .before .before .before .before .before .before .before .before .before .before .before .before .before .before .before .before .before .before .before .before .before .before .before .pre .1)
+    let room = c .before .before .before .before .before .before .before .before .before .before .before .before .before .before .before .before .before .before .before .before .before .before .before .before .before .before .before .before .pre .1 in
+    let tall = trace-short (c .before .before .before .before .before .before .before .before .before .before .before .before .before .before .before .before .before .before .before .before .before .before) in
+    let long = norm-short (c .before .before .before .before .before .before .before .before .before .before .before .before .before .before .before .before .before .before .before .before .before .before) in
+    let T = trace-cast (c .before .before .before .before .before .before .before .before .before .before .before .before .before .before .before .before .before .before .before .before .before .before) _ (c .before .before .before .before .before .before .before .before .before .before .before .before .before .before .before .base-trace .ensures) in
+    let N = norm-cast (c .before .before .before .before .before .before .before .before .before .before .before .before .before .before .before .before .before .before .before .before .before .before) _ (c .before .before .before .before .before .base-norm .ensures) in
+    let first = rw T at (c .before .before .before .before .before .before .before .before .before .before .before .before .before .before .put-signed .ensures .0) in
+    let second = rw N at (c .before .before .before .before .put-signed2 .ensures .0) in
+    omega (arith, tall, long, first, second, room)
 
 same-length : tie.Need-same-length
 same-length c = search needs
@@ -181,9 +189,12 @@ unfolding bytesOf normLine
 returns c =
     let d = c .before .before .before .before .before .before .before .before .before .before .before .before .before .before .before .before .before .before .before .before .before .before .before .before .before in
     let out = c .before .before .before .before .before .before .before .before .before .before .before .before .before .before .before .before .before .before .before .before .before .before .before .before .before .before .before .before .before .before .before .args .out .now in
+    let room = c .before .before .before .before .before .before .before .before .before .before .before .before .before .before .before .before .before .before .before .before .before .before .before .before .before .before .before .before .before .before .before .pre .1 in
     let first = rw (trace-cast d _ (c .before .before .before .before .before .before .before .before .before .before .before .before .before .before .before .before .before .before .base-trace .ensures)) at (c .before .before .before .before .before .before .before .before .before .before .before .before .before .before .before .before .before .put-signed .ensures) in
     let second = rw (norm-cast d _ (c .before .before .before .before .before .before .before .before .base-norm .ensures)) at (c .before .before .before .before .before .before .before .put-signed2 .ensures) in
     let third = rw (expanding-is d _ (c .before .before .before .before .is-expanding .ensures)) at (c .before .before .put-expanding .ensures) in
+    let start = c .before .before .before .before .before .before .before .before .before .before .before .before .before .before .before .before .before .before .before .before .before .before .put .ensures in
+    let between = c .before .before .before .before .before .before .before .before .before .before .before .before .put2 .ensures in
     let T = decimalZ (trace d) in
     let N = decimalZ (norm d) in
     let word = expandingWord (expands d) in
@@ -192,8 +203,9 @@ returns c =
     let tall = trace-short d in
     let long = norm-short d in
     let end = expanding-short (expands d) in
-    let tail = next _ _ _ (bytesOf ", N = ") _ _ _ _ (c .before .before .before .before .before .before .before .before .before .before .before .before .put2 .ensures) (next _ _ _ N word _ _ _ second (last _ _ _ _ _ third)) in
-    let all = put-all (next out _ _ (bytesOf "T = ") _ 0 _ _ (c .before .before .before .before .before .before .before .before .before .before .before .before .before .before .before .before .before .before .before .before .before .before .put .ensures) (next _ _ _ T _ _ _ _ first tail)) (omega (arith, tall, long, end, front, back, c .before .before .before .before .before .before .before .before .before .before .before .before .before .before .before .before .before .before .before .before .before .before .before .before .before .before .before .before .before .before .before .pre .1)) in
+    let tail = next _ _ _ (bytesOf ", N = ") _ _ _ _ between (next _ _ _ N word _ _ _ second (last _ _ _ _ _ third)) in
+    let pieces = next out _ _ (bytesOf "T = ") _ 0 _ _ start (next _ _ _ T _ _ _ _ first tail) in
+    let all = put-all pieces (omega (arith, tall, long, end, front, back, room)) in
     put-line out _ _ _ _ 64 all refl (omega (arith, tall, long, end, front, back))
 
 pub norm-line-spec : {M : Type 1} → statement M

@@ -12,6 +12,7 @@ use Rattle.lists.proofs.Cons.{cons≡}
 use mir.Val.{toZ, ofZ}
 use mir.Syntax.{w64}
 use lib.ListN.{length, length-append}
+use Prim.Native.Nat.{ℕ}
 use lib.IntN.{ℤ}
 use native.Mathlib.Omega.{arith}
 use mathlib.Core.List.{List, [], _∷_, _++_}
@@ -27,6 +28,11 @@ module _ (x : List ℤ) (h : Within 32768 x) where
 
   exchanged-within : Within 32768 (part x 1 ∷ part x 0 ∷ [])
   exchanged-within = within-two 32768 (part x 1) (part x 0) (within-part 32768 x h 1) (within-part 32768 x h 0)
+
+-- the line of two records
+abbrev line : List ℤ → List ℤ → List ℕ
+line x y =
+    bytesOf "omega^2 = " ++ (elementText (part x 1 ∷ part x 0 ∷ []) ++ (bytesOf ", base " ++ (elementText y ++ bytesOf "\n")))
 
 record-at-requires : tie.Need-record-at-requires
 record-at-requires c κs = search needs
@@ -62,8 +68,9 @@ record-at-requires-2 c κs = search needs
 
 put-element-requires-2 : tie.Need-put-element-requires-2
 put-element-requires-2 c κs =
-    let small = element-short _ (exchanged-within _ (c .before .before .before .before .before .before .before .before .before .before .before .before .before .before .before .before .before .before .record-at .ensures .1)) in
-    let end = rw (exchanged _ (c .before .before .before .before .before .before .before .before .before .before .before .before .before .before .before .before .before .before .record-at .ensures .1)) at (c .before .before .before .before .before .before .before .before .before .put-element .ensures .0) in
+    let read = c .before .before .before .before .before .before .before .before .before .before .before .before .before .before .before .before .before .before .record-at .ensures in
+    let small = element-short _ (exchanged-within _ (read .1)) in
+    let end = rw (exchanged _ (read .1)) at (c .before .before .before .before .before .before .before .before .before .put-element .ensures .0) in
     (omega (arith, small, end, element-short _ (c .record-at2 .ensures .1)), c .record-at2 .ensures .1)
 
 slice-aggregate-put-3 : tie.Need-slice-aggregate-put-3
@@ -71,8 +78,9 @@ slice-aggregate-put-3 c = search needs
 
 put-requires-3 : tie.Need-put-requires-3
 put-requires-3 c κs =
-    let small = element-short _ (exchanged-within _ (c .before .before .before .before .before .before .before .before .before .before .before .before .before .before .before .before .before .before .before .before .before .before .before .record-at .ensures .1)) in
-    let end = rw (exchanged _ (c .before .before .before .before .before .before .before .before .before .before .before .before .before .before .before .before .before .before .before .before .before .before .before .record-at .ensures .1)) at (c .before .before .before .before .before .before .before .before .before .before .before .before .before .before .put-element .ensures .0) in
+    let read = c .before .before .before .before .before .before .before .before .before .before .before .before .before .before .before .before .before .before .before .before .before .before .before .record-at .ensures in
+    let small = element-short _ (exchanged-within _ (read .1)) in
+    let end = rw (exchanged _ (read .1)) at (c .before .before .before .before .before .before .before .before .before .before .before .before .before .before .put-element .ensures .0) in
     omega (arith, small, end, element-short _ (c .before .before .before .before .before .record-at2 .ensures .1))
 
 same-length : tie.Need-same-length
@@ -81,17 +89,25 @@ same-length c = search needs
 returns : tie.Need-returns
 unfolding bytesOf ringLine
 returns c =
-    let s = c .before .before .before .before .before .before .before .before .before .before .before .before .before .before .before .before .before .before .before .before .before .before .before .before .before .before .before .before .before .args .out .now in
-    let small = element-short _ (exchanged-within _ (c .before .before .before .before .before .before .before .before .before .before .before .before .before .before .before .before .before .before .before .before .before .before .before .before .before .before .record-at .ensures .1)) in
-    let large = element-short _ (c .before .before .before .before .before .before .before .before .record-at2 .ensures .1) in
-    let first = elementText (part (c .before .before .before .before .before .before .before .before .before .before .before .before .before .before .before .before .before .before .before .before .before .before .before .before .before .before .record-at .result) 1 ∷ part (c .before .before .before .before .before .before .before .before .before .before .before .before .before .before .before .before .before .before .before .before .before .before .before .before .before .before .record-at .result) 0 ∷ []) in
-    let second = elementText (c .before .before .before .before .before .before .before .before .record-at2 .result) in
-    let middle = rw (exchanged _ (c .before .before .before .before .before .before .before .before .before .before .before .before .before .before .before .before .before .before .before .before .before .before .before .before .before .before .record-at .ensures .1)) at (c .before .before .before .before .before .before .before .before .before .before .before .before .before .before .before .before .before .put-element .ensures) in
+    let out = c .before .before .before .before .before .before .before .before .before .before .before .before .before .before .before .before .before .before .before .before .before .before .before .before .before .before .before .before .before .args .out .now in
+    let room = c .before .before .before .before .before .before .before .before .before .before .before .before .before .before .before .before .before .before .before .before .before .before .before .before .before .before .before .before .before .pre .1 in
+    let read = c .before .before .before .before .before .before .before .before .before .before .before .before .before .before .before .before .before .before .before .before .before .before .before .before .before .before .record-at in
+    let x = read .result in
+    let y = c .before .before .before .before .before .before .before .before .record-at2 .result in
+    let small = element-short _ (exchanged-within x (read .ensures .1)) in
+    let large = element-short y (c .before .before .before .before .before .before .before .before .record-at2 .ensures .1) in
+    let first = elementText (part x 1 ∷ part x 0 ∷ []) in
+    let second = elementText y in
+    let start = c .before .before .before .before .before .before .before .before .before .before .before .before .before .before .before .before .before .before .before .before .before .before .before .put .ensures in
+    let ring = rw (exchanged x (read .ensures .1)) at (c .before .before .before .before .before .before .before .before .before .before .before .before .before .before .before .before .before .put-element .ensures) in
+    let between = c .before .before .before .before .before .before .before .before .before .before .before .before .put2 .ensures in
+    let base = c .before .before .before .before .before .before .before .put-element2 .ensures in
     let front = length-append first (bytesOf ", base " ++ (second ++ bytesOf "\n")) in
     let back = length-append second (bytesOf "\n") in
-    let all = put-all (next s _ _ (bytesOf "omega^2 = ") _ 0 _ _ (c .before .before .before .before .before .before .before .before .before .before .before .before .before .before .before .before .before .before .before .before .before .before .before .put .ensures) (next _ _ _ first _ _ _ _ middle (next _ _ _ (bytesOf ", base ") _ _ _ _ (c .before .before .before .before .before .before .before .before .before .before .before .before .put2 .ensures) (next _ _ _ second (bytesOf "\n") _ _ _ (c .before .before .before .before .before .before .before .put-element2 .ensures) (last _ _ _ _ _ (c .before .before .put3 .ensures)))))) (omega (arith, small, large, front, back, c .before .before .before .before .before .before .before .before .before .before .before .before .before .before .before .before .before .before .before .before .before .before .before .before .before .before .before .before .before .pre .1)) in
-    let named = ap₂ (λ x y. bytesOf "omega^2 = " ++ (elementText (part x 1 ∷ part x 0 ∷ []) ++ (bytesOf ", base " ++ (elementText y ++ bytesOf "\n")))) (c .before .before .before .before .before .before .before .before .before .before .before .before .before .before .before .before .before .before .before .before .before .before .before .before .before .before .record-at .ensures .0) (c .before .before .before .before .before .before .before .before .record-at2 .ensures .0) in
-    put-line s _ _ _ _ 64 all named (omega (arith, small, large, front, back))
+    let tail = next _ _ _ (bytesOf ", base ") _ _ _ _ between (next _ _ _ second (bytesOf "\n") _ _ _ base (last _ _ _ _ _ (c .before .before .put3 .ensures))) in
+    let pieces = next out _ _ (bytesOf "omega^2 = ") _ 0 _ _ start (next _ _ _ first _ _ _ _ ring tail) in
+    let all = put-all pieces (omega (arith, small, large, front, back, room)) in
+    put-line out _ _ _ _ 64 all (ap₂ line (read .ensures .0) (c .before .before .before .before .before .before .before .before .record-at2 .ensures .0)) (omega (arith, small, large, front, back))
 
 pub ring-line-spec : {M : Type 1} → statement M
 ring-line-spec =
