@@ -1,6 +1,6 @@
--- The line: its items, and how it stands in a buffer.
+-- The line in a lent buffer.
 use mathlib.Core.Path.{_≡_, sym, ap, _∙_}
-use mathlib.Core.List.{List, _++_, append-assoc}
+use mathlib.Core.List.{List}
 use Prim.Native.Nat.{ℕ, _≤_, _<_}
 use native.Mathlib.Omega.{arith}
 use lib.ListN.{length}
@@ -14,12 +14,6 @@ use Rattle.line_rules.specs.Line.{refusedLine, lineOf, lineInto, lineCount}
 use Rattle.table.specs.declared.Checked.{Checked}
 use Rattle.table.specs.declared.Checked.the-variants.{Refused}
 use Rattle.table.specs.Answer.{outcomeOf}
-
--- the items, one behind the other, as the definition brackets them
-pub three-items : (a b c d e f g : List ℕ) → (((a ++ b) ++ (c ++ d)) ++ (e ++ f)) ++ g ≡ a ++ (b ++ (c ++ (d ++ (e ++ (f ++ g)))))
-three-items a b c d e f g = simp append-assoc
-
--- ---- the line in a lent buffer
 
 -- one that is too short: nothing is written
 pub line-short : (o : Outcome Facts) (s : List ℕ) → length s < 128 → (0 ≡ lineCount o (length s)) × ((s ≡ lineInto o s) × (0 ≤ length s))

@@ -1,3 +1,3 @@
-pub mod Pieces
+pub mod Space
 pub mod Element
 pub mod Lines

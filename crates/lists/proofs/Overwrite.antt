@@ -1,9 +1,9 @@
 -- Laws of `overwrite`: nothing, one entry, one run after the other, the length.
-use mathlib.Core.Path.{_≡_, refl, sym, ap, ap₂, _∙_}
+use mathlib.Core.Path.{_≡_, sym, ap, _∙_}
 use mathlib.Core.List.{List, [], _∷_, _++_, append-assoc}
 use Prim.Native.Nat.{ℕ, _+_, _<_, _≤_}
 use native.Mathlib.Omega.{arith}
-use native.Mathlib.Nat.{add-zero, zero-add, add-assoc}
+use native.Mathlib.Nat.{add-zero, add-assoc}
 use native.Mathlib.Numerals.{add-one}
 use lib.ListN.{length, getD, take, drop, set, length-append, length-drop, take-append-drop}
 use lib.Seq.{set-split, drop-append-add, drop-drop, length-take-le, take-at, take-suc}
@@ -46,19 +46,3 @@ module _ {A : Type 0} where
       ap (λ (k : ℕ). set (overwrite s p (take i new)) (p + k) (getD new i d)) (sym n)
       ∙ overwrite-snoc s p (take i new) (getD new i d) (omega arith)
       ∙ ap (overwrite s p) (sym (take-suc new i d l) ∙ ap (λ (k : ℕ). take k new) (sym (add-one i)))
-
--- entries written from the start on, piece by piece: t is s with `a` written, and r the next place
-pub record Written {A : Type 0} (s t a : List A) (r : ℕ) : Type 0 where
-  pub place : r ≡ length a
-  pub entries : t ≡ overwrite s 0 a
-
-module _ {A : Type 0} where
-  pub written-none : (s : List A) → Written s s [] 0
-  written-none s = record { place = refl; entries = sym (overwrite-none s 0) }
-
-  pub written-more : (s t u a b : List A) (r q : ℕ) → Written s t a r → u ≡ overwrite t r b → q ≡ r + length b → length a + length b ≤ length s → Written s u (a ++ b) q
-  written-more s t u a b r q w e p h =
-      record {
-        place = p ∙ ap (λ (n : ℕ). n + length b) (w .place) ∙ sym (length-append a b);
-        entries = e ∙ ap₂ (λ (x : List A) (n : ℕ). overwrite x n b) (w .entries) (w .place ∙ sym (zero-add (length a))) ∙ overwrite-append s 0 a b (omega arith);
-      }

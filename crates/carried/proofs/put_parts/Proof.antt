@@ -1,8 +1,8 @@
 -- The three parts, one behind the other.
-use Rattle.lists.proofs.Overwrite.{written-none, written-more}
+use Rattle.lists.proofs.Pieces.{put-more}
 use lib.ListN.{length-append}
 use native.Mathlib.Omega.{arith}
-use mathlib.Core.List.{[], _++_}
+use mathlib.Core.List.{_++_}
 use borrow.Author.Needs.{needs}
 use Rattle.carried.proofs.put_parts.Statement.{statement}
 use Rattle.carried.proofs.put_parts.Tie as tie
@@ -25,9 +25,9 @@ returns c =
     let s = st .args .out .now in
     let head = st .args .head .now in
     let leaves = st .args .leaves .now in
-    let one = written-more s s _ [] head 0 _ (written-none s) (c .before .before .before .before .before .before .before .before .before .before .put .ensures .1) (c .before .before .before .before .before .before .before .before .before .before .put .ensures .0) (omega arith) in
-    let two = written-more s _ _ head leaves _ _ one (c .before .before .before .before .before .before .put2 .ensures .1) (c .before .before .before .before .before .before .put2 .ensures .0) (omega arith) in
-    written-more s _ _ (head ++ leaves) (st .args .words .now) _ _ two (c .before .before .put3 .ensures .1) (c .before .before .put3 .ensures .0) (omega (arith, length-append head leaves)) .entries
+    let one = c .before .before .before .before .before .before .before .before .before .before .put .ensures in
+    let two = put-more s _ _ head leaves 0 _ _ one (c .before .before .before .before .before .before .put2 .ensures) (omega arith) in
+    put-more s _ _ (head ++ leaves) (st .args .words .now) 0 _ _ two (c .before .before .put3 .ensures) (omega (arith, length-append head leaves)) .1
 
 pub put-parts-spec : {M : Type 1} → statement M
 put-parts-spec =

@@ -1,5 +1,5 @@
 -- The part without ω, the sign and the part with ω, one behind the other; a whole number is its decimal text.
-use Rattle.listing_rules.proofs.Pieces.{last, next, put-all}
+use Rattle.lists.proofs.Pieces.{last, next, put-all}
 use Rattle.listing_rules.proofs.Element.{element-whole, element-both}
 use Rattle.listing_rules.specs.Element.{omegaText, realText, signText, elementText}
 use Rattle.ring.proofs.Parts.{entry}

@@ -2,7 +2,7 @@
 use Rattle.listing_rules.specs.Element.{omegaText}
 use Prim.Native.Nat.{ℕ, _+_}
 use mathlib.Core.Path.{_≡_, ap, _∙_}
-use Rattle.listing_rules.proofs.Pieces.{put-more}
+use Rattle.lists.proofs.Pieces.{put-more}
 use Rattle.listing_rules.proofs.Element.{omega-one, omega-more}
 use Rattle.text_rules.specs.Decimal.{decimal}
 use Rattle.text_rules.specs.Bytes.{bytesOf}

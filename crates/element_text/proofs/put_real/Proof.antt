@@ -1,6 +1,6 @@
 -- Zero is left out.
 use Rattle.element_text.proofs.Zero.{is-zero, not-zero}
-use Rattle.listing_rules.proofs.Pieces.{put-none}
+use Rattle.lists.proofs.Pieces.{put-none}
 use Rattle.listing_rules.proofs.Element.{real-none, real-some}
 use mir.ValLaws.{toZ-ofZ}
 use mir.Syntax.{w32}

@@ -1,5 +1,6 @@
 -- After some spaces the buffer has as many written as are filled beyond the text.
-use Rattle.listing_rules.proofs.Pieces.{Put, put-more, space-more}
+use Rattle.lists.proofs.Pieces.{Put, put-more}
+use Rattle.listing_rules.proofs.Space.{space-more}
 use Rattle.listing_rules.proofs.Element.{right-length}
 use Rattle.listing_rules.specs.Element.{right}
 use Rattle.lists.proofs.Overwrite.{overwrite-none}

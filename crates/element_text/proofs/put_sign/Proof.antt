@@ -7,7 +7,7 @@ use mathlib.Core.List.{[]}
 use mathlib.Core.Bool.{true, false}
 use mathlib.Core.Path.{_≡_, ap}
 use Rattle.element_text.proofs.Zero.{is-zero, not-zero, sign-test}
-use Rattle.listing_rules.proofs.Pieces.{put-none}
+use Rattle.lists.proofs.Pieces.{put-none}
 use Rattle.listing_rules.proofs.Element.{sign-below, sign-none, sign-above}
 use Rattle.text_rules.specs.Bytes.{bytesOf}
 use mir.Syntax.{w32}

@@ -1,5 +1,7 @@
 -- Two items, one behind the other; each number has room.
-use Rattle.text_rules.proofs.Fault.{item-room, two-items}
+use Rattle.lists.proofs.Pieces.{put-more}
+use Rattle.text_rules.proofs.Fault.{item-room}
+use mathlib.Core.List.{_++_, append-assoc}
 use Rattle.text_rules.specs.Decimal.{decimal}
 use Rattle.text_rules.specs.Bytes.{bytesOf}
 use Rattle.text_rules.specs.Fault.{placeWord}
@@ -27,9 +29,12 @@ returns : tie.Need-returns
 unfolding bytesOf placeWord
 returns c =
     let st = c .before .before .before .before .before .before .before .before .before .before .before in
-    let first = c .before .before .before .before .before .before .before .put-item in
-    let second = c .before .before .put-item2 in
-    two-items (st .args .out .now) _ _ (st .args .word .now) (decimal (st .args .number)) placeWord (decimal (st .args .place)) (st .args .at) _ _ (first .ensures .0) (first .ensures .1) (second .ensures .0) (second .ensures .1) (omega (arith, item-room (st .args .word .now) (st .args .number) (st .fits .number)))
+    let a = st .args in
+    let first = a .word .now ++ decimal (a .number) in
+    let second = placeWord ++ decimal (a .place) in
+    let put = c .before .before .before .before .before .before .before .put-item .ensures in
+    let both = put-more (a .out .now) _ _ first second (a .at) _ _ put (c .before .before .put-item2 .ensures) (omega (arith, item-room (a .word .now) (a .number) (st .fits .number))) in
+    rw (append-assoc (a .word .now) (decimal (a .number)) second) at both
 
 pub put-refusal-spec : {M : Type 1} → statement M
 put-refusal-spec =

@@ -2,7 +2,7 @@
 use lib.ListN.{length, length-append}
 use Prim.Native.Nat.{ℕ, _≤_}
 use mathlib.Core.List.{List, _++_}
-use Rattle.listing_rules.proofs.Pieces.{last, next, put-all, put-line}
+use Rattle.lists.proofs.Pieces.{last, next, put-all, put-line}
 use Rattle.listing_rules.proofs.Lines.{word-short}
 use Rattle.listing_rules.proofs.Element.{element-short, right-short}
 use Rattle.listing_rules.specs.Listing.{wordText, leafLine}

@@ -1,5 +1,5 @@
 -- The text is made apart, since its length says where it starts.
-use Rattle.listing_rules.proofs.Pieces.{put-taken}
+use Rattle.lists.proofs.Pieces.{put-taken}
 use Rattle.listing_rules.proofs.Element.{element-short}
 use Rattle.listing_rules.specs.Element.{elementText, right}
 use lib.ListN.{length}

@@ -2,7 +2,7 @@
 use lib.ListN.{length}
 use Prim.Native.Nat.{ℕ, _≤_}
 use mathlib.Core.List.{List}
-use Rattle.listing_rules.proofs.Pieces.{last, next, put-all, put-taken}
+use Rattle.lists.proofs.Pieces.{last, next, put-all, put-taken}
 use Rattle.listing_rules.proofs.Lines.{digit-short}
 use Rattle.listing_rules.specs.Listing.{digitText, columnText}
 use Rattle.listing_rules.specs.Element.{right}

@@ -1,7 +1,7 @@
 -- The text is made apart, since its length says where it starts.
 use Prim.Native.Nat.{_≤_}
 use lib.ListN.{length}
-use Rattle.listing_rules.proofs.Pieces.{put-taken}
+use Rattle.lists.proofs.Pieces.{put-taken}
 use Rattle.text_rules.proofs.Decimal.{decimal-short}
 use Rattle.text_rules.specs.Decimal.{decimal}
 use lib.Seq.{length-take-le}

@@ -1,7 +1,7 @@
 -- After some columns the buffer has their texts written.
 use Rattle.listing_rules.specs.Listing.{columnText, wordText}
 use Prim.Native.Nat.{_+_, _-_, _≤_}
-use Rattle.listing_rules.proofs.Pieces.{Put, put-none, put-more}
+use Rattle.lists.proofs.Pieces.{Put, put-none, put-more}
 use Rattle.listing_rules.proofs.Lines.{word-next, word-before}
 use Rattle.listing_rules.specs.Listing.{wordText}
 use borrow.Author.Needs.{needs}

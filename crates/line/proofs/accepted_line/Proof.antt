@@ -1,16 +1,14 @@
 -- Three items and a line feed, each written after the one before.
-use Rattle.line.proofs.Room.{three-items}
 use Rattle.line_rules.specs.Line.{acceptedLine, acceptedWord, leavesWord, digitsWord, lineFeed}
 use Rattle.text_rules.specs.Bytes.{bytesOf}
 use Rattle.text_rules.specs.Decimal.{decimal}
 use Rattle.text_rules.proofs.Fault.{item-room}
-use Rattle.lists.proofs.Overwrite.{written-none, written-more}
-use Rattle.lists.specs.Overwrite.{overwrite}
+use Rattle.lists.proofs.Pieces.{last, next, put-all, put-line}
 use lib.ListN.{length, length-append}
 use native.Mathlib.Omega.{arith}
 use Prim.Native.Nat.{ℕ, _+_, _≤_}
-use mathlib.Core.List.{List, [], _++_}
-use mathlib.Core.Path.{_≡_, ap, _∙_}
+use mathlib.Core.List.{List, _++_, append-assoc}
+use mathlib.Core.Path.{_≡_}
 use borrow.Author.Needs.{needs}
 use Rattle.line.proofs.accepted_line.Statement.{statement}
 use Rattle.line.proofs.accepted_line.Tie as tie
@@ -65,13 +63,17 @@ returns c =
     let first : List ℕ = acceptedWord ++ decimal (f .depth) in
     let second : List ℕ = leavesWord ++ decimal (f .leaves) in
     let third : List ℕ = digitsWord ++ decimal (f .digits) in
-    let put1 = c .before .before .before .before .before .before .before .before .before .before .before .before .before .before .before .before .before .put-item in
-    let one = written-more s s _ [] first 0 _ (written-none s) (put1 .ensures .1) (put1 .ensures .0) (omega (arith, first-room st)) in
-    let two = written-more s _ _ first second _ _ one (c .before .before .before .before .before .before .before .before .before .before .before .before .put-item2 .ensures .1) (c .before .before .before .before .before .before .before .before .before .before .before .before .put-item2 .ensures .0) (omega (arith, first-room st, second-room st)) in
-    let three = written-more s _ _ (first ++ second) third _ _ two (c .before .before .before .before .before .before .before .put-item3 .ensures .1) (c .before .before .before .before .before .before .before .put-item3 .ensures .0) (omega (arith, first-room st, second-room st, third-room st, length-append first second)) in
-    let all = written-more s _ _ ((first ++ second) ++ third) lineFeed _ _ three (c .before .before .put .ensures .1) (c .before .before .put .ensures .0) (omega (arith, first-room st, second-room st, third-room st, length-append first second, length-append (first ++ second) third)) in
-    let line : ((first ++ second) ++ third) ++ lineFeed ≡ acceptedLine (f .depth) (f .leaves) (f .digits) = three-items acceptedWord (decimal (f .depth)) leavesWord (decimal (f .leaves)) digitsWord (decimal (f .digits)) lineFeed in
-    (all .place ∙ ap length line, (all .entries ∙ ap (overwrite s 0) line, omega (arith, all .place, first-room st, second-room st, third-room st, length-append first second, length-append (first ++ second) third, length-append ((first ++ second) ++ third) lineFeed)))
+    let put1 = c .before .before .before .before .before .before .before .before .before .before .before .before .before .before .before .before .before .put-item .ensures in
+    let put2 = c .before .before .before .before .before .before .before .before .before .before .before .before .put-item2 .ensures in
+    let put3 = c .before .before .before .before .before .before .before .put-item3 .ensures in
+    let front = length-append first (second ++ (third ++ lineFeed)) in
+    let middle = length-append second (third ++ lineFeed) in
+    let back = length-append third lineFeed in
+    let tail = next _ _ _ third lineFeed _ _ _ put3 (last _ _ _ _ _ (c .before .before .put .ensures)) in
+    let pieces = next s _ _ first _ 0 _ _ put1 (next _ _ _ second _ _ _ _ put2 tail) in
+    let all = put-all pieces (omega (arith, first-room st, second-room st, third-room st, front, middle, back)) in
+    let line : first ++ (second ++ (third ++ lineFeed)) ≡ acceptedLine (f .depth) (f .leaves) (f .digits) = simp append-assoc in
+    put-line s _ _ _ _ 128 all line (omega (arith, first-room st, second-room st, third-room st, front, middle, back))
 
 pub accepted-line-spec : {M : Type 1} → statement M
 accepted-line-spec =

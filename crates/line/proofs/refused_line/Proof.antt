@@ -4,13 +4,12 @@ use Rattle.text_rules.specs.Fault.{refusedWord, placeWord}
 use Rattle.text_rules.specs.Bytes.{bytesOf}
 use Rattle.text_rules.specs.Decimal.{decimal}
 use Rattle.text_rules.proofs.Fault.{item-room}
-use Rattle.lists.proofs.Overwrite.{written-none, written-more}
-use Rattle.lists.specs.Overwrite.{overwrite}
+use Rattle.lists.proofs.Pieces.{last, next, put-all, put-line}
 use lib.ListN.{length, length-append}
 use native.Mathlib.Omega.{arith}
 use Prim.Native.Nat.{ℕ}
-use mathlib.Core.List.{List, [], append-assoc, _++_}
-use mathlib.Core.Path.{_≡_, ap, _∙_}
+use mathlib.Core.List.{List, append-assoc, _++_}
+use mathlib.Core.Path.{_≡_}
 use borrow.Author.Needs.{needs}
 use Rattle.line.proofs.refused_line.Statement.{statement}
 use Rattle.line.proofs.refused_line.Tie as tie
@@ -50,11 +49,14 @@ returns c =
     let second : List ℕ = placeWord ++ decimal (st .args .place) in
     let first-room = item-room refusedWord (st .args .number) (st .fits .number) in
     let second-room = item-room placeWord (st .args .place) (st .fits .place) in
-    let one = written-more s s _ [] first 0 _ (written-none s) (c .before .before .before .before .before .before .before .before .before .before .before .before .put-item .ensures .1) (c .before .before .before .before .before .before .before .before .before .before .before .before .put-item .ensures .0) (omega (arith, first-room)) in
-    let two = written-more s _ _ first second _ _ one (c .before .before .before .before .before .before .before .put-item2 .ensures .1) (c .before .before .before .before .before .before .before .put-item2 .ensures .0) (omega (arith, first-room, second-room)) in
-    let all = written-more s _ _ (first ++ second) lineFeed _ _ two (c .before .before .put .ensures .1) (c .before .before .put .ensures .0) (omega (arith, first-room, second-room, length-append first second)) in
-    let line : (first ++ second) ++ lineFeed ≡ refusedLine (st .args .number) (st .args .place) = simp append-assoc in
-    (all .place ∙ ap length line, (all .entries ∙ ap (overwrite s 0) line, omega (arith, all .place, first-room, second-room, length-append first second, length-append (first ++ second) lineFeed)))
+    let put1 = c .before .before .before .before .before .before .before .before .before .before .before .before .put-item .ensures in
+    let put2 = c .before .before .before .before .before .before .before .put-item2 .ensures in
+    let front = length-append first (second ++ lineFeed) in
+    let back = length-append second lineFeed in
+    let pieces = next s _ _ first _ 0 _ _ put1 (next _ _ _ second lineFeed _ _ _ put2 (last _ _ _ _ _ (c .before .before .put .ensures))) in
+    let all = put-all pieces (omega (arith, first-room, second-room, front, back)) in
+    let line : first ++ (second ++ lineFeed) ≡ refusedLine (st .args .number) (st .args .place) = simp append-assoc in
+    put-line s _ _ _ _ 128 all line (omega (arith, first-room, second-room, front, back))
 
 pub refused-line-spec : {M : Type 1} → statement M
 refused-line-spec =

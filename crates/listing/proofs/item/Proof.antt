@@ -1,7 +1,7 @@
 -- A space and the text of the record.
 use mathlib.Core.List.{_++_}
 use mathlib.Core.Path.{ap}
-use Rattle.listing_rules.proofs.Pieces.{put-more, put-line}
+use Rattle.lists.proofs.Pieces.{put-more, put-line}
 use Rattle.listing_rules.proofs.Element.{element-short}
 use Rattle.listing_rules.specs.Element.{elementText}
 use Rattle.listing_rules.specs.Listing.{itemText}

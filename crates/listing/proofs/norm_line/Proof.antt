@@ -1,5 +1,5 @@
 -- T and N are found for the numbers of the section and fit 32 bits; five pieces, one behind the other.
-use Rattle.listing_rules.proofs.Pieces.{last, next, put-all, put-line}
+use Rattle.lists.proofs.Pieces.{last, next, put-all, put-line}
 use Rattle.listing_rules.proofs.Lines.{expanding-short}
 use Rattle.listing_rules.proofs.Element.{whole-short}
 use Rattle.listing_rules.specs.Listing.{expandingWord, normLine}

@@ -1,5 +1,5 @@
 -- Five pieces, one behind the other; the first record has its highest power first and is written the other way round.
-use Rattle.listing_rules.proofs.Pieces.{last, next, put-all, put-line}
+use Rattle.lists.proofs.Pieces.{last, next, put-all, put-line}
 use Rattle.listing_rules.proofs.Element.{element-short}
 use Rattle.listing_rules.specs.Listing.{ringLine}
 use Rattle.listing_rules.specs.Element.{elementText}

@@ -1,13 +1,12 @@
 -- Pieces of text written one behind the other into a lent buffer.
 use mathlib.Core.Path.{_≡_, refl, sym, ap, ap₂, _∙_}
-use mathlib.Core.List.{List, [], _∷_, _++_}
-use Prim.Native.Nat.{ℕ, zero, suc, _+_, _<_, _≤_}
+use mathlib.Core.List.{List, [], _++_}
+use Prim.Native.Nat.{ℕ, _+_, _≤_}
 use native.Mathlib.Omega.{arith}
-use native.Mathlib.Numerals.{add-one}
-use lib.ListN.{length, take, set, replicate, length-append, length-replicate}
+use lib.ListN.{length, take, length-append}
 use lib.Seq.{take-at}
 use Rattle.lists.specs.Overwrite.{overwrite}
-use Rattle.lists.proofs.Overwrite.{overwrite-append, overwrite-none, overwrite-snoc, length-overwrite}
+use Rattle.lists.proofs.Overwrite.{overwrite-none, overwrite-append, length-overwrite}
 
 -- t is s with the text written from place p on, and r the next place: what each function that writes ensures
 abbrev pub Put : List ℕ → List ℕ → ℕ → ℕ → List ℕ → Type 0
@@ -36,18 +35,6 @@ put-all (next s t u a b p q r w rest) h =
 pub put-taken : (s t text : List ℕ) (r : ℕ) → r ≡ length text → t ≡ overwrite s 0 text → take r t ≡ text
 unfolding overwrite
 put-taken s t text r r-is t-is = ap₂ take r-is t-is ∙ take-at text _ (length text) refl
-
--- one space more
-replicate-more : (k a : ℕ) → replicate (suc k) a ≡ replicate k a ++ (a ∷ [])
-replicate-more zero a = refl
-replicate-more (suc k) a = ap (λ (l : List ℕ). a ∷ l) (replicate-more k a)
-
-pub space-more : (s : List ℕ) (p k : ℕ) → p + k < length s → set (overwrite s p (replicate k 32)) (p + k) 32 ≡ overwrite s p (replicate (k + 1) 32)
-space-more s p k h =
-    let n : length (replicate {A = ℕ} k 32) ≡ k = length-replicate k 32 in
-    ap (λ (i : ℕ). set (overwrite s p (replicate k 32)) (p + i) 32) (sym n)
-    ∙ overwrite-snoc s p (replicate k 32) 32 (omega arith)
-    ∙ ap (overwrite s p) (sym (replicate-more k 32) ∙ ap (λ (i : ℕ). replicate i 32) (sym (add-one k)))
 
 -- a text from the start of a buffer on: what a function that writes a line ensures
 pub put-line : (s t a text : List ℕ) (r n : ℕ) → Put s t 0 r a → a ≡ text → length a ≤ n → (r ≡ length text) × ((t ≡ overwrite s 0 text) × (r ≤ n))
