@@ -79,25 +79,34 @@ pub fn item(part: &[u8], k: usize, out: &mut [u8]) -> usize
     element_text::put_element(out, at, digits::record_at(part, k))
 }
 
-// How many columns the words of a table of this depth get.
-pub fn columns(depth: usize) -> usize
-    ensures count { λ r. ⌜ r ≡ columnsFor depth ⌝ }
-    ensures within { λ r. ⌜ r ≤ 8 ⌝ }
+// The word of a leaf as it is shown: an empty part in the place of one that points outside section 4 or is longer than a word may be.
+pub fn word_shown<'a>(leaves: &[u8], words: &'a [u8], leaf: usize) -> &'a [u8]
+    ensures word { λ r. ⌜ now r ≡ wordShown (now (leaves .entry)) (now (words .entry)) leaf ⌝ }
+    ensures within { λ r. ⌜ length (now r) ≤ 8 ⌝ }
 {
-    if depth == 0 {
-        return 1;
-    }
-    octets::least(depth, 8)
-}
-
-// A word that can be read: an empty part in the place of a longer one than a word may be.
-pub fn shown(word: &[u8]) -> &[u8]
-    ensures { λ r. ⌜ now r ≡ wordShown (now (word .entry)) ⌝ }
-{
+    let word = leaves::word(leaves, words, leaf);
     if 8 < word.len() {
-        return &word[0..0];
+        return &words[0..0];
     }
     word
+}
+
+// How many columns the words of a table get: as many as the longest that is shown.
+pub fn columns(leaves: &[u8], words: &[u8]) -> usize
+    ensures count { λ r. ⌜ r ≡ columnsFor (now (leaves .entry)) (now (words .entry)) ⌝ }
+    ensures within { λ r. ⌜ r ≤ 8 ⌝ }
+{
+    let count = leaves::leaf_count(leaves);
+    let mut most = 1;
+    let mut leaf = 0;
+    while leaf < count {
+        let length = word_shown(leaves, words, leaf).len();
+        if most < length {
+            most = length;
+        }
+        leaf += 1;
+    }
+    most
 }
 
 // The length of an element's text.

@@ -23,10 +23,11 @@ use Rattle.ring.specs.Tests.{Within, expanding}
 use Rattle.digit_rules.specs.Record.{elementAt, recordAt, elementCount}
 use Rattle.digit_rules.specs.Digits.{BasePart}
 use Rattle.digit_rules.proofs.Passed.{element-within}
+use Rattle.leaf_rules.specs.Given.{wordGiven}
 use Rattle.text_rules.specs.Bytes.{bytesOf}
 use Rattle.text_rules.specs.Decimal.{decimal, decimalWithin, decimalZ}
 use Rattle.listing_rules.specs.Element.{omegaText, realText, signText, elementText, right}
-use Rattle.listing_rules.specs.Listing.{ringLine, limitedBase, expandingWord, normLine, inputText, digitText, columnText, wordText, leafLine}
+use Rattle.listing_rules.specs.Listing.{ringLine, limitedBase, expandingWord, normLine, inputText, digitText, columnText, wordText, wordShown, leafLine}
 use Rattle.listing_rules.proofs.Element.{choice-short, element-short, right-length}
 
 -- ---- as a reader sees them: TERN's base, a leaf of BIN, one whose word can't be read
@@ -107,6 +108,16 @@ word-before width inputs word i (suc n) h =
       | yes l ↦ omega (arith, grown, word-before width inputs word i n l)
       | no m ↦ let last : i ≡ n = omega arith in rw last (omega (arith, grown))
     ]
+
+-- the word of a leaf that can be read, and one that can't
+module _ (leaves words : List ℕ) (k : ℕ) where
+  pub word-kept : length (wordGiven leaves words k) ≤ 8 → wordShown leaves words k ≡ wordGiven leaves words k
+  unfolding wordShown
+  word-kept h = rw (le-ltb _ _ h, wordShown)
+
+  pub word-unread : 8 < length (wordGiven leaves words k) → wordShown leaves words k ≡ []
+  unfolding wordShown
+  word-unread h = rw (lt-ltb _ _ h, wordShown)
 
 -- ---- lengths, where every byte of the input digits is one
 

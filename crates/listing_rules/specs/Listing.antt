@@ -1,7 +1,7 @@
 -- For the programs' output only; a reader may skip this file. The lines of a table as the program `show` writes them.
 use mathlib.Core.Bool.{Bool, true, false, _&&_}
 use mathlib.Core.List.{List, [], _∷_, _++_}
-use Prim.Native.Nat.{ℕ, zero, suc, _+_, _*_, _/_, max, min}
+use Prim.Native.Nat.{ℕ, zero, suc, _+_, _*_, _/_, max}
 use lib.Dec.{ltb, eqb}
 use lib.IntN.{ℤ}
 use lib.ListN.{length, getD}
@@ -11,6 +11,8 @@ use Rattle.ring.specs.Tests.{expanding}
 use Rattle.digit_rules.specs.Base.{sOf, tOf, uOf, vOf}
 use Rattle.digit_rules.specs.Record.{elementAt, recordAt, elementCount}
 use Rattle.numeration.specs.LeafOf.{largest}
+use Rattle.leaf_rules.specs.Leaf.{leafCount}
+use Rattle.leaf_rules.specs.Given.{wordGiven}
 use Rattle.text_rules.specs.Bytes.{bytesOf}
 use Rattle.text_rules.specs.Decimal.{decimal, decimalZ}
 use Rattle.listing_rules.specs.Element.{elementText, right}
@@ -63,12 +65,13 @@ leafLine columns width weights inputs word leaf weight =
     right 4 (decimal leaf)
     ++ (bytesOf ":" ++ (wordText width inputs word columns ++ (bytesOf " | " ++ (right weights (elementText weight) ++ bytesOf "\n"))))
 
--- how many columns words of this depth get, and a word as it is shown: one that is longer than a word may be can't be read
-unfoldable pub columnsFor : ℕ → ℕ
-columnsFor depth = max 1 (min depth 8)
+-- the word of a leaf as it is shown: one that is longer than a word may be can't be read, and is handed on empty
+unfoldable pub wordShown : List ℕ → List ℕ → ℕ → List ℕ
+wordShown leaves words k = elim (ltb 8 (length (wordGiven leaves words k))) [ true ↦ [] | false ↦ wordGiven leaves words k ]
 
-unfoldable pub wordShown : List ℕ → List ℕ
-wordShown word = elim (ltb 8 (length word)) [ true ↦ [] | false ↦ word ]
+-- how many columns words get: as many as the longest that is shown
+unfoldable pub columnsFor : List ℕ → List ℕ → ℕ
+columnsFor leaves words = max 1 (largest (λ k. length (wordShown leaves words k)) (leafCount leaves))
 
 -- the longest text among the elements of records of a size, each so many bytes behind its record's start
 unfoldable pub widest : List ℕ → ℕ → ℕ → ℕ

@@ -63,7 +63,7 @@ fn leaf(inputs: &[u8], leaves: &[u8], words: &[u8], leaf: usize, columns: Column
     requires { ⌜ (columns .count ≤ 8) × (columns .digits ≤ 13) × (columns .weights ≤ 13) ⌝ }
 {
     let mut out = [0u8; 256];
-    let word = listing::shown(leaves::word(leaves, words, leaf));
+    let word = listing::word_shown(leaves, words, leaf);
     let end = leaf_lines::leaf_line(
         inputs,
         word,
@@ -80,7 +80,7 @@ fn leaves(inputs: &[u8], leaves: &[u8], words: &[u8]) {
     write(b"leaves:\n");
     let count = leaves::leaf_count(leaves);
     let columns = Columns {
-        count: listing::columns(leaves::depth(leaves)),
+        count: listing::columns(leaves, words),
         digits: listing::width(inputs, ELEMENT, 0),
         weights: listing::width(leaves, LEAF, WORD),
     };

@@ -19,9 +19,6 @@ write-requires c κs = search needs
 leaf-count-requires : tie.Need-leaf-count-requires Inv-loop μ-loop
 leaf-count-requires c κs = search needs
 
-depth-requires : tie.Need-depth-requires Inv-loop μ-loop
-depth-requires c κs = search needs
-
 columns-requires : tie.Need-columns-requires Inv-loop μ-loop
 columns-requires c κs = search needs
 
@@ -58,7 +55,6 @@ leaves-spec =
     slice-aggregate-write
     write-requires
     leaf-count-requires
-    depth-requires
     columns-requires
     width-requires
     width-requires-2
