@@ -1,8 +1,10 @@
 pub mod Table
 pub mod Rows
+pub mod Values
 pub mod Part
 pub mod Sum
 pub mod Demand
 pub mod Accepted
-pub mod Summed
+pub mod Combined
 pub mod Reused
+pub mod Subtraction

@@ -4,9 +4,13 @@ use mathlib.Core.List.{List}
 use Prim.Native.Nat.{ℕ, _<_, _≤_, _^_}
 use lib.IntN.{ℤ}
 use Rattle.ring.specs.Tests.{RowsWithin}
+use Rattle.ring.specs.declared.Operation.{Operation}
 use Rattle.layout_rules.specs.Directory.{directoryCheck}
 use Rattle.digit_rules.specs.Record.{elementCount}
 use Rattle.digit_rules.specs.BaseMatrix.{baseMatrix}
+use Rattle.digit_rules.specs.Digits.{operationCheck}
+use Rattle.digit_rules.specs.Formed.{AllListed}
+use Rattle.digit_rules.proofs.Formed.{operation-listed}
 use Rattle.digit_rules.proofs.Base.{base-within}
 use Rattle.numeration.specs.Code.{Inputs}
 use Rattle.numeration.specs.Conversion.{window}
@@ -15,6 +19,7 @@ use Rattle.reader_rules.specs.Table.{basePart, alphabetPart, inputPart, leafPar
 use Rattle.reader_rules.specs.Check.{tableCheck}
 use Rattle.reader_rules.specs.Ready.{Ready}
 use Rattle.reader_rules.proofs.Kept.{layout-kept, table-kept}
+use Rattle.reader_rules.proofs.Formed.{well-formed}
 use Rattle.reader_rules.proofs.Ready.{ready-passed}
 use Rattle.place_rules.specs.Helpers.{Begun}
 use Rattle.adder_rules.specs.Sum.{digitCount}
@@ -25,6 +30,10 @@ module _ (file : List ℕ) (passes : tableCheck file .number ≡ 0) where
 
   is : Ready file
   is = ready-passed file passes
+
+  -- what the operation makes of any two alphabet digits is an input digit, where nothing that it asks is broken
+  pub all-listed : (op : Operation) → operationCheck op (alphabetPart file) (inputPart file) .number ≡ 0 → AllListed op (alphabetPart file) (inputPart file)
+  all-listed op = operation-listed op (basePart file) (alphabetPart file) (inputPart file) (well-formed file .1 passes .digits)
 
   -- of the sections as they were handed on
   pub digits-counted : (alphabet : List ℕ) → alphabet ≡ alphabetPart file → digitCount file ≡ elementCount alphabet

@@ -1,5 +1,5 @@
--- Pinned by demand-1, refused-lent and summed (proofs/Demand.antt, proofs/Summed.antt): a reader may skip this file. Addition as a
--- function of the table file, the rows and the sum buffer.
+-- Pinned by demand-1, refused-lent and combined (proofs/Demand.antt, proofs/Combined.antt): a reader may skip this file. Addition and
+-- subtraction as one function of the operation, the table file, the rows and the buffer.
 use mathlib.Core.Bool.{Bool}
 use mathlib.Core.List.{List}
 use Prim.Native.Nat.{ℕ, _+_}
@@ -10,6 +10,8 @@ use Rattle.faults.specs.declared.Refusal.{Refusal}
 use Rattle.faults.specs.Check.{judge}
 use Rattle.faults.specs.Outcome.{Outcome, facts, author, rows, atExit}
 use Rattle.faults.specs.Unless.{unless}
+use Rattle.ring.specs.declared.Operation.{Operation}
+use Rattle.digit_rules.specs.Digits.{operationCheck}
 use Rattle.reader_rules.specs.Table.{alphabetPart, inputPart, leafPart, wordPart, operationsOf}
 use Rattle.reader_rules.specs.TableFacts.{tableFacts}
 use Rattle.reader_rules.specs.Check.{tableCheck}
@@ -33,20 +35,24 @@ module _ (file : List ℕ) where
     unfoldable pub outputCheck : ℕ → ℕ → Refusal
     outputCheck p count = judge 27 (λ k. p + k) (λ k. rowAllowed (p + k)) count
 
-  module _ (first second : List ℕ) where
-    -- "the sum row": z(j) for j from 0 to n + h − 1
-    unfoldable pub sumRow : List ℕ
-    sumRow = rowPart (inputRow file first second) 0 (placeCount file first)
+module _ (op : Operation) (file first second : List ℕ) where
+  -- "the sum row": z(j) for j from 0 to n + h − 1
+  unfoldable pub resultRow : List ℕ
+  resultRow = rowPart file (inputRow op file first second) 0 (placeCount file first)
 
-    -- 27 over all places, then n + h
-    unfoldable pub digitsOutcome : Outcome AddedFacts
-    digitsOutcome = unless author (outputCheck (inputRow file first second) 0 (placeCount file first)) (facts (record { places = placeCount file first }))
+  -- 27 over all places, then n + h
+  unfoldable pub digitsOutcome : Outcome AddedFacts
+  digitsOutcome = unless author (outputCheck file (inputRow op file first second) 0 (placeCount file first)) (facts (record { places = placeCount file first }))
 
-    -- 1 to 13, then 20 to 23 with the sum buffer's length, then 27
-    unfoldable pub addOutcome : ℕ → Outcome AddedFacts
-    addOutcome room =
-        unless author (tableCheck file) (unless rows (rowCheck first second room (digitCount file) (tableFacts file .depth)) digitsOutcome)
+  -- before it what the operation asks: in subtraction 42
+  unfoldable pub askedOutcome : Outcome AddedFacts
+  askedOutcome = unless author (operationCheck op (alphabetPart file) (inputPart file)) digitsOutcome
 
--- "Addition writes the first n + h bytes of the sum buffer, the sum row; further bytes keep their contents"
-unfoldable pub addSum : List ℕ → List ℕ → List ℕ → List ℕ → List ℕ
-addSum file first second sum = atExit (addOutcome file first second (length sum)) sum (overwrite sum 0 (sumRow file first second))
+  -- before that 1 to 13, and 20 to 23 with the buffer's length
+  unfoldable pub resultOutcome : ℕ → Outcome AddedFacts
+  resultOutcome room =
+      unless author (tableCheck file) (unless rows (rowCheck first second room (digitCount file) (tableFacts file .depth)) askedOutcome)
+
+  -- "Addition writes the first n + h bytes of the sum buffer, the sum row; further bytes keep their contents", and so does subtraction
+  unfoldable pub resultIn : List ℕ → List ℕ
+  resultIn buffer = atExit (resultOutcome (length buffer)) buffer (overwrite buffer 0 resultRow)

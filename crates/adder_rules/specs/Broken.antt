@@ -1,11 +1,13 @@
--- What it means that rule 27 of document 01 is broken at a place, with no test and no search; the rules of addition in their order.
+-- What it means that rule 27 of document 01 is broken at a place, with no test and no search; the rules of addition and of subtraction
+-- in their order.
 use mathlib.Core.List.{List, [], _∷_}
 use Prim.Native.Nat.{ℕ, _+_, _<_, _≤_}
 use Rattle.faults.specs.Outcome.{author, rows}
 use Rattle.faults.specs.Rule.{Rule, rule}
 use Rattle.calls.specs.Answers.{Stage, stage}
-use Rattle.digit_rules.specs.Broken.{Listed}
-use Rattle.reader_rules.specs.Table.{alphabetPart}
+use Rattle.ring.specs.declared.Operation.{Operation}
+use Rattle.digit_rules.specs.Broken.{Listed, operationRules}
+use Rattle.reader_rules.specs.Table.{alphabetPart, inputPart}
 use Rattle.reader_rules.specs.TableFacts.{tableFacts}
 use Rattle.reader_rules.specs.Broken.{tableRules}
 use Rattle.row_rules.specs.Broken.{rowRules}
@@ -19,10 +21,11 @@ Broken27 file row from count p = (from ≤ p) × (p < from + count) × ¬ (Liste
 abbrev pub outputRules : List ℕ → List ℕ → ℕ → ℕ → List Rule
 outputRules file row from count = rule 27 (Broken27 file row from count) ∷ []
 
--- 1 to 13, 20 to 23, and "Last, in addition over all places": 27
-abbrev pub addStages : List ℕ → List ℕ → List ℕ → ℕ → List Stage
-addStages file first second room =
+-- 1 to 13, 20 to 23, in subtraction 42, and "Last, in addition over all places": 27
+abbrev pub resultStages : Operation → List ℕ → List ℕ → List ℕ → ℕ → List Stage
+resultStages op file first second room =
     stage author (tableRules file)
     ∷ stage rows (rowRules first second room (digitCount file) (tableFacts file .depth))
-    ∷ stage author (outputRules file (inputRow file first second) 0 (placeCount file first))
+    ∷ stage author (operationRules op (alphabetPart file) (inputPart file))
+    ∷ stage author (outputRules file (inputRow op file first second) 0 (placeCount file first))
     ∷ []

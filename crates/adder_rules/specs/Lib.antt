@@ -1,5 +1,6 @@
 pub mod Sum
 pub mod Input
 pub mod Add
+pub mod Calls
 pub mod Broken
-pub mod Summed
+pub mod Combined

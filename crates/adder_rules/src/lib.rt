@@ -1,6 +1,6 @@
-// No function: addition as a definition, with demand 1 and what the sum row is as theorems.
+// No function: addition and subtraction as one definition, with demand 1 and what the result is as theorems.
 
-// The facts of addition: n + h, the bytes written.
+// The facts of addition and of subtraction: n + h, the bytes written.
 pub struct AddedFacts {
     pub places: usize,
 }

@@ -9,12 +9,15 @@ use Rattle.lists.specs.Overwrite.{overwrite}
 use Rattle.faults.specs.declared.Fault.{Fault}
 use Rattle.faults.specs.Outcome.{Group, Outcome, facts, refused}
 use Rattle.faults.specs.Stated.{refusedBy}
+use Rattle.ring.specs.declared.Operation.{Operation}
 use Rattle.row_rules.specs.declared.Change.{Change}
+use Rattle.adder_rules.specs.declared.AddedFacts.{AddedFacts}
+use Rattle.adder_rules.specs.Add.{resultOutcome, resultIn}
 use Rattle.edit_rules.specs.State.{State}
 use Rattle.runner_rules.specs.Told.{groupsOf, numbersOf, valuesOf}
 use Rattle.runner_rules.specs.Run.{runAll}
 use Rattle.runner_rules.specs.Follows.{toldIn}
-use Rattle.answer_rules.specs.Answer.{outcomeWords, outcomeStatus, ifRoom, returned, answered}
+use Rattle.answer_rules.specs.Answer.{outcomeWords, outcomeStatus, ifRoom, returned, answered, addWords}
 use Rattle.answer_rules.specs.Fault.{faultWords}
 
 module _ {A : Type 0} where
@@ -52,6 +55,23 @@ returns-0 f = refl
 pub returns-1 : {F : Type 0} (o : Outcome F) (g : Group) (n p : ℕ) → o ≡ refused g n p → outcomeStatus o ≡ 1
 unfolding outcomeStatus
 returns-1 o g n p e = rw e refl
+
+-- addition's or subtraction's answer and buffer: where the answer array is short, and where they are as the operation leaves them
+module _ (op : Operation) (file first second buffer : List ℕ) (answer : List ℤ) where
+  abbrev o : Outcome AddedFacts
+  o = resultOutcome op file first second (length buffer)
+
+  abbrev OperationLeft : ℕ → List ℤ → List ℕ → Type 0
+  OperationLeft r last now =
+      ((r ≡ returned o answer) × (last ≡ answered addWords o answer)) × (now ≡ ifRoom 8 (length answer) (resultIn op file first second buffer) buffer)
+
+  pub not-operated : length answer < 8 → OperationLeft 2 answer buffer
+  not-operated h = (short addWords o answer h, no-room 8 (length answer) (resultIn op file first second buffer) buffer h)
+
+  pub as-operated : (given : Outcome AddedFacts) (r : ℕ) (last : List ℤ) (now : List ℕ) → 8 ≤ length answer → (given ≡ o) × (now ≡ resultIn op file first second buffer)
+      → (r ≡ outcomeStatus given) × (last ≡ overwrite answer 0 (outcomeWords addWords given)) → OperationLeft r last now
+  as-operated given r last now h call words =
+      (told addWords o answer given r last h (call .0) (words .0) (words .1), call .1 ∙ some-room 8 (length answer) (resultIn op file first second buffer) buffer h)
 
 -- a run's buffers and its three slices of answers: where the answer array is short, and where they are as the run leaves them
 module _ (room : ℕ) (file : List ℕ) (s : State) (es : List Change) (whose numbers values : List ℕ) where

@@ -17,9 +17,10 @@ use Rattle.table_rules.specs.declared.Facts.{Facts}
 use Rattle.table_rules.specs.Check.{checkFacts, checkOutcome}
 use Rattle.table_rules.proofs.Demand.{demand-1}
 use Rattle.adder_rules.specs.declared.AddedFacts.{AddedFacts}
-use Rattle.adder_rules.specs.Add.{addOutcome}
+use Rattle.ring.specs.declared.Operation.{Operation}
+use Rattle.adder_rules.specs.Add.{resultOutcome}
 use Rattle.adder_rules.proofs.Demand.{demand-1 as add-demand-1}
-use Rattle.adder_rules.proofs.Summed.{passed}
+use Rattle.adder_rules.proofs.Combined.{passed}
 use Rattle.edit_rules.specs.declared.EditedFacts.{EditedFacts}
 use Rattle.edit_rules.specs.Count.{tally, failing}
 use Rattle.edit_rules.specs.Edit.{count, editOutcome}
@@ -39,10 +40,10 @@ check-words file f is =
     rw (demand-1 file .only-facts f is) (cons≡ (word-small _ (omega (arith, r .depth-high))) (cons≡ (word-small _ (omega (arith, r .leaf-lies .counts, r .leaf-count .1))) (cons≡ (word-small _ (omega (arith, r .alphabet-lies .counts, r .alphabet-count .1))) refl)))
 
 -- n + h of an addition that isn't refused
-pub add-words : (file first second : List ℕ) (room : ℕ) (f : AddedFacts) → addOutcome file first second room ≡ facts f → addWords f ≡ pos (f .places) ∷ []
-add-words file first second room f is =
-    let ok = passed file first second room f is in
-    cons≡ (word-small _ (omega (arith, ap (λ (a : AddedFacts). a .places) (add-demand-1 file first second room .only-facts f is), ok .fit .short, ready-passed file (ok .table) .depth-high))) refl
+pub add-words : (op : Operation) (file first second : List ℕ) (room : ℕ) (f : AddedFacts) → resultOutcome op file first second room ≡ facts f → addWords f ≡ pos (f .places) ∷ []
+add-words op file first second room f is =
+    let ok = passed op file first second room f is in
+    cons≡ (word-small _ (omega (arith, ap (λ (a : AddedFacts). a .places) (add-demand-1 op file first second room .only-facts f is), ok .fit .short, ready-passed file (ok .table) .depth-high))) refl
 
 -- the count of an edit that is taken
 tally-most : (b : Bool) (n : ℕ) → tally b n ≤ suc n

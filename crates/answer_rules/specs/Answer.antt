@@ -40,7 +40,7 @@ answered words outcome answer = ifRoom 8 (length answer) (overwrite answer 0 (ou
 abbrev pub checkWords : Facts → List ℤ
 checkWords f = wordOf (f .depth) ∷ wordOf (f .leaves) ∷ wordOf (f .digits) ∷ []
 
--- the fact of addition: n + h
+-- the fact of addition and of subtraction: n + h
 abbrev pub addWords : AddedFacts → List ℤ
 addWords f = wordOf (f .places) ∷ []
 

@@ -1,24 +1,25 @@
--- Demand 1 for rules 5 to 8: the stage finds the first broken rule, as the plain statements have it, and nothing else.
-use mathlib.Core.Path.{_≡_, sym, _∙_}
+-- Demand 1 for rules 5 to 8, and for 42: the stage finds the first broken rule, as the plain statements have it, and nothing else.
+use mathlib.Core.Path.{_≡_, refl, sym, _∙_}
 use mathlib.Core.Bool.{true, false}
 use mathlib.Core.List.{List, [], _∷_}
-use mathlib.Core.Logic.{inl, inr, ⊎-elim}
+use mathlib.Core.Logic.{inl, inr}
 use Prim.Native.Nat.{ℕ, _+_, _<_}
 use native.Mathlib.Decide.{decLt}
 use native.Mathlib.Omega.{arith}
 use borrow.Author.Tests.{not-true, not-false}
-use Rattle.lists.proofs.Test.{clash, both, not-both}
+use Rattle.lists.proofs.Test.{clash}
 use Rattle.faults.specs.Check.{judge}
 use Rattle.faults.specs.Rule.{rule}
 use Rattle.faults.specs.Exact.{Exact}
-use Rattle.faults.proofs.Rule.{Decided, exact, places-decided, then-decided}
+use Rattle.faults.proofs.Rule.{Decided, passes, exact, places-decided, then-decided}
+use Rattle.ring.specs.declared.Operation.{Operation}
+use Rattle.ring.specs.declared.Operation.the-variants.{Plus, Minus}
 use Rattle.ring.proofs.Base.{expanding-test, square-test}
-use Rattle.digit_rules.specs.Record.{recordAt, elementCount}
-use Rattle.digit_rules.specs.Digits.{discriminantAllowed, expandingBase, baseCheck, recordAllowed, alphabetCheck, isSum, inputAllowed, inputsAllowed, inputCheck, digitCheck}
-use Rattle.digit_rules.specs.Broken.{Broken5, Broken6, Broken7, Sum, Broken8, digitRules}
-use Rattle.digit_rules.proofs.Record.{element-parts}
+use Rattle.digit_rules.specs.Record.{elementCount}
+use Rattle.digit_rules.specs.Digits.{discriminantAllowed, expandingBase, baseCheck, recordAllowed, alphabetCheck, pairsListed, inputsAllowed, inputCheck, digitCheck, operationCheck}
+use Rattle.digit_rules.specs.Broken.{Broken5, Broken6, Broken7, Broken8, digitRules, Broken42, operationRules}
 use Rattle.digit_rules.proofs.Allowed.{at-record, after-records}
-use Rattle.digit_rules.proofs.Sums.{record-says, record-fails, sum-passes, sum-says, sum-listed-in, sums-missing}
+use Rattle.digit_rules.proofs.Sums.{record-says, record-fails, pairs-listed, pair-missed, sum-listed-in, sums-missing}
 
 -- rule 5
 square-decided : (base : List ℕ) → Decided (rule 5 (Broken5 base) ∷ []) (judge 5 (λ k. k) (λ _. discriminantAllowed base) 1)
@@ -49,33 +50,31 @@ alphabet-decided alphabet =
 
 -- rule 8
 module _ (alphabet inputs : List ℕ) where
-  -- what an allowed record says
-  pub allowed-parts : (p : ℕ) → p < elementCount inputs → inputsAllowed alphabet inputs p ≡ true → (recordAllowed inputs p ≡ true) × (isSum alphabet (recordAt inputs p) ≡ true)
-  unfolding inputAllowed
-  allowed-parts p l t = both (recordAllowed inputs p) (isSum alphabet (recordAt inputs p)) (sym (at-record alphabet inputs p l) ∙ t)
-
   input-says : (p : ℕ) → Broken8 alphabet inputs p → (p < elementCount inputs + 1) × (inputsAllowed alphabet inputs p ≡ true → ⊥)
-  input-says p (inl b) = (omega (arith, b .0), λ t. record-says inputs p (allowed-parts p (b .0) t .0) b)
-  input-says p (inr (inl b)) = (omega (arith, b .0), λ t. b .1 (sum-says alphabet _ (element-parts inputs _) (allowed-parts p (b .0) t .1)))
-  input-says p (inr (inr b)) = (
+  input-says p (inl b) = (omega (arith, b .0), λ t. record-says inputs p (sym (at-record alphabet inputs p (b .0)) ∙ t) b)
+  input-says p (inr b) = (
     omega (arith, b .0),
     λ t. b .1 .2 (sum-listed-in alphabet inputs (sym (after-records alphabet inputs p (omega (arith, b .0))) ∙ t) (b .1 .0) (b .1 .1)),
   )
 
   input-fails : (p : ℕ) → p < elementCount inputs + 1 → inputsAllowed alphabet inputs p ≡ false → Broken8 alphabet inputs p
-  unfolding inputAllowed
   input-fails p l t =
       elim (decLt p (elementCount inputs)) [
-        | yes h ↦ ⊎-elim (λ a. inl (record-fails inputs p h a)) (λ b. inr (inl (h, no-sum b))) (not-both _ _ (sym (at-record alphabet inputs p h) ∙ t))
-        | no h ↦ inr (inr (omega arith, sums-missing alphabet inputs (sym (after-records alphabet inputs p (omega arith)) ∙ t)))
+        | yes h ↦ inl (record-fails inputs p h (sym (at-record alphabet inputs p h) ∙ t))
+        | no h ↦ inr (omega arith, sums-missing alphabet inputs (sym (after-records alphabet inputs p (omega arith)) ∙ t))
       ]
-    where
-      no-sum : isSum alphabet (recordAt inputs p) ≡ false → ¬ (Sum alphabet (recordAt inputs p))
-      no-sum f s = clash (sum-passes alphabet _ s) f
 
   input-decided : Decided (rule 8 (Broken8 alphabet inputs) ∷ []) (inputCheck alphabet inputs)
   unfolding inputCheck
   input-decided = places-decided (rule 8 (Broken8 alphabet inputs)) (inputsAllowed alphabet inputs) (elementCount inputs + 1) (omega arith) input-says input-fails
+
+-- rule 42, of subtraction; addition asks nothing more
+pub operation-decided : (op : Operation) (alphabet inputs : List ℕ) → Decided (operationRules op alphabet inputs) (operationCheck op alphabet inputs)
+unfolding operationCheck
+operation-decided Plus alphabet inputs = passes refl tt
+operation-decided Minus alphabet inputs =
+    places-decided (rule 42 (Broken42 alphabet inputs)) (pairsListed Minus alphabet inputs) (elementCount alphabet) (omega arith)
+    (λ p b. (b .0, λ t. b .1 .2 (pairs-listed Minus alphabet inputs p t (b .1 .0) (b .1 .1)))) (λ p l t. (l, pair-missed Minus alphabet inputs p t))
 
 pub digits-decided : (base alphabet inputs : List ℕ) → Decided (digitRules base alphabet inputs) (digitCheck base alphabet inputs)
 unfolding digitCheck

@@ -1,6 +1,6 @@
 -- The stage of rules 5 to 8 finds nothing exactly where base, alphabet and input digits are as document 01 asks; what its
 -- readers then know of indexes.
-use mathlib.Core.Path.{_≡_, refl, sym, ap₂, subst, _∙_}
+use mathlib.Core.Path.{_≡_, refl, sym, ap, subst, _∙_}
 use mathlib.Core.Bool.{true}
 use mathlib.Core.List.{List}
 use mathlib.Core.Logic.{inl, inr, ⊎-elim}
@@ -13,19 +13,22 @@ use Rattle.lists.proofs.Test.{clash}
 use Rattle.faults.specs.Check.{none}
 use Rattle.faults.specs.Rule.{Kept, rule}
 use Rattle.faults.proofs.Check.{then-kept, judge-passed}
+use Rattle.faults.proofs.Rule.{exact}
 use Rattle.layout_rules.specs.Section.{degree}
-use Rattle.ring.specs.Element.{zeros, plus}
-use Rattle.ring.proofs.Element.{same→≡, zeros-plus}
+use Rattle.ring.specs.Element.{zeros, plus, minus}
+use Rattle.ring.specs.declared.Operation.{Operation}
+use Rattle.ring.specs.declared.Operation.the-variants.{Plus, Minus}
+use Rattle.ring.specs.Operation.{combine}
+use Rattle.ring.proofs.Element.{same→≡}
 use Rattle.ring.proofs.Base.{expanding-test, square-test}
 use Rattle.digit_rules.specs.Record.{recordAt, elementCount}
-use Rattle.digit_rules.specs.Digits.{indexIn, discriminantAllowed, expandingBase, baseCheck, recordAllowed, alphabetCheck, sumIndex, inputsAllowed, inputCheck, digitCheck}
-use Rattle.digit_rules.specs.Broken.{Broken7, Broken8}
-use Rattle.digit_rules.specs.Formed.{DigitList, DigitsFormed}
-use Rattle.digit_rules.proofs.Record.{element-parts}
+use Rattle.digit_rules.specs.Digits.{indexIn, discriminantAllowed, expandingBase, baseCheck, recordAllowed, alphabetCheck, pairIndex, pairsListed, inputsAllowed, inputCheck, digitCheck, operationCheck}
+use Rattle.digit_rules.specs.Broken.{Broken7, Broken8, Broken42, operationRules, Symmetric}
+use Rattle.digit_rules.specs.Formed.{DigitList, DigitsFormed, AllListed}
 use Rattle.digit_rules.proofs.Index.{index-is, index-first}
-use Rattle.digit_rules.proofs.Allowed.{after-records}
-use Rattle.digit_rules.proofs.Sums.{record-says, sum-says, sum-listed-in}
-use Rattle.digit_rules.proofs.Broken.{allowed-parts, digits-exact}
+use Rattle.digit_rules.proofs.Allowed.{at-record, after-records}
+use Rattle.digit_rules.proofs.Sums.{record-says, pairs-listed, sum-listed-in}
+use Rattle.digit_rules.proofs.Broken.{operation-decided, digits-exact}
 
 digit-list : (part : List ℕ) → ((k : ℕ) → k < elementCount part → recordAllowed part k ≡ true) → DigitList part
 unfolding recordAllowed
@@ -58,8 +61,7 @@ module _ (base alphabet inputs : List ℕ) where
         no-square = λ s. clash (square-test _ .1 s) (not-true _ (judge-passed 5 _ _ 1 (omega arith) (b .0) 0 (omega arith)));
         expands = expanding-test _ _ _ _ .0 (judge-passed 6 _ _ 1 (omega arith) (b .1) 0 (omega arith));
         alphabet-digits = digit-list alphabet (judge-passed 7 (λ k. k) (recordAllowed alphabet) (elementCount alphabet) (omega arith) (d .0));
-        input-digits = digit-list inputs (λ k l. allowed-parts alphabet inputs k l (input k (omega arith)) .0);
-        only-sums = λ k l. sum-says alphabet _ (element-parts inputs _) (allowed-parts alphabet inputs k l (input k (omega arith)) .1);
+        input-digits = digit-list inputs (λ k l. sym (at-record alphabet inputs k l) ∙ input k (omega arith));
         all-sums = sum-listed-in alphabet inputs (sym (after-records alphabet inputs (elementCount inputs) (omega arith)) ∙ input (elementCount inputs) (omega arith));
       }
 
@@ -68,8 +70,7 @@ module _ (base alphabet inputs : List ℕ) where
     where
       inputs-are : (p : ℕ) → Broken8 alphabet inputs p → ⊥
       inputs-are p (inl b) = digits-kept inputs (is .input-digits) p b
-      inputs-are p (inr (inl b)) = b .1 (is .only-sums p (b .0))
-      inputs-are p (inr (inr b)) = b .1 .2 (is .all-sums (b .1 .0) (b .1 .1))
+      inputs-are p (inr b) = b .1 .2 (is .all-sums (b .1 .0) (b .1 .1))
 
 -- the index of a digit is found
 pub index-unique : (part : List ℕ) → DigitList part → (k : ℕ) → k < elementCount part → indexIn part (elementCount part) (recordAt part k) ≡ k
@@ -77,23 +78,37 @@ index-unique part list k l =
     let first = index-first part (elementCount part) (recordAt part k) k refl in
     list .distinct _ k (omega arith) l (index-is part (elementCount part) (recordAt part k) (omega arith))
 
--- the input index of a sum is that of an input digit, and that digit is the sum
-module _ (base alphabet inputs : List ℕ) (is : DigitsFormed base alphabet inputs) where
-  module _ (i j : ℕ) (l : i < elementCount alphabet) (m : j < elementCount alphabet) where
-    pub sum-index-below : sumIndex alphabet inputs i j < elementCount inputs
-    unfolding sumIndex
-    sum-index-below =
-        let w = is .all-sums (plus (recordAt alphabet i) (recordAt alphabet j)) (i, j, l, m, refl) in
-        omega (arith, w .1, index-first inputs (elementCount inputs) (plus (recordAt alphabet i) (recordAt alphabet j)) (w .0) (w .2))
+-- addition asks nothing
+pub nothing-asked : (alphabet inputs : List ℕ) → operationCheck Plus alphabet inputs .number ≡ 0
+unfolding operationCheck
+nothing-asked alphabet inputs = refl
 
-    pub sum-index-is : recordAt inputs (sumIndex alphabet inputs i j) ≡ plus (recordAt alphabet i) (recordAt alphabet j)
-    unfolding sumIndex
-    sum-index-is = index-is inputs (elementCount inputs) _ sum-index-below
+-- what the operation makes of any two alphabet digits is listed, where nothing that it asks is broken
+pub operation-listed : (op : Operation) (base alphabet inputs : List ℕ) → DigitsFormed base alphabet inputs → operationCheck op alphabet inputs .number ≡ 0 → AllListed op alphabet inputs
+unfolding operationCheck
+operation-listed Plus base alphabet inputs is none i j l m = is .all-sums _ (i, j, l, m, refl)
+operation-listed Minus base alphabet inputs is none i j l m =
+    pairs-listed Minus alphabet inputs i (judge-passed 42 (λ k. k) (pairsListed Minus alphabet inputs) (elementCount alphabet) (omega arith) none i l) j m
 
-  -- twice the digit zero is the input digit zero
-  pub sum-index-zero : 0 < elementCount alphabet → 0 < elementCount inputs → sumIndex alphabet inputs 0 0 ≡ 0
-  sum-index-zero l m =
-      is .input-digits .distinct _ 0 (sum-index-below 0 0 l l) m (sum-index-is 0 0 l l ∙ ap₂ plus zero zero ∙ zeros-plus (zeros degree) degree (omega arith) ∙ sym (is .input-digits .zero-first m))
-    where
-      zero : recordAt alphabet 0 ≡ zeros degree
-      zero = is .alphabet-digits .zero-first l
+-- its input index is that of an input digit, and that digit is what the operation makes
+module _ (op : Operation) (alphabet inputs : List ℕ) (is : AllListed op alphabet inputs) (i j : ℕ) (l : i < elementCount alphabet) (m : j < elementCount alphabet) where
+  pub pair-index-below : pairIndex op alphabet inputs i j < elementCount inputs
+  unfolding pairIndex
+  pair-index-below =
+      let w = is i j l m in
+      omega (arith, w .1, index-first inputs (elementCount inputs) (combine op (recordAt alphabet i) (recordAt alphabet j)) (w .0) (w .2))
+
+  pub pair-index-is : recordAt inputs (pairIndex op alphabet inputs i j) ≡ combine op (recordAt alphabet i) (recordAt alphabet j)
+  unfolding pairIndex
+  pair-index-is = index-is inputs (elementCount inputs) _ pair-index-below
+
+-- "−a listed for every a listed": then every difference is a sum
+pub symmetric-listed : (base alphabet inputs : List ℕ) → DigitsFormed base alphabet inputs → Symmetric alphabet → operationCheck Minus alphabet inputs ≡ none
+unfolding minus
+symmetric-listed base alphabet inputs is mirrored =
+    exact (operationRules Minus alphabet inputs) _ (operation-decided Minus alphabet inputs) .passed .1 (kept, tt)
+  where
+    kept : (p : ℕ) → Broken42 alphabet inputs p → ⊥
+    kept p b =
+        let w = mirrored (b .1 .0) (b .1 .1) in
+        b .1 .2 (is .all-sums _ (p, w .0, b .0, w .1, ap (plus (recordAt alphabet p)) (sym (w .2))))

@@ -1,15 +1,18 @@
--- Pinned by digits-exact and the laws of sums (proofs/Broken.antt, proofs/Formed.antt): a reader may skip this file. Rules 5 to 8 of
--- document 01 as a check of three sections, given as lists of bytes, of a file or not.
-use mathlib.Core.Bool.{Bool, true, false, _&&_, not}
+-- Pinned by digits-exact, operation-decided and the laws of indexes (proofs/Broken.antt, proofs/Formed.antt): a reader may skip this
+-- file. Rules 5 to 8, and 42, as checks of three sections, given as lists of bytes, of a file or not.
+use mathlib.Core.Bool.{Bool, true, false, not}
 use mathlib.Core.List.{List}
 use Prim.Native.Nat.{ℕ, zero, suc, _+_, _*_, _<_}
 use lib.IntN.{ℤ}
 use lib.Dec.{ltb, eqb}
 use Rattle.lists.specs.Scan.{every, firstFailing}
 use Rattle.faults.specs.declared.Refusal.{Refusal}
-use Rattle.faults.specs.Check.{judge, _then_}
+use Rattle.faults.specs.Check.{none, judge, _then_}
 use Rattle.layout_rules.specs.Section.{degree}
-use Rattle.ring.specs.Element.{zeros, plus, minus, part}
+use Rattle.ring.specs.Element.{zeros, part}
+use Rattle.ring.specs.declared.Operation.{Operation}
+use Rattle.ring.specs.declared.Operation.the-variants.{Plus, Minus}
+use Rattle.ring.specs.Operation.{combine}
 use Rattle.ring.specs.Tests.{Within, same, expanding, perfectSquare}
 use Rattle.digit_rules.specs.Record.{recordAt, elementCount}
 use Rattle.digit_rules.specs.Base.{sOf, tOf, uOf, vOf}
@@ -50,35 +53,28 @@ recordAllowed part (suc k) = eqb (indexIn part (suc k) (recordAt part (suc k))) 
 unfoldable pub alphabetCheck : List ℕ → Refusal
 alphabetCheck alphabet = judge 7 (λ k. k) (recordAllowed alphabet) (elementCount alphabet)
 
--- the input index of the sum of alphabet digits i and j; the record count where the sum is missing
-unfoldable pub sumIndex : List ℕ → List ℕ → ℕ → ℕ → ℕ
-sumIndex alphabet inputs i j = indexIn inputs (elementCount inputs) (plus (recordAt alphabet i) (recordAt alphabet j))
+-- the input index of what the operation makes of alphabet digits i and j; the record count where that is missing
+unfoldable pub pairIndex : Operation → List ℕ → List ℕ → ℕ → ℕ → ℕ
+pairIndex op alphabet inputs i j = indexIn inputs (elementCount inputs) (combine op (recordAt alphabet i) (recordAt alphabet j))
 
--- the sum of alphabet digits i and j is an input digit; and so for every j up to i, for every i
-unfoldable pub sumListed : List ℕ → List ℕ → ℕ → ℕ → Bool
-sumListed alphabet inputs i j = ltb (sumIndex alphabet inputs i j) (elementCount inputs)
+-- it is an input digit; and so for every j that i is taken with, up to i in a sum, whose digits may change places; and for every i
+unfoldable pub pairListed : Operation → List ℕ → List ℕ → ℕ → ℕ → Bool
+pairListed op alphabet inputs i j = ltb (pairIndex op alphabet inputs i j) (elementCount inputs)
 
-unfoldable pub sumsListed : List ℕ → List ℕ → ℕ → Bool
-sumsListed alphabet inputs i = every (sumListed alphabet inputs i) 0 (i + 1)
+abbrev pub partners : Operation → ℕ → ℕ → ℕ
+partners Plus n i = i + 1
+partners Minus n i = n
 
-unfoldable pub allSumsListed : List ℕ → List ℕ → Bool
-allSumsListed alphabet inputs = every (sumsListed alphabet inputs) 0 (elementCount alphabet)
+unfoldable pub pairsListed : Operation → List ℕ → List ℕ → ℕ → Bool
+pairsListed op alphabet inputs i = every (pairListed op alphabet inputs i) 0 (partners op (elementCount alphabet) i)
 
--- x is no sum of alphabet digit i and one up to it; and so for all i
-unfoldable pub noSumWith : List ℕ → List ℤ → ℕ → Bool
-noSumWith alphabet x i = eqb (indexIn alphabet (i + 1) (minus x (recordAt alphabet i))) (i + 1)
+unfoldable pub allPairsListed : Operation → List ℕ → List ℕ → Bool
+allPairsListed op alphabet inputs = every (pairsListed op alphabet inputs) 0 (elementCount alphabet)
 
-unfoldable pub isSum : List ℕ → List ℤ → Bool
-isSum alphabet x = not (every (noSumWith alphabet x) 0 (elementCount alphabet))
-
--- 8: the same for input digits, or a record is no sum
-unfoldable pub inputAllowed : List ℕ → List ℕ → ℕ → Bool
-inputAllowed alphabet inputs k = recordAllowed inputs k && isSum alphabet (recordAt inputs k)
-
--- if only a sum is missing, the place is the record count: judged after the records
+-- 8: the same for input digits; the place of a missing sum is the record count: judged after the records
 unfoldable pub inputsAllowed : List ℕ → List ℕ → ℕ → Bool
 inputsAllowed alphabet inputs k =
-    elim (ltb k (elementCount inputs)) [ true ↦ inputAllowed alphabet inputs k | false ↦ allSumsListed alphabet inputs ]
+    elim (ltb k (elementCount inputs)) [ true ↦ recordAllowed inputs k | false ↦ allPairsListed Plus alphabet inputs ]
 
 unfoldable pub inputCheck : List ℕ → List ℕ → Refusal
 inputCheck alphabet inputs = judge 8 (λ k. k) (inputsAllowed alphabet inputs) (elementCount inputs + 1)
@@ -86,3 +82,8 @@ inputCheck alphabet inputs = judge 8 (λ k. k) (inputsAllowed alphabet inputs) (
 -- rules 5 to 8
 unfoldable pub digitCheck : List ℕ → List ℕ → List ℕ → Refusal
 digitCheck base alphabet inputs = baseCheck base then alphabetCheck alphabet then inputCheck alphabet inputs
+
+-- 42: of subtraction, a difference isn't an input digit; every sum is one by 8
+unfoldable pub operationCheck : Operation → List ℕ → List ℕ → Refusal
+operationCheck Plus alphabet inputs = none
+operationCheck Minus alphabet inputs = judge 42 (λ k. k) (pairsListed Minus alphabet inputs) (elementCount alphabet)

@@ -5,6 +5,8 @@ use Prim.Native.Nat.{ℕ, _<_}
 use lib.IntN.{ℤ}
 use Rattle.layout_rules.specs.Section.{degree}
 use Rattle.ring.specs.Element.{zeros}
+use Rattle.ring.specs.declared.Operation.{Operation}
+use Rattle.ring.specs.Operation.{combine}
 use Rattle.ring.specs.Base.{discriminant, Square, Expanding}
 use Rattle.digit_rules.specs.Record.{recordAt, elementCount}
 use Rattle.digit_rules.specs.Base.{sOf, tOf, uOf, vOf}
@@ -15,11 +17,15 @@ pub record DigitList (part : List ℕ) : Type 0 where
   pub zero-first : 0 < elementCount part → recordAt part 0 ≡ zeros degree
   pub distinct : (i j : ℕ) → i < elementCount part → j < elementCount part → recordAt part i ≡ recordAt part j → i ≡ j
 
--- "The input digits are exactly the sums of two alphabet digits, each once"
+-- "the input digits hold every sum and may hold further digits" (document 02, job 2), each once
 pub record DigitsFormed (base alphabet inputs : List ℕ) : Type 0 where
   pub no-square : ¬ (Square (discriminant (sOf base) (tOf base)))
   pub expands : Expanding (sOf base) (tOf base) (uOf base) (vOf base)
   pub alphabet-digits : DigitList alphabet
   pub input-digits : DigitList inputs
-  pub only-sums : (k : ℕ) → k < elementCount inputs → Sum alphabet (recordAt inputs k)
   pub all-sums : (x : List ℤ) → Sum alphabet x → Listed inputs x
+
+-- what the operation makes of any two alphabet digits is an input digit
+abbrev pub AllListed : Operation → List ℕ → List ℕ → Type 0
+AllListed op alphabet inputs =
+    (i j : ℕ) → i < elementCount alphabet → j < elementCount alphabet → Listed inputs (combine op (recordAt alphabet i) (recordAt alphabet j))

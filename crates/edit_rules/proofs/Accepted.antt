@@ -1,4 +1,4 @@
--- With a table that the check accepts the edit never says 27; and what demand 3's statement says of the bytes behind the sum row and of
+-- With a table that the check accepts the edit never says 27, and with none 42; and what demand 3's statement says of the bytes behind the sum row and of
 -- the whole list.
 use mathlib.Core.Path.{_≡_, subst}
 use mathlib.Core.List.{List}
@@ -12,7 +12,10 @@ use Rattle.faults.specs.Outcome.{Group, facts, refused}
 use Rattle.faults.specs.Rule.{Rule, AllKept}
 use Rattle.faults.proofs.Numbers.{number-of}
 use Rattle.calls.specs.Answers.{FirstFault}
+use Rattle.calls.proofs.Numbers.{fault-number}
 use Rattle.numeration.specs.Code.{Inputs}
+use Rattle.ring.specs.declared.Operation.the-variants.{Plus}
+use Rattle.digit_rules.proofs.Formed.{nothing-asked}
 use Rattle.reader_rules.specs.Table.{inputCount}
 use Rattle.reader_rules.specs.TableFacts.{tableFacts}
 use Rattle.reader_rules.specs.Broken.{tableRules}
@@ -55,7 +58,7 @@ never-27 file accepted e s g p is = go (demand-1 file e s .first g 27 p (omega a
     inputs : AllKept rows → AllKept asked → Inputs (inputCount file) (newInputs file e s)
     inputs r d =
         let passes = accepted-passes file accepted in
-        row-inputs file (changed e 0 (s .first)) (changed e 1 (s .second)) (length (s .sum)) passes (new-fit file e s passes (fit r) (edit-fit d))
+        row-inputs Plus file (changed e 0 (s .first)) (changed e 1 (s .second)) (length (s .sum)) passes (nothing-asked _ _) (new-fit file e s passes (fit r) (edit-fit d))
 
     go : FirstFault (editStages file e s) g 27 p → ⊥
     go (inl f) = omega (arith, number-of (λ n. n ≤ 13) (tableRules file) (omega arith) 27 p (f .1))
@@ -64,6 +67,11 @@ never-27 file accepted e s g p is = go (demand-1 file e s .first g 27 p (omega a
     go (inr (t, inr (r, inr (d, inl (o, inl b))))) = b .1 .broken .2 (demand-2 file .0 accepted .1 (newInputs file e s) (inputs r d) p)
     go (inr (t, inr (r, inr (d, inl (o, inr b))))) = b .1
     go (inr (t, inr (r, inr (d, inr f)))) = f .1
+
+-- "never in addition or the edit"
+pub never-42 : (file : List ℕ) (e : Change) (s : State) (g : Group) (p : ℕ) → editOutcome file e s ≡ refused g 42 p → ⊥
+never-42 file e s g p is =
+    omega (arith, fault-number (λ n. n ≤ 27) (editStages file e s) (omega arith) g 42 p (demand-1 file e s .first g 42 p (omega arith) .0 is))
 
 -- the bytes behind the sum row are the buffer's own, as one part
 pub rest-kept : (file : List ℕ) (s : State) (es : List Change) (now : State) → Follows file s es now → drop (placeCount file (s .first)) (now .sum) ≡ drop (placeCount file (s .first)) (s .sum)

@@ -17,7 +17,10 @@ use Rattle.lists.proofs.Test.{both, clash}
 use Rattle.faults.specs.Outcome.{Outcome, facts}
 use Rattle.faults.proofs.Exit.{exit-written}
 use Rattle.digit_rules.specs.Record.{recordAt}
-use Rattle.digit_rules.specs.Digits.{sumIndex}
+use Rattle.numeration.specs.Elements.{elements}
+use Rattle.ring.specs.declared.Operation.the-variants.{Plus}
+use Rattle.digit_rules.proofs.Formed.{nothing-asked}
+use Rattle.digit_rules.specs.Digits.{pairIndex}
 use Rattle.numeration.specs.Changes.{Changes, storeTaken, storeAll}
 use Rattle.numeration.specs.Renewal.{Local, digitRow, renewed}
 use Rattle.numeration.proofs.Changes.{stored-taken, stored-other, renewed-right, valid-storeTaken, valid-storeAll}
@@ -37,10 +40,11 @@ use Rattle.place_rules.specs.Place.{indexAt}
 use Rattle.adder_rules.specs.declared.AddedFacts.{AddedFacts}
 use Rattle.adder_rules.specs.Sum.{digitCount, placeCount, rowDigit}
 use Rattle.adder_rules.specs.Input.{inputOf, inputRow, rowIndex}
-use Rattle.adder_rules.specs.Add.{rowPart, sumRow, addOutcome, addSum}
+use Rattle.adder_rules.specs.Add.{rowPart, resultRow, resultIn}
+use Rattle.adder_rules.specs.Calls.{addOutcome, addSum}
 use Rattle.adder_rules.proofs.Rows.{same-index}
-use Rattle.adder_rules.proofs.Summed.{sum-row-long, passed, summed}
-use Rattle.adder_rules.proofs.Accepted.{row-inputs, accepted-passes, accepted-adds}
+use Rattle.adder_rules.proofs.Combined.{result-row-long, passed, combined}
+use Rattle.adder_rules.proofs.Accepted.{row-inputs, accepted-passes, accepted-gives}
 use Rattle.edit_rules.specs.declared.EditedFacts.{EditedFacts}
 use Rattle.edit_rules.specs.Edit.{newSum, editOutcome, editState}
 use Rattle.edit_rules.specs.State.{State, state}
@@ -51,17 +55,17 @@ use Rattle.edit_rules.proofs.Step.{taken-state, lent-state, step}
 
 -- input indexes away from the place that a change names
 inputs-elsewhere : (file : List ℕ) (e : Change) (first second : List ℕ) (k : ℕ) → (e .place ≡ k → ⊥)
-    → getD (inputRow file (changed e 0 first) (changed e 1 second)) k 0 ≡ getD (inputRow file first second) k 0
+    → getD (inputRow Plus file (changed e 0 first) (changed e 1 second)) k 0 ≡ getD (inputRow Plus file first second) k 0
 unfolding inputRow
 inputs-elsewhere file e first second k other =
     let new : List ℕ = changed e 0 first in
     let also : List ℕ = changed e 1 second in
     let n : length new ≡ length first = length-changed e 0 first in
     let away : e .place ≡ 0 + k → ⊥ = λ q. other (q ∙ zero-add k) in
-    let inputOf-at : ℕ → ℕ → ℕ = sumIndex (alphabetPart file) (inputPart file) in
+    let inputOf-at : ℕ → ℕ → ℕ = pairIndex Plus (alphabetPart file) (inputPart file) in
     elim (decLt k (length first)) [
-      | yes h ↦ getD-span (inputOf file new also) 0 (length new) k 0 (omega (arith, n)) ∙ (λ i. inputOf-at (changed-elsewhere e 0 first (0 + k) away i) (changed-elsewhere e 1 second (0 + k) away i)) ∙ sym (getD-span (inputOf file first second) 0 (length first) k 0 h)
-      | no h ↦ List·getD-eq-default (inputRow file new also) 0 {n = k} (omega (arith, n, length-span (inputOf file new also) 0 (length new))) ∙ sym (List·getD-eq-default (inputRow file first second) 0 {n = k} (omega (arith, length-span (inputOf file first second) 0 (length first))))
+      | yes h ↦ getD-span (inputOf Plus file new also) 0 (length new) k 0 (omega (arith, n)) ∙ (λ i. inputOf-at (changed-elsewhere e 0 first (0 + k) away i) (changed-elsewhere e 1 second (0 + k) away i)) ∙ sym (getD-span (inputOf Plus file first second) 0 (length first) k 0 h)
+      | no h ↦ List·getD-eq-default (inputRow Plus file new also) 0 {n = k} (omega (arith, n, length-span (inputOf Plus file new also) 0 (length new))) ∙ sym (List·getD-eq-default (inputRow Plus file first second) 0 {n = k} (omega (arith, length-span (inputOf Plus file first second) 0 (length first))))
     ]
 
 -- the edits taken, stored in turn, are the changes taken of the law of lists
@@ -86,13 +90,13 @@ module _ (file : List ℕ) (accepted : checkOutcome file ≡ facts (checkFacts f
       record { known-row = leb-true _ _ row; in-row = ltb-true _ _ place; index = ltb-true _ _ digit }
 
   -- every digit has an alphabet index
-  index-below : (r : List ℕ × List ℕ) → Rows r → (j : ℕ) → rowIndex file (inputRow file (r .0) (r .1)) j < digitCount file
+  index-below : (r : List ℕ × List ℕ) → Rows r → (j : ℕ) → rowIndex file (inputRow Plus file (r .0) (r .1)) j < digitCount file
   unfolding indexAt inAlphabet
   index-below r v j =
       let passes = accepted-passes file accepted in
-      let all = row-inputs file (r .0) (r .1) room passes (v .0) in
-      let listed = demand-2 file .0 accepted .1 (inputRow file (r .0) (r .1)) all j in
-      ltb-true _ _ (listed-test (alphabetPart file) (rowDigit file (inputRow file (r .0) (r .1)) j) .1 listed)
+      let all = row-inputs Plus file (r .0) (r .1) room passes (nothing-asked _ _) (v .0) in
+      let listed = demand-2 file .0 accepted .1 (inputRow Plus file (r .0) (r .1)) all j in
+      ltb-true _ _ (listed-test (alphabetPart file) (rowDigit file (inputRow Plus file (r .0) (r .1)) j) .1 listed)
 
   -- what the list law asks: a change keeps the kind of rows, and reaches p to p + h
   pub local : Local k Rows
@@ -115,7 +119,7 @@ module _ (file : List ℕ) (accepted : checkOutcome file ≡ facts (checkFacts f
 
     row-long : (r : List ℕ × List ℕ) → length (digitRow k r ++ rest) ≡ room
     unfolding digitRow rowEdits
-    row-long r = length-append (digitRow k r) rest ∙ ap (λ (m : ℕ). m + length rest) (length-span (rowIndex file (inputRow file (r .0) (r .1))) 0 (n + tableFacts file .depth)) ∙ filled
+    row-long r = length-append (digitRow k r) rest ∙ ap (λ (m : ℕ). m + length rest) (length-span (rowIndex file (inputRow Plus file (r .0) (r .1))) 0 (n + tableFacts file .depth)) ∙ filled
 
     fit-at : (r : List ℕ × List ℕ) → Rows r → RowsFit (r .0) (r .1) (length (digitRow k r ++ rest)) (digitCount file) (tableFacts file .depth)
     fit-at r v = subst (λ (m : ℕ). RowsFit (r .0) (r .1) m (digitCount file) (tableFacts file .depth)) (sym (row-long r)) (v .0)
@@ -126,7 +130,7 @@ module _ (file : List ℕ) (accepted : checkOutcome file ≡ facts (checkFacts f
     new-is e r =
         let p = e .place in
         let h = tableFacts file .depth in
-        let inputs : List ℕ = inputRow file (changed e 0 (r .0)) (changed e 1 (r .1)) in
+        let inputs : List ℕ = inputRow Plus file (changed e 0 (r .0)) (changed e 1 (r .1)) in
         let part : span (λ j. rowIndex file inputs (p + j)) 0 (h + 1) ≡ span (rowIndex file inputs) p (suc h) = span-ext (λ j. rowIndex file inputs (p + j)) (rowIndex file inputs) 0 p (h + 1) (λ j l. ap (λ (m : ℕ). rowIndex file inputs (p + m)) (zero-add j)) ∙ ap (span (rowIndex file inputs) p) (add-one h) in
         let long : length (span (λ j. rowIndex file inputs (p + j)) 0 (h + 1)) ≡ suc h = length-span (λ j. rowIndex file inputs (p + j)) 0 (h + 1) ∙ add-one h in
         λ i. take p (digitRow k r ++ rest) ++ (part i ++ drop (p + long i) (digitRow k r ++ rest))
@@ -181,7 +185,7 @@ module _ (file : List ℕ) (accepted : checkOutcome file ≡ facts (checkFacts f
   Kept r = RowsFit (r .0) (r .1) (length (s .sum)) (digitCount file) (tableFacts file .depth) × (length (r .0) ≡ n)
 
   start : Kept (s .first, s .second)
-  start = (passed file (s .first) (s .second) (length (s .sum)) f given .fit, refl)
+  start = (passed Plus file (s .first) (s .second) (length (s .sum)) f given .fit, refl)
 
   behind : List ℕ
   behind = drop (placeCount file (s .first)) (s .sum)
@@ -192,19 +196,19 @@ module _ (file : List ℕ) (accepted : checkOutcome file ≡ facts (checkFacts f
 
   adds : (r : List ℕ × List ℕ) → Kept r → addOutcome file (r .0) (r .1) (length (s .sum)) ≡ facts (record { places = placeCount file (s .first) })
   adds r v =
-      accepted-adds file accepted (r .0) (r .1) (length (s .sum)) (no-number _ (rows-pass (r .0) (r .1) (length (s .sum)) (digitCount file) (tableFacts file .depth) (v .0)))
+      accepted-gives file accepted Plus (r .0) (r .1) (length (s .sum)) (no-number _ (rows-pass (r .0) (r .1) (length (s .sum)) (digitCount file) (tableFacts file .depth) (v .0))) (nothing-asked _ _)
       ∙ (λ i. facts (record { places = v .1 i + tableFacts file .depth }))
 
   -- the sum row with what stands behind it is what a whole addition leaves
   whole-is : (r : List ℕ × List ℕ) → Kept r → digitRow kind r ++ behind ≡ addSum file (r .0) (r .1) (s .sum)
-  unfolding addSum sumRow rowPart digitRow rowEdits overwrite behind
+  unfolding resultIn resultRow rowPart digitRow rowEdits overwrite behind
   whole-is r v =
-      let index = rowIndex file (inputRow file (r .0) (r .1)) in
+      let index = rowIndex file (inputRow Plus file (r .0) (r .1)) in
       let places : n + tableFacts file .depth ≡ placeCount file (r .0) = ap (λ (m : ℕ). m + tableFacts file .depth) (sym (v .1)) in
-      let row : span index 0 (n + tableFacts file .depth) ≡ sumRow file (r .0) (r .1) = ap (span index 0) places ∙ span-ext index (λ j. index (0 + j)) 0 0 (placeCount file (r .0)) (λ j h. ap index (sym (zero-add (0 + j)))) in
-      let long : placeCount file (s .first) ≡ 0 + length (sumRow file (r .0) (r .1)) = places ∙ sym (zero-add _ ∙ sum-row-long file (r .0) (r .1)) in
+      let row : span index 0 (n + tableFacts file .depth) ≡ resultRow Plus file (r .0) (r .1) = ap (span index 0) places ∙ span-ext index (λ j. index (0 + j)) 0 0 (placeCount file (r .0)) (λ j h. ap index (sym (zero-add (0 + j)))) in
+      let long : placeCount file (s .first) ≡ 0 + length (resultRow Plus file (r .0) (r .1)) = places ∙ sym (zero-add _ ∙ result-row-long Plus file (r .0) (r .1)) in
       (λ i. row i ++ drop (long i) (s .sum))
-      ∙ exit-written (addOutcome file (r .0) (r .1) (length (s .sum))) (record { places = placeCount file (s .first) }) (s .sum) (overwrite (s .sum) 0 (sumRow file (r .0) (r .1))) (sym (adds r v))
+      ∙ exit-written (addOutcome file (r .0) (r .1) (length (s .sum))) (record { places = placeCount file (s .first) }) (s .sum) (overwrite (s .sum) 0 (resultRow Plus file (r .0) (r .1))) (sym (adds r v))
 
   stored : List Change → List ℕ × List ℕ
   stored es = storeAll kind es (s .first, s .second)
@@ -225,7 +229,7 @@ module _ (file : List ℕ) (accepted : checkOutcome file ≡ facts (checkFacts f
       let v = kept es in
       let sum : List ℕ = digitRow kind r ++ behind in
       let is : sum ≡ addSum file (r .0) (r .1) (s .sum) = whole-is r v in
-      let t = summed file (r .0) (r .1) (s .sum) (record { places = placeCount file (s .first) }) (adds r v) in
+      let t = combined Plus file (r .0) (r .1) (s .sum) (record { places = placeCount file (s .first) }) (adds r v) in
       let places : placeCount file (s .first) ≡ placeCount file (r .0) = ap (λ (m : ℕ). m + tableFacts file .depth) (sym (v .1)) in
       subst (Follows file s es) (sym (buffers-are es)) (record {
         rows-stored = stored-edits file n es (s .first, s .second);
@@ -236,14 +240,14 @@ module _ (file : List ℕ) (accepted : checkOutcome file ≡ facts (checkFacts f
         whole = is;
         further = λ j h. ap (λ (x : List ℕ). getD x j 0) is ∙ t .further j (omega (arith, places));
         long = ap length is ∙ t .long;
-        value-is = (λ i. valueOf file (take (places i) (is i))) ∙ t .value-is;
+        value-is = (λ i. valueOf file (take (places i) (is i))) ∙ t .value-is ∙ (unfold elements in refl);
       })
 
   fit-of : (es : List Change) → RowsFit (run file s es .buffers .first) (run file s es .buffers .second) (length (run file s es .buffers .sum)) (digitCount file) (tableFacts file .depth) × (length (run file s es .buffers .first) ≡ n)
   fit-of es =
       let r = stored es in
       let v = kept es in
-      let long = ap length (whole-is r v) ∙ summed file (r .0) (r .1) (s .sum) (record { places = placeCount file (s .first) }) (adds r v) .long in
+      let long = ap length (whole-is r v) ∙ combined Plus file (r .0) (r .1) (s .sum) (record { places = placeCount file (s .first) }) (adds r v) .long in
       subst (λ (b : State). RowsFit (b .first) (b .second) (length (b .sum)) (digitCount file) (tableFacts file .depth) × (length (b .first) ≡ n)) (sym (buffers-are es))
       (subst (λ (m : ℕ). RowsFit (r .0) (r .1) m (digitCount file) (tableFacts file .depth)) (sym long) (v .0), v .1)
 

@@ -17,6 +17,8 @@ use Rattle.faults.specs.Unless.{unless}
 use Rattle.faults.proofs.Exit.{exit-lent, exit-written}
 use Rattle.faults.proofs.Unless.{unless-found, unless-none}
 use Rattle.numeration.specs.Code.{Inputs}
+use Rattle.ring.specs.declared.Operation.the-variants.{Plus}
+use Rattle.digit_rules.proofs.Formed.{nothing-asked}
 use Rattle.reader_rules.specs.Table.{inputCount}
 use Rattle.reader_rules.specs.TableFacts.{tableFacts}
 use Rattle.reader_rules.specs.Check.{tableCheck}
@@ -124,18 +126,18 @@ module _ (file : List ℕ) (e : Change) (s : State) (passes : tableCheck file .n
     bytes-asked =
         (omega arith, omega (arith, fit .short), λ k h. new-fit .first-indexes k (omega (arith, length-changed e 0 (s .first))), λ k h. new-fit .second-indexes k (omega (arith, length-changed e 1 (s .second), fit .same-length)))
 
-    module _ (row : List ℕ) (is : row ≡ partRow (inputOf file (changed e 0 (s .first)) (changed e 1 (s .second))) from end) where
+    module _ (row : List ℕ) (is : row ≡ partRow (inputOf Plus file (changed e 0 (s .first)) (changed e 1 (s .second))) from end) where
       inside : end ≤ length (changed e 0 (s .first))
       inside = omega (arith, length-changed e 0 (s .first))
 
       pub row-inputs : Inputs (inputCount file) row
       row-inputs =
-          rw is (part-inputs file (changed e 0 (s .first)) (changed e 1 (s .second)) (length (s .sum)) passes new-fit from end (omega arith) inside)
+          rw is (part-inputs Plus file (changed e 0 (s .first)) (changed e 1 (s .second)) (length (s .sum)) passes (nothing-asked _ _) new-fit from end (omega arith) inside)
 
       pub row-same : (k : ℕ) → e .place ≤ k + tableFacts file .depth → k < e .place + reach file → getD row k 0 ≡ getD (newInputs file e s) k 0
       row-same k near below =
           ap (λ (r : List ℕ). getD r k 0) is
-          ∙ part-same file (changed e 0 (s .first)) (changed e 1 (s .second)) (length (s .sum)) passes new-fit from end (omega arith) inside k (omega arith) (λ h. far k (omega arith) (omega (arith, length-changed e 0 (s .first))))
+          ∙ part-same Plus file (changed e 0 (s .first)) (changed e 1 (s .second)) (length (s .sum)) passes (nothing-asked _ _) new-fit from end (omega arith) inside k (omega arith) (λ h. far k (omega arith) (omega (arith, length-changed e 0 (s .first))))
 
       -- the digits that were found
       module _ (found : ℕ) (first-outside : found ≡ firstFailing (λ k. rowAllowed file row (e .place + k)) 0 (d + 1)) where

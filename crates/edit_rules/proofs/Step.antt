@@ -18,6 +18,8 @@ use Rattle.faults.proofs.Exit.{exit-written}
 use Rattle.faults.proofs.Unless.{unless-found, unless-none}
 use Rattle.calls.specs.Answers.{stage, Answers}
 use Rattle.calls.proofs.Answers.{told-end, told-unless, told-answers, unless-given}
+use Rattle.ring.specs.declared.Operation.the-variants.{Plus}
+use Rattle.digit_rules.proofs.Formed.{nothing-asked}
 use Rattle.reader_rules.specs.TableFacts.{tableFacts}
 use Rattle.reader_rules.specs.Check.{tableCheck}
 use Rattle.reader_rules.proofs.Kept.{no-number}
@@ -106,7 +108,7 @@ module _ (file : List ℕ) (accepted : checkOutcome file ≡ facts (checkFacts f
   -- a taken edit: no digit is outside the alphabet
   given : Fits → editOutcome file e s ≡ facts (record { count = count file e s })
   given asked =
-      let kept : outputCheck file (newInputs file e s) (e .place) (reach file) ≡ none = digits-kept file accepted (newInputs file e s) (row-inputs file (changed e 0 (s .first)) (changed e 1 (s .second)) (length (s .sum)) passes (new-fit file e s passes fit asked)) (e .place) (reach file) in
+      let kept : outputCheck file (newInputs file e s) (e .place) (reach file) ≡ none = digits-kept file accepted (newInputs file e s) (row-inputs Plus file (changed e 0 (s .first)) (changed e 1 (s .second)) (length (s .sum)) passes (nothing-asked _ _) (new-fit file e s passes fit asked)) (e .place) (reach file) in
       let known : askedFound file e s .number ≡ 0 = no-number _ (edit-passes (e .row) (e .place) (e .digit) (length (s .first)) (digitCount file) asked) in
       sym (edit-passed file e s passes rows-none known) ∙ sym (renew-given file e s (count file e s) refl kept)
 

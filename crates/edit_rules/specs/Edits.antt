@@ -6,6 +6,7 @@ use Rattle.numeration.specs.Changes.{Changes}
 use Rattle.reader_rules.specs.TableFacts.{tableFacts}
 use Rattle.row_rules.specs.declared.Change.{Change}
 use Rattle.row_rules.specs.Changed.{changed}
+use Rattle.ring.specs.declared.Operation.the-variants.{Plus}
 use Rattle.adder_rules.specs.Input.{inputRow, rowIndex}
 use Rattle.adder_rules.specs.Sum.{digitCount}
 use Rattle.edit_rules.specs.Follows.{takes}
@@ -16,7 +17,7 @@ rowEdits file n =
     record {
       reach = tableFacts file .depth;
       places = n + tableFacts file .depth;
-      digit = λ r j. rowIndex file (inputRow file (r .0) (r .1)) j;
+      digit = λ r j. rowIndex file (inputRow Plus file (r .0) (r .1)) j;
       alphabet = λ d. ltb d (digitCount file);
       place = λ e. e .place;
       taken = takes n (digitCount file);

@@ -15,10 +15,11 @@ use Rattle.row_rules.specs.declared.Change.{Change}
 use Rattle.row_rules.specs.Changed.{changed, noChange}
 use Rattle.row_rules.specs.Broken.{editRules}
 use Rattle.row_rules.specs.Fit.{EditFits}
-use Rattle.adder_rules.specs.Summed.{DigitsAdded}
+use Rattle.ring.specs.declared.Operation.the-variants.{Plus}
+use Rattle.adder_rules.specs.Combined.{DigitsCombined}
 use Rattle.adder_rules.specs.Sum.{digitCount, placeCount, rowDigit}
 use Rattle.adder_rules.specs.Input.{inputRow, rowIndex}
-use Rattle.adder_rules.specs.Add.{addOutcome, addSum}
+use Rattle.adder_rules.specs.Calls.{addOutcome, addSum}
 use Rattle.edit_rules.specs.declared.EditedFacts.{EditedFacts}
 use Rattle.edit_rules.specs.Count.{differing}
 use Rattle.edit_rules.specs.State.{State}
@@ -39,10 +40,10 @@ pub record Follows (file : List ℕ) (s : State) (es : List Change) (now : State
   -- the rows are those of the addition with the digits of the edits taken stored in turn
   pub rows-stored : (now .first, now .second) ≡ storeEdits (length (s .first)) (digitCount file) es (s .first, s .second)
   -- what is converted are the sums of the digits of the rows as they then stand, and zero outside them
-  pub inputs : DigitsAdded file (now .first) (now .second)
+  pub inputs : DigitsCombined Plus file (now .first) (now .second)
   -- the sum's byte j is the index of z(j) for the rows as they then stand, for every j below n + h
-  pub index : (j : ℕ) → j < placeCount file (s .first) → getD (now .sum) j 0 ≡ rowIndex file (inputRow file (now .first) (now .second)) j
-  pub digit : (j : ℕ) → j < placeCount file (s .first) → recordAt (alphabetPart file) (getD (now .sum) j 0) ≡ rowDigit file (inputRow file (now .first) (now .second)) j
+  pub index : (j : ℕ) → j < placeCount file (s .first) → getD (now .sum) j 0 ≡ rowIndex file (inputRow Plus file (now .first) (now .second)) j
+  pub digit : (j : ℕ) → j < placeCount file (s .first) → recordAt (alphabetPart file) (getD (now .sum) j 0) ≡ rowDigit file (inputRow Plus file (now .first) (now .second)) j
   -- which is what a whole addition writes
   pub adds : addOutcome file (now .first) (now .second) (length (s .sum)) ≡ facts (record { places = placeCount file (s .first) })
   pub whole : now .sum ≡ addSum file (now .first) (now .second) (s .sum)

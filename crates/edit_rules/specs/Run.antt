@@ -3,7 +3,7 @@ use mathlib.Core.List.{List, [], _∷_}
 use Prim.Native.Nat.{ℕ}
 use Rattle.faults.specs.Outcome.{Outcome}
 use Rattle.row_rules.specs.declared.Change.{Change}
-use Rattle.adder_rules.specs.Add.{addSum}
+use Rattle.adder_rules.specs.Calls.{addSum}
 use Rattle.edit_rules.specs.declared.EditedFacts.{EditedFacts}
 use Rattle.edit_rules.specs.Edit.{editOutcome, editState}
 use Rattle.edit_rules.specs.State.{State, state}

@@ -4,6 +4,7 @@ use Prim.Native.Nat.{ℕ, _+_}
 use Rattle.reader_rules.specs.TableFacts.{tableFacts}
 use Rattle.row_rules.specs.declared.Change.{Change}
 use Rattle.row_rules.specs.Changed.{changed}
+use Rattle.ring.specs.declared.Operation.the-variants.{Plus}
 use Rattle.adder_rules.specs.Input.{inputRow}
 
 -- "both rows, the sum": the buffers that an edit is given and may write
@@ -21,4 +22,4 @@ reach file = tableFacts file .depth + 1
 
 -- the input digits of "the new rows": those with the edit's digit stored
 abbrev pub newInputs : List ℕ → Change → State → List ℕ
-newInputs file e s = inputRow file (changed e 0 (s .first)) (changed e 1 (s .second))
+newInputs file e s = inputRow Plus file (changed e 0 (s .first)) (changed e 1 (s .second))

@@ -17,7 +17,7 @@ use Rattle.layout_rules.specs.Length.{lengthAllowed, lengthCheck}
 use Rattle.layout_rules.specs.Limit.{numberPlace, numberCount, numberAllowed, limitCheckIn, limitCheckOf, limitCheck}
 use Rattle.layout_rules.specs.Number.{unsignedAt, toSigned}
 use Rattle.digit_rules.specs.BaseMatrix.{omegaOf, betaOf, baseMatrix}
-use Rattle.digit_rules.specs.Digits.{discriminantAllowed, expandingBase, baseCheck, recordAllowed, alphabetCheck, sumIndex, sumListed, sumsListed, allSumsListed, noSumWith, isSum, inputAllowed, inputsAllowed, inputCheck, digitCheck, indexIn}
+use Rattle.digit_rules.specs.Digits.{discriminantAllowed, expandingBase, baseCheck, recordAllowed, alphabetCheck, pairIndex, pairListed, pairsListed, allPairsListed, inputsAllowed, inputCheck, digitCheck, operationCheck, indexIn}
 use Rattle.digit_rules.specs.Record.{elementAt}
 use Rattle.numeration.specs.LeafOf.{agree, largest, begins, leafOf, depth}
 use Rattle.numeration.specs.Prefix.{lower, precedes}
@@ -39,7 +39,7 @@ use Rattle.row_rules.specs.Check.{lengthsAllowed, indexAllowed, indexCheck, roo
 use Rattle.place_rules.specs.Place.{indexAt}
 use Rattle.place_rules.specs.Helpers.{partRow}
 use Rattle.adder_rules.specs.Input.{inputRow}
-use Rattle.adder_rules.specs.Add.{rowPart, outputCheck, sumRow, digitsOutcome, addOutcome, addSum}
+use Rattle.adder_rules.specs.Add.{rowPart, outputCheck, resultRow, digitsOutcome, askedOutcome, resultOutcome, resultIn}
 use Rattle.edit_rules.specs.Count.{tally, failing}
 use Rattle.edit_rules.specs.Edit.{newSum, count, renewOutcome, editOutcome, editState}
 use Rattle.edit_rules.specs.Run.{editAll, editAnswers, run}
@@ -48,5 +48,5 @@ use Rattle.runner_rules.specs.Run.{after, runOutcome, runAll}
 use Rattle.marked.specs.Exercises.{answer, ternWithout, table as exercises, AllRight}
 
 pub all-right : AllRight exercises
-unfolding overwrite firstFailing every span baseTrace baseNorm expanding discriminant squareBelow perfectSquare plus negative minus scale timesOmega product unit same dot times columns matrixOf trace alternating without determinant judge _then_ inTurn unless sizeAllowed expectedStart pairAllowed directoryCheck lengthAllowed lengthCheck numberPlace numberCount numberAllowed limitCheckIn limitCheckOf limitCheck unsignedAt toSigned omegaOf betaOf baseMatrix discriminantAllowed expandingBase baseCheck recordAllowed alphabetCheck sumIndex sumListed sumsListed allSumsListed noSumWith isSum inputAllowed inputsAllowed inputCheck digitCheck elementAt indexIn agree lower largest begins leafOf depth precedes window outDigit weightInto weightAt convert convertRow elements tail fits pairDigitAt pairString pairRow pairDigit pairPasses upperPasses lowestBadUpper expectedWordStart leafAllowed placeCheck wordIndexCheck orderCheck coverCheck zeroCheck leafCheck runEnd everyRun covered wordGiven weightGiven layoutCheck digitCheckOf leafCheckOf tableCheck partFacts tableFacts readOutcome pairCheckOf checkFacts checkOutcome inAlphabet badLower badUpper pairCheck badPair unsigned16 signed16 joined record4 leafRecords directory sections fileOf ternInputs ternWeight ternLeaves ternFile binInputs binWeight2 binWeight1 binLeavesOf binLeaves binFile changed lengthsAllowed indexAllowed indexCheck roomAllowed rowCheck oneRowCheck editCheck partRow indexAt inputRow rowPart outputCheck sumRow digitsOutcome addOutcome atExit addSum tally failing newSum count renewOutcome editOutcome editState editAll editAnswers run answer ternWithout exercises editList after runOutcome runAll
+unfolding overwrite firstFailing every span baseTrace baseNorm expanding discriminant squareBelow perfectSquare plus negative minus scale timesOmega product unit same dot times columns matrixOf trace alternating without determinant judge _then_ inTurn unless sizeAllowed expectedStart pairAllowed directoryCheck lengthAllowed lengthCheck numberPlace numberCount numberAllowed limitCheckIn limitCheckOf limitCheck unsignedAt toSigned omegaOf betaOf baseMatrix discriminantAllowed expandingBase baseCheck recordAllowed alphabetCheck pairIndex pairListed pairsListed allPairsListed inputsAllowed inputCheck digitCheck operationCheck elementAt indexIn agree lower largest begins leafOf depth precedes window outDigit weightInto weightAt convert convertRow elements tail fits pairDigitAt pairString pairRow pairDigit pairPasses upperPasses lowestBadUpper expectedWordStart leafAllowed placeCheck wordIndexCheck orderCheck coverCheck zeroCheck leafCheck runEnd everyRun covered wordGiven weightGiven layoutCheck digitCheckOf leafCheckOf tableCheck partFacts tableFacts readOutcome pairCheckOf checkFacts checkOutcome inAlphabet badLower badUpper pairCheck badPair unsigned16 signed16 joined record4 leafRecords directory sections fileOf ternInputs ternWeight ternLeaves ternFile binInputs binWeight2 binWeight1 binLeavesOf binLeaves binFile changed lengthsAllowed indexAllowed indexCheck roomAllowed rowCheck oneRowCheck editCheck partRow indexAt inputRow rowPart outputCheck resultRow digitsOutcome askedOutcome resultOutcome atExit resultIn tally failing newSum count renewOutcome editOutcome editState editAll editAnswers run answer ternWithout exercises editList after runOutcome runAll
 all-right = (refl, (refl, (refl, (refl, (refl, (refl, (refl, (refl, (refl, (refl, (refl, (refl, (refl, (refl, tt))))))))))))))

@@ -12,7 +12,7 @@ use Rattle.faults.specs.Outcome.{Outcome, author, facts, refused}
 use Rattle.table_rules.specs.declared.Facts.{Facts}
 use Rattle.table_rules.specs.Check.{checkOutcome}
 use Rattle.adder_rules.specs.declared.AddedFacts.{AddedFacts}
-use Rattle.adder_rules.specs.Add.{addOutcome, addSum}
+use Rattle.adder_rules.specs.Calls.{addOutcome, addSum}
 use Rattle.row_rules.specs.declared.Change.{Change}
 use Rattle.edit_rules.specs.declared.EditedFacts.{EditedFacts}
 use Rattle.edit_rules.specs.State.{State, state}

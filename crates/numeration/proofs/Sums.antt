@@ -1,13 +1,13 @@
 -- Consequences of the group's laws, the two forms of a row's value, and the sum that telescopes.
 use mathlib.Core.Path.{_≡_, refl, sym, ap, ap₂, _∙_}
-use mathlib.Core.List.{List, [], _∷_}
+use mathlib.Core.List.{List, [], _∷_, _++_, map}
 use Prim.Native.Nat.{ℕ, zero, suc, _+_, _≤_}
 use native.Mathlib.Omega.{arith}
 use native.Mathlib.Decide.{decLt}
 use native.Mathlib.Nat.{add-zero, zero-add, add-suc, suc-add}
-use lib.ListN.{List·getD-eq-default}
+use lib.ListN.{replicate, List·getD-eq-default}
 use Rattle.lists.specs.Span.{span}
-use Rattle.lists.proofs.Span.{length-span, getD-span}
+use Rattle.lists.proofs.Span.{length-span, getD-span, span-ext}
 use Rattle.numeration.specs.Group.{Operations}
 use Rattle.numeration.specs.Laws.{AdditiveGroup, Elements}
 use Rattle.numeration.specs.Conversion.{outDigit}
@@ -59,6 +59,12 @@ module _ {A : Type 0} (o : Operations A) (Element : A → Type 0) (g : AdditiveG
         | yes l ↦ rw (getD-span f j n k (o .none) l) (h (j + k))
         | no l ↦ rw (List·getD-eq-default (span f j n) (o .none) {n = k} (omega (arith, length-span f j n))) (g .element-none)
       ]
+
+  -- the digits of a row of indexes
+  pub elements-map : (f : ℕ → A) → ((i : ℕ) → Element (f i)) → (row : List ℕ) → Elements o Element (map f row)
+  elements-map f h [] k = g .element-none
+  elements-map f h (i ∷ row) zero = h i
+  elements-map f h (i ∷ row) (suc k) = elements-map f h row k
 
   pub element-topDown : (xs : List A) → Elements o Element xs → Element (topDown o xs)
   unfolding topDown
@@ -133,10 +139,39 @@ module _ {A : Type 0} (o : Operations A) (Element : A → Type 0) (g : AdditiveG
   unfolding value power
   value-topDown xs h = valueFrom-topDown 0 xs h
 
+  -- of digits given by a function of the place
+  span-value : (f : ℕ → A) → ((i : ℕ) → Element (f i)) → (n : ℕ) → value o (span f 0 n) ≡ topDown o (span f 0 n)
+  span-value f e n = value-topDown (span f 0 n) (elements-span f e 0 n)
+
+  pub element-value : (xs : List A) → Elements o Element xs → Element (value o xs)
+  element-value xs h = rw (value-topDown xs h) (element-topDown xs h)
+
   -- the value of sums place by place is the sum of the values
   pub value-sum : (f h : ℕ → A) → ((i : ℕ) → Element (f i)) → ((i : ℕ) → Element (h i)) → (n : ℕ) → value o (span (λ i. o .sum (f i) (h i)) 0 n) ≡ o .sum (value o (span f 0 n)) (value o (span h 0 n))
   value-sum f h ef eh n =
-      rw (from (λ i. o .sum (f i) (h i)) (λ i. g .element-sum (ef i) (eh i)), from f ef, from h eh) (topDown-sum f h ef eh 0 n)
-    where
-      from : (f : ℕ → A) → ((i : ℕ) → Element (f i)) → value o (span f 0 n) ≡ topDown o (span f 0 n)
-      from f e = value-topDown (span f 0 n) (elements-span f e 0 n)
+      rw (span-value (λ i. o .sum (f i) (h i)) (λ i. g .element-sum (ef i) (eh i)) n, span-value f ef n, span-value h eh n) (topDown-sum f h ef eh 0 n)
+
+  -- and that of differences their difference: what is taken away, added back, gives the first
+  pub value-difference : (f h : ℕ → A) → ((i : ℕ) → Element (f i)) → ((i : ℕ) → Element (h i)) → (n : ℕ) → value o (span (λ i. o .difference (f i) (h i)) 0 n) ≡ o .difference (value o (span f 0 n)) (value o (span h 0 n))
+  value-difference f h ef eh n =
+      let d : ℕ → A = λ i. o .difference (f i) (h i) in
+      let ed : (i : ℕ) → Element (d i) = λ i. g .element-difference (ef i) (eh i) in
+      let x = element-value (span f 0 n) (elements-span f ef 0 n) in
+      let y = element-value (span h 0 n) (elements-span h eh 0 n) in
+      sum-cancel (element-value (span d 0 n) (elements-span d ed 0 n)) (g .element-difference x y) y
+      (sym (value-sum d h ed eh n) ∙ ap (value o) (span-ext (λ i. o .sum (d i) (h i)) f 0 0 n (λ i l. g .cancel (ef (0 + i)) (eh (0 + i)))) ∙ sym (g .cancel x y))
+
+  -- zeros on top keep the value
+  valueFrom-zeros : (j n : ℕ) → valueFrom o j (replicate n (o .none)) ≡ o .none
+  unfolding valueFrom
+  valueFrom-zeros j zero = refl
+  valueFrom-zeros j (suc n) = ap₂ (o .sum) (power-none j) (valueFrom-zeros (suc j) n) ∙ unit-right (g .element-none)
+
+  valueFrom-padded : (j : ℕ) (xs : List A) (n : ℕ) → valueFrom o j (xs ++ replicate n (o .none)) ≡ valueFrom o j xs
+  unfolding valueFrom
+  valueFrom-padded j [] n = valueFrom-zeros j n
+  valueFrom-padded j (x ∷ xs) n = ap (o .sum (power o j x)) (valueFrom-padded (suc j) xs n)
+
+  pub value-padded : (xs : List A) (n : ℕ) → value o (xs ++ replicate n (o .none)) ≡ value o xs
+  unfolding value
+  value-padded xs n = valueFrom-padded 0 xs n

@@ -11,12 +11,13 @@ use lib.IntN.{ℤ}
 use borrow.Author.Tests.{lt-ltb, le-ltb}
 use Rattle.lists.specs.Span.{span}
 use Rattle.lists.proofs.Span.{getD-span}
-use Rattle.ring.specs.Element.{plus}
+use Rattle.ring.specs.declared.Operation.{Operation}
+use Rattle.ring.specs.Operation.{combine}
 use Rattle.digit_rules.specs.Record.{recordAt, elementCount}
-use Rattle.digit_rules.specs.Digits.{sumIndex}
-use Rattle.digit_rules.specs.Formed.{DigitsFormed}
+use Rattle.digit_rules.specs.Digits.{pairIndex}
+use Rattle.digit_rules.specs.Formed.{AllListed}
 use Rattle.digit_rules.proofs.Index.{index-high, index-is}
-use Rattle.digit_rules.proofs.Formed.{sum-index-is}
+use Rattle.digit_rules.proofs.Formed.{pair-index-is}
 use Rattle.numeration.specs.Group.{Operations}
 use Rattle.numeration.specs.Code.{Code, Begins, HasLeaf}
 use Rattle.numeration.specs.LeafOf.{leafOf}
@@ -31,15 +32,15 @@ use Rattle.table_rules.specs.Pairs.{inAlphabet}
 use Rattle.place_rules.specs.Place.{inputAt, alphabetIndex, digitAt, indexAt, digitAllowed}
 use Rattle.place_rules.specs.Helpers.{Begun}
 
--- a sum's index is at most the count of input digits
-pub sum-index-high : (alphabet inputs : List ℕ) (i j : ℕ) → sumIndex alphabet inputs i j ≤ elementCount inputs
-unfolding sumIndex
-sum-index-high alphabet inputs i j = index-high inputs (elementCount inputs) _
+-- an input index is at most the count of input digits
+pub pair-index-high : (op : Operation) (alphabet inputs : List ℕ) (i j : ℕ) → pairIndex op alphabet inputs i j ≤ elementCount inputs
+unfolding pairIndex
+pair-index-high op alphabet inputs i j = index-high inputs (elementCount inputs) _
 
--- w(j) is the sum of the two digits at place j, where both are alphabet indexes and the digits are those of a table
-pub input-is : (base alphabet inputs : List ℕ) → DigitsFormed base alphabet inputs → (first second : List ℕ) (j : ℕ) → getD first j 0 < elementCount alphabet → getD second j 0 < elementCount alphabet
-    → recordAt inputs (inputAt alphabet inputs first second j) ≡ plus (recordAt alphabet (getD first j 0)) (recordAt alphabet (getD second j 0))
-input-is base alphabet inputs is first second j low also = sum-index-is base alphabet inputs is (getD first j 0) (getD second j 0) low also
+-- w(j) is what the operation makes of the two digits at place j, where both are alphabet indexes and all that it makes is listed
+pub input-is : (op : Operation) (alphabet inputs : List ℕ) → AllListed op alphabet inputs → (first second : List ℕ) (j : ℕ) → getD first j 0 < elementCount alphabet → getD second j 0 < elementCount alphabet
+    → recordAt inputs (inputAt op alphabet inputs first second j) ≡ combine op (recordAt alphabet (getD first j 0)) (recordAt alphabet (getD second j 0))
+input-is op alphabet inputs is first second j low also = pair-index-is op alphabet inputs is (getD first j 0) (getD second j 0) low also
 
 -- digit k of the window below place j
 pub window-outside : (row : List ℕ) (j k : ℕ) → j ≤ k → 0 ≡ window row j k

@@ -5,16 +5,17 @@ use mathlib.Core.List.{List}
 use Prim.Native.Nat.{ℕ}
 use lib.ListN.{getD}
 use lib.IntN.{ℤ}
+use Rattle.ring.specs.declared.Operation.{Operation}
 use Rattle.digit_rules.specs.Record.{recordAt, elementCount}
-use Rattle.digit_rules.specs.Digits.{indexIn, sumIndex}
+use Rattle.digit_rules.specs.Digits.{indexIn, pairIndex}
 use Rattle.numeration.specs.Group.{Operations}
 use Rattle.numeration.specs.Conversion.{convert}
 use Rattle.leaf_rules.specs.Leaf.{codeOf}
 use Rattle.table_rules.specs.Pairs.{inAlphabet}
 
--- "w(j) is the sum of the two digits at place j": its input index
-abbrev pub inputAt : List ℕ → List ℕ → List ℕ → List ℕ → ℕ → ℕ
-inputAt alphabet inputs first second j = sumIndex alphabet inputs (getD first j 0) (getD second j 0)
+-- "w(j) is the sum of the two digits at place j", in subtraction the first minus the second: its input index
+abbrev pub inputAt : Operation → List ℕ → List ℕ → List ℕ → List ℕ → ℕ → ℕ
+inputAt op alphabet inputs first second j = pairIndex op alphabet inputs (getD first j 0) (getD second j 0)
 
 -- the alphabet index of an element; the alphabet's size where it isn't in the alphabet
 abbrev pub alphabetIndex : List ℕ → List ℤ → ℕ

@@ -31,8 +31,8 @@ pub record WellFormed (file : List ℕ) : Type 0 where
   pub alphabet-limits : RecordsWithin 64 (alphabetPart file)
   pub input-limits : RecordsWithin 128 (inputPart file)
   pub weight-limits : (k : ℕ) → k < leafCount (leafPart file) → Within 1024 (weightOf (leafPart file) k)
-  -- s² + 4t is no square, the base is expanding, "Record 0 of sections 1 and 2 is the digit zero", "The input digits are exactly
-  -- the sums of two alphabet digits, each once"
+  -- s² + 4t is no square, the base is expanding, "Record 0 of sections 1 and 2 is the digit zero", no record repeats another, and "the
+  -- input digits hold every sum and may hold further digits" (document 02, job 2)
   pub digits : DigitsFormed (basePart file) (alphabetPart file) (inputPart file)
   -- "Leaf words are 1 to 8 long and follow one another in section 4 without gaps, in increasing order of index at the first place
   -- where neighbours differ. No word begins another. Leaf 0 has the weight zero. Every string of eight input digits begins with a

@@ -6,3 +6,4 @@ pub mod Base
 pub mod Discriminant
 pub mod Conjugates
 pub mod Parts
+pub mod Combined

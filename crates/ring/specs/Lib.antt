@@ -1,4 +1,5 @@
 pub mod Element
+pub mod Operation
 pub mod Matrix
 pub mod Product
 pub mod Determinant

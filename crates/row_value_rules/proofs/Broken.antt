@@ -2,29 +2,29 @@
 -- place where one does.
 use mathlib.Core.Path.{_≡_, refl, sym, ap, subst, _∙_}
 use mathlib.Core.Bool.{Bool, true, false}
-use mathlib.Core.List.{List, [], _∷_}
+use mathlib.Core.List.{List}
 use mathlib.Core.Logic.{_↔_, inl}
-use Prim.Native.Nat.{ℕ, zero, suc, _*_, _<_, _≤_}
+use Prim.Native.Nat.{ℕ, zero, suc, _<_, _≤_}
 use native.Mathlib.Decide.{decLt}
 use native.Mathlib.Nat.{le-antisymm}
 use native.Mathlib.Omega.{arith}
-use lib.ListN.{length, length-map, length-replicate, List·getD-map, drop-of-length-le}
+use lib.ListN.{length, length-map, List·getD-map, drop-of-length-le}
 use lib.Seq.{drop-cons}
-use lib.IntN.{ℤ, pos}
+use lib.IntN.{ℤ}
 use Rattle.ring.specs.Element.{zeros}
 use Rattle.ring.proofs.Parts.{within-part}
 use Rattle.numeration.specs.Value.{value, topDown}
-use Rattle.numeration.specs.Laws.{Elements, HasParts}
+use Rattle.numeration.specs.Laws.{HasParts}
 use Rattle.numeration.specs.Elements.{elements}
 use Rattle.numeration.proofs.Elements.{elements-group}
-use Rattle.numeration.proofs.Sums.{value-topDown}
+use Rattle.numeration.proofs.Sums.{elements-map, value-topDown}
 use Rattle.faults.specs.Outcome.{Outcome, facts, refused, rows}
 use Rattle.faults.specs.Check.{refusal, none}
 use Rattle.faults.specs.Unless.{unless}
 use Rattle.faults.specs.Exact.{Exact}
 use Rattle.faults.proofs.Unless.{unless-found, unless-none}
 use Rattle.faults.proofs.Rule.{Decided, passes, refuses, exact}
-use Rattle.layout_rules.specs.Section.{degree, elementSize}
+use Rattle.layout_rules.specs.Section.{degree}
 use Rattle.digit_rules.specs.Record.{recordAt}
 use Rattle.digit_rules.proofs.Record.{element-parts}
 use Rattle.row_value_rules.specs.Total.{totalLimit, limited, placeDigit, nextTotal, worthFrom, worthOf, refusalOf, worthCheck}
@@ -146,18 +146,12 @@ module _ (base : List (List ℤ)) (alphabet row : List ℕ) where
           apart : _≡_ {A = Outcome (List ℤ)} (facts x) (refused rows 28 q) → ⊥
           apart r = let z : _≡_ {A = ℕ} 0 1 = cc in omega arith
 
-  -- the digits are elements
-  digits-elements : (row : List ℕ) → Elements (elements degree base) (HasParts degree) (digitsOf alphabet row)
-  unfolding elements
-  digits-elements [] k = length-replicate degree (pos 0)
-  digits-elements (i ∷ row) zero = element-parts alphabet (i * elementSize)
-  digits-elements (i ∷ row) (suc k) = digits-elements row k
-
   -- Where the value call gives an element, it is the value of the row: the sum of its digits, each times the base to the power of
   -- its place
   pub element-is-value : length base ≡ degree → (x : List ℤ) → worthOf base alphabet row ≡ facts x → x ≡ value (elements degree base) (digitsOf alphabet row)
   element-is-value h x e =
-      element-exactly x .0 e .0 ∙ sym (value-topDown (elements degree base) (HasParts degree) (elements-group degree base h) (digitsOf alphabet row) (digits-elements row))
+      element-exactly x .0 e .0 ∙ sym (value-topDown (elements degree base) (HasParts degree) (elements-group degree base h) (digitsOf alphabet row)
+      (elements-map (elements degree base) (HasParts degree) (elements-group degree base h) (recordAt alphabet) (λ i. element-parts alphabet _) row))
 
   -- Demand 1 for rule 28, in a list of rules
   pub worth-decided : Decided (valueRules base alphabet row) (worthCheck base alphabet row)

@@ -9,7 +9,7 @@ use Rattle.row_rules.specs.declared.Change.{Change}
 use Rattle.table_rules.specs.declared.Facts.{Facts}
 use Rattle.table_rules.specs.Check.{checkOutcome}
 use Rattle.adder_rules.specs.declared.AddedFacts.{AddedFacts}
-use Rattle.adder_rules.specs.Add.{addOutcome, addSum}
+use Rattle.adder_rules.specs.Calls.{addOutcome, addSum}
 use Rattle.edit_rules.specs.State.{State, state}
 use Rattle.edit_rules.specs.Run.{editAll, editAnswers, run}
 use Rattle.runner_rules.specs.declared.RanFacts.{RanFacts}

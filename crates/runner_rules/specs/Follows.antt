@@ -9,7 +9,7 @@ use Rattle.faults.specs.Outcome.{Group, Outcome, facts, refused, author, rows, 
 use Rattle.row_rules.specs.declared.Change.{Change}
 use Rattle.table_rules.specs.Check.{checkFacts, checkOutcome}
 use Rattle.adder_rules.specs.Sum.{placeCount}
-use Rattle.adder_rules.specs.Add.{addOutcome}
+use Rattle.adder_rules.specs.Calls.{addOutcome}
 use Rattle.edit_rules.specs.declared.EditedFacts.{EditedFacts}
 use Rattle.edit_rules.specs.State.{State}
 use Rattle.edit_rules.specs.Run.{run}

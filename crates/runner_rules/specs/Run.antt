@@ -7,7 +7,7 @@ use lib.ListN.{length}
 use Rattle.faults.specs.Outcome.{Outcome, facts, refused, atExit}
 use Rattle.row_rules.specs.declared.Change.{Change}
 use Rattle.table_rules.specs.Check.{checkOutcome}
-use Rattle.adder_rules.specs.Add.{addOutcome}
+use Rattle.adder_rules.specs.Calls.{addOutcome}
 use Rattle.edit_rules.specs.State.{State}
 use Rattle.edit_rules.specs.Run.{Ran, run}
 use Rattle.runner_rules.specs.List.{editList}

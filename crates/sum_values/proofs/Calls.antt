@@ -20,9 +20,10 @@ use Rattle.row_rules.proofs.Broken.{one-row-exact}
 use Rattle.table_rules.specs.Check.{checkFacts, checkOutcome}
 use Rattle.adder_rules.specs.declared.AddedFacts.{AddedFacts}
 use Rattle.adder_rules.specs.Sum.{placeCount}
-use Rattle.adder_rules.specs.Add.{addOutcome}
+use Rattle.ring.specs.declared.Operation.the-variants.{Plus}
+use Rattle.adder_rules.specs.Calls.{addOutcome}
 use Rattle.adder_rules.proofs.Accepted.{accepted-passes}
-use Rattle.adder_rules.proofs.Summed.{passed}
+use Rattle.adder_rules.proofs.Combined.{passed}
 use Rattle.edit_rules.specs.State.{State}
 use Rattle.edit_rules.specs.Run.{run}
 use Rattle.edit_rules.proofs.Follows.{demand-3}
@@ -48,7 +49,7 @@ pub sum-too-long : (file : List ℕ) → checkOutcome file ≡ facts (checkFacts
 unfolding valueOutcome rowOutcome
 sum-too-long file accepted s f given es k h over =
     let row = take (placeCount file (s .first)) (run file s (take k es) .buffers .sum) in
-    let room : placeCount file (s .first) ≤ length (s .sum) = passed file (s .first) (s .second) (length (s .sum)) f given .fit .room in
+    let room : placeCount file (s .first) ≤ length (s .sum) = passed Plus file (s .first) (s .second) (length (s .sum)) f given .fit .room in
     let long : 256 < length row = omega (arith, length-take (placeCount file (s .first)) (run file s (take k es) .buffers .sum), demand-3 file accepted s f given es .after k h .long) in
     let found : oneRowCheck row (elementCount (alphabetPart file)) ≡ refusal 20 0 = one-row-exact row (elementCount (alphabetPart file)) .refused 20 0 (omega arith) .1 (inl (refl, record { broken = (refl, long); earliest = λ q l. absurd (not-suc-le-zero l) })) in
     unless-none author (tableCheck file) _ (accepted-passes file accepted) ∙ rw found (unless-found rows (refusal 20 0) _ (λ z. omega arith))

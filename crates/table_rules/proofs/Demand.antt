@@ -4,7 +4,7 @@ use mathlib.Core.Path.{_≡_, refl, sym, ap, subst, _∙_}
 use mathlib.Core.Bool.{Bool, true, false}
 use mathlib.Core.Logic.{_↔_}
 use mathlib.Core.List.{List, [], _∷_}
-use Prim.Native.Nat.{ℕ}
+use Prim.Native.Nat.{ℕ, _≤_}
 use native.Mathlib.Omega.{arith}
 use lib.IntN.{ℤ}
 use borrow.Author.Tests.{ltb-true, lt-ltb}
@@ -12,7 +12,7 @@ use Rattle.lists.proofs.Scan.{every-sound, every-fails}
 use Rattle.lists.proofs.Test.{clash}
 use Rattle.faults.specs.Check.{judge, _then_}
 use Rattle.faults.specs.Rule.{rule}
-use Rattle.faults.specs.Outcome.{facts, author}
+use Rattle.faults.specs.Outcome.{Group, facts, refused, author}
 use Rattle.faults.specs.Unless.{unless}
 use Rattle.faults.specs.declared.Refusal.{Refusal}
 use Rattle.faults.proofs.Rule.{Decided, exact, then-decided, places-decided}
@@ -20,6 +20,7 @@ use Rattle.faults.proofs.Check.{then-kept, then-next, judge-passed}
 use Rattle.faults.proofs.Unless.{unless-none, unless-then, accepted-nothing}
 use Rattle.calls.specs.Answers.{Answers}
 use Rattle.calls.proofs.Answers.{stage-answers}
+use Rattle.calls.proofs.Numbers.{fault-number}
 use Rattle.digit_rules.specs.Record.{recordAt, elementCount}
 use Rattle.digit_rules.specs.Digits.{indexIn}
 use Rattle.digit_rules.specs.Broken.{Listed}
@@ -113,6 +114,11 @@ check-decided file =
 pub demand-1 : (file : List ℕ) → Answers (checkStages file) (checkFacts file) (checkOutcome file)
 demand-1 file =
     subst (Answers (checkStages file) (checkFacts file)) (sym (whole file)) (stage-answers author (checkRules file) (tableCheck file then pairCheckOf file) (checkFacts file) (check-decided file))
+
+-- 42 of document 02 is subtraction's alone
+pub never-42 : (file : List ℕ) (g : Group) (p : ℕ) → checkOutcome file ≡ refused g 42 p → ⊥
+never-42 file g p e =
+    omega (arith, fault-number (λ n. n ≤ 14) (checkStages file) (omega arith) g 42 p (demand-1 file .first g 42 p (omega arith) .0 e))
 
 -- Demand 2. For every list of bytes the outcome is accepted exactly when the file is well formed and every finite row of its input
 -- digits is converted into alphabet digits at every place.

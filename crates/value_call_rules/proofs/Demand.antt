@@ -1,16 +1,18 @@
 -- Demand 1 for the value call, rules 1 to 13, 20, 21 and 28; and where it gives an element, that is the value of the row.
 use mathlib.Core.Path.{_≡_, sym, ap, subst, _∙_}
 use mathlib.Core.List.{List, [], _∷_}
-use Prim.Native.Nat.{ℕ}
+use Prim.Native.Nat.{ℕ, _≤_}
+use native.Mathlib.Omega.{arith}
 use lib.IntN.{ℤ}
 use lib.ListN.{length}
 use Rattle.faults.specs.declared.Refusal.{Refusal}
 use Rattle.faults.specs.Check.{_then_}
-use Rattle.faults.specs.Outcome.{facts, author, rows}
+use Rattle.faults.specs.Outcome.{Group, facts, refused, author, rows}
 use Rattle.faults.specs.Unless.{unless}
 use Rattle.faults.proofs.Rule.{Decided, then-decided}
 use Rattle.faults.proofs.Unless.{unless-then}
 use Rattle.calls.specs.Answers.{Answers, stage}
+use Rattle.calls.proofs.Numbers.{fault-number}
 use Rattle.calls.proofs.Answers.{Told, told-end, told-unless, told-answers}
 use Rattle.ring.proofs.Matrix.{length-matrix}
 use Rattle.layout_rules.specs.Section.{degree}
@@ -55,6 +57,10 @@ module _ (table row : List ℕ) where
       (told-unless author _ _ (valueOf table row) _ _ (table-decided table)
       (λ _. subst (Told (stage rows (lenderRules table row) ∷ []) (valueOf table row)) (sym whole)
       (told-unless rows _ _ (valueOf table row) _ _ lender-decided (λ _. told-end (valueOf table row)))))
+
+  -- 42 of document 02 is subtraction's alone
+  pub never-42 : (g : Group) (p : ℕ) → valueOutcome table row ≡ refused g 42 p → ⊥
+  never-42 g p e = omega (arith, fault-number (λ n. n ≤ 28) (valueStages table row) (omega arith) g 42 p (demand-1 .first g 42 p (omega arith) .0 e))
 
   -- Where the call gives an element, it is the sum of the row's digits, each times the base to the power of its place.
   pub element-is-value : (x : List ℤ) → valueOutcome table row ≡ facts x → x ≡ valueOf table row
