@@ -1,10 +1,13 @@
-// Rules 5 to 8 of document 01, on the base, the alphabet and the input digits. Each section is given as its bytes, of a file or not.
+// Rules 5 to 8 of document 01, on the base, the alphabet and the input digits, and 42 of document 02. Each section is given as its bytes,
+// of a file or not.
 ghost use mathlib.Core.Path.{_≡_};
-ghost use Prim.Native.Nat.{_+_, _<_};
-ghost use Rattle.ring.specs.Tests.{Within};
+ghost use Prim.Native.Nat.{_<_};
+ghost use Rattle.lists.specs.Scan.{firstFailing};
+ghost use Rattle.ring.specs.declared.Operation.the-variants.{Minus};
 ghost use Rattle.digit_rules.specs.Record.{elementCount};
-ghost use Rattle.digit_rules.specs.Digits.{BasePart, baseCheck, alphabetCheck, sumsListed, allSumsListed, isSum, inputAllowed, inputCheck, digitCheck};
+ghost use Rattle.digit_rules.specs.Digits.{BasePart, baseCheck, alphabetCheck, pairsListed, inputCheck, digitCheck, operationCheck};
 use faults::Refusal;
+use ring::Operation;
 
 // The sections of digits.
 const ALPHABET: usize = 1;
@@ -64,15 +67,17 @@ fn alphabet_rule(alphabet: &[u8]) -> Refusal
     }
 }
 
-// Whether every sum of alphabet digit i and one up to it is an input digit.
-fn sums_listed(alphabet: &[u8], inputs: &[u8], i: usize) -> bool
+// Whether what the operation makes of alphabet digit i and each that it is taken with is an input digit.
+fn pairs_listed(operation: Operation, alphabet: &[u8], inputs: &[u8], i: usize) -> bool
     requires { ⌜ i < elementCount (now alphabet) ⌝ }
-    ensures { λ r. ⌜ r ≡ sumsListed (now (alphabet .entry)) (now (inputs .entry)) i ⌝ }
+    ensures { λ r. ⌜ r ≡ pairsListed operation (now (alphabet .entry)) (now (inputs .entry)) i ⌝ }
 {
+    let n = layout::record_count(alphabet, ALPHABET);
     let count = layout::record_count(inputs, INPUTS);
+    let end = digits::partner_count(operation, n, i);
     let mut j = 0;
-    while j <= i {
-        if digits::sum_index(alphabet, inputs, i, j) >= count {
+    while j < end {
+        if digits::pair_index(operation, alphabet, inputs, i, j) >= count {
             return false;
         }
         j += 1;
@@ -80,48 +85,20 @@ fn sums_listed(alphabet: &[u8], inputs: &[u8], i: usize) -> bool
     true
 }
 
-// Whether every sum is an input digit.
-fn all_sums_listed(alphabet: &[u8], inputs: &[u8]) -> bool
-    ensures { λ r. ⌜ r ≡ allSumsListed (now (alphabet .entry)) (now (inputs .entry)) ⌝ }
+// The first alphabet digit with which the operation makes something that is no input digit, or the alphabet's size.
+fn first_unlisted(operation: Operation, alphabet: &[u8], inputs: &[u8]) -> usize
+    ensures { λ r. ⌜ r ≡ firstFailing (pairsListed operation (now (alphabet .entry)) (now (inputs .entry))) 0
+        (elementCount (now (alphabet .entry))) ⌝ }
 {
     let n = layout::record_count(alphabet, ALPHABET);
     let mut i = 0;
     while i < n {
-        if !sums_listed(alphabet, inputs, i) {
-            return false;
+        if !pairs_listed(operation, alphabet, inputs, i) {
+            return i;
         }
         i += 1;
     }
-    true
-}
-
-// Whether an element is a sum of two alphabet digits.
-fn is_sum(alphabet: &[u8], x: [i64; 2]) -> bool
-    requires { ⌜ Within 32768 x ⌝ }
-    ensures { λ r. ⌜ r ≡ isSum (now (alphabet .entry)) x ⌝ }
-{
-    let n = layout::record_count(alphabet, ALPHABET);
-    let mut i = 0;
-    while i < n {
-        if digits::find(
-            alphabet,
-            i + 1,
-            elements::difference(x, digits::record_at(alphabet, i)),
-        )
-            <= i
-        {
-            return true;
-        }
-        i += 1;
-    }
-    false
-}
-
-fn input_allowed(alphabet: &[u8], inputs: &[u8], k: usize) -> bool
-    requires { ⌜ k < elementCount (now inputs) ⌝ }
-    ensures { λ r. ⌜ r ≡ inputAllowed (now (alphabet .entry)) (now (inputs .entry)) k ⌝ }
-{
-    digits::record_allowed(inputs, k) && is_sum(alphabet, digits::record_at(inputs, k))
+    i
 }
 
 // Rule 8.
@@ -137,7 +114,7 @@ fn input_rule(alphabet: &[u8], inputs: &[u8]) -> Refusal
     let count = layout::record_count(inputs, INPUTS);
     let mut input = 0;
     while input < count {
-        if !input_allowed(alphabet, inputs, input) {
+        if !digits::record_allowed(inputs, input) {
             return Refusal {
                 number: 8,
                 place: input,
@@ -145,7 +122,9 @@ fn input_rule(alphabet: &[u8], inputs: &[u8]) -> Refusal
         }
         input += 1;
     }
-    if !all_sums_listed(alphabet, inputs) {
+    if first_unlisted(Operation::Plus, alphabet, inputs)
+        < layout::record_count(alphabet, ALPHABET)
+    {
         return Refusal {
             number: 8,
             place: count,
@@ -154,6 +133,42 @@ fn input_rule(alphabet: &[u8], inputs: &[u8]) -> Refusal
     Refusal {
         number: 0,
         place: 0,
+    }
+}
+
+// 42 of document 02.
+fn difference_rule(alphabet: &[u8], inputs: &[u8]) -> Refusal
+    ensures { λ r. ⌜ r ≡ operationCheck Minus (now (alphabet .entry)) (now (inputs .entry)) ⌝ }
+{
+    if digit_sums::differences_kept(alphabet, inputs) {
+        return Refusal {
+            number: 0,
+            place: 0,
+        };
+    }
+    let found = first_unlisted(Operation::Minus, alphabet, inputs);
+    if found < layout::record_count(alphabet, ALPHABET) {
+        return Refusal {
+            number: 42,
+            place: found,
+        };
+    }
+    Refusal {
+        number: 0,
+        place: 0,
+    }
+}
+
+// What an operation asks of alphabet and input digits besides: 42 in subtraction, nothing in addition.
+pub fn operation_rule(operation: Operation, alphabet: &[u8], inputs: &[u8]) -> Refusal
+    ensures { λ r. ⌜ r ≡ operationCheck operation (now (alphabet .entry)) (now (inputs .entry)) ⌝ }
+{
+    match operation {
+        Operation::Plus => Refusal {
+            number: 0,
+            place: 0,
+        },
+        Operation::Minus => difference_rule(alphabet, inputs),
     }
 }
 

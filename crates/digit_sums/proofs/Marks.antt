@@ -1,5 +1,6 @@
--- The quick look at rule 8: where every sum is found, and each input digit where some sum is found, the rule is kept.
-use mathlib.Core.Path.{_≡_, refl, sym, ap, _∙_}
+-- The quick looks at rule 8 and at 42: where every sum is found, and each input digit at its own index, 8 is kept; where every difference
+-- is found, 42.
+use mathlib.Core.Path.{_≡_, refl, sym, ap, subst, _∙_}
 use mathlib.Core.Bool.{Bool, true, false}
 use mathlib.Core.List.{List}
 use mathlib.Core.Logic.{⊎-elim}
@@ -11,36 +12,27 @@ use lib.ListN.{getD, set, replicate}
 use lib.Seq.{getD-set-other}
 use lib.IntN.{ℤ}
 use borrow.Author.Tests.{lt-ltb, le-ltb}
-use Rattle.lists.proofs.Scan.{scan-all}
+use Rattle.lists.proofs.Scan.{scan-all, every-sound}
 use Rattle.lists.proofs.Test.{clash}
 use Rattle.faults.specs.Check.{none}
 use Rattle.faults.proofs.Check.{judge-kept}
-use Rattle.ring.specs.Element.{plus}
+use Rattle.ring.specs.declared.Operation.{Operation}
+use Rattle.ring.specs.declared.Operation.the-variants.{Plus, Minus}
+use Rattle.ring.specs.Operation.{combine}
 use Rattle.ring.specs.Tests.{same}
 use Rattle.ring.proofs.Element.{same→≡}
 use Rattle.digit_rules.specs.Record.{recordAt, elementCount}
-use Rattle.digit_rules.specs.Digits.{indexIn, recordAllowed, sumIndex, sumListed, allSumsListed, inputAllowed, inputsAllowed, inputCheck}
+use Rattle.digit_rules.specs.Digits.{indexIn, recordAllowed, pairIndex, pairListed, pairsListed, allPairsListed, inputsAllowed, inputCheck, operationCheck}
 use Rattle.digit_rules.specs.Broken.{Broken7}
 use Rattle.slots.specs.Slot.{slotOf}
-use Rattle.digit_sums.specs.Marks.{followed, located, FoundAt, Marked}
+use Rattle.digit_sums.specs.Marks.{followed, located, Marked}
 use Rattle.digit_rules.proofs.Index.{index-first}
-use Rattle.digit_rules.proofs.Allowed.{at-record, after-records}
-use Rattle.digit_rules.proofs.Sums.{record-fails, sum-passes}
+use Rattle.digit_rules.proofs.Allowed.{at-record, after-records, differences-kept}
+use Rattle.digit_rules.proofs.Sums.{record-fails}
 
 not-failed : (b : Bool) → (b ≡ false → ⊥) → b ≡ true
 not-failed true h = refl
 not-failed false h = absurd (h refl)
-
--- the first entries are not zero
-abbrev pub NonzeroBefore : List ℕ → ℕ → Type 0
-NonzeroBefore marks n = (k : ℕ) → k < n → ¬ (getD marks k 0 ≡ 0)
-
-pub nonzero-next : (marks : List ℕ) (n : ℕ) → NonzeroBefore marks n → ¬ (getD marks n 0 ≡ 0) → NonzeroBefore marks (n + 1)
-nonzero-next marks n before here k h =
-    elim (decLt k n) [
-      | yes l ↦ before k l
-      | no l ↦ λ z. here (ap (λ j. getD marks j 0) (le-antisymm {n = n} {m = k} (omega arith) (omega arith)) ∙ z)
-    ]
 
 -- what is found along the links equals the element
 pub follow-out : (inputs links : List ℕ) (x : List ℤ) (n at : ℕ) → elementCount inputs ≤ at → followed inputs links x n at ≡ elementCount inputs
@@ -90,49 +82,55 @@ pub located-finds : (inputs heads links : List ℕ) → Finds inputs (located in
 unfolding located
 located-finds inputs heads links x h = follow-is inputs links x 136 (getD heads (slotOf x) 0) h
 
--- no marks, and one more
-pub none-marked : (alphabet : List ℕ) (find : List ℤ → ℕ) (n : ℕ) → Marked alphabet find (replicate n 0)
-none-marked alphabet find n = record { marked = λ k h. absurd (h (blank n k)) }
-  where
-    blank : (n k : ℕ) → getD {A = ℕ} (replicate n 0) k 0 ≡ 0
-    blank zero k = refl
-    blank (suc n) zero = refl
-    blank (suc n) (suc k) = blank n k
+module _ (inputs : List ℕ) (find : List ℤ → ℕ) where
+  -- no marks, and one more, where something was found
+  pub none-marked : (n : ℕ) → Marked inputs find (replicate n 0)
+  none-marked n = record { marked = λ k h. absurd (h (blank n k)) }
+    where
+      blank : (n k : ℕ) → getD {A = ℕ} (replicate n 0) k 0 ≡ 0
+      blank zero k = refl
+      blank (suc n) zero = refl
+      blank (suc n) (suc k) = blank n k
 
-pub one-marked : (alphabet : List ℕ) (find : List ℤ → ℕ) (marks : List ℕ) (i j found : ℕ) → Marked alphabet find marks → i < elementCount alphabet → j < elementCount alphabet → found ≡ find (plus (recordAt alphabet i) (recordAt alphabet j)) → Marked alphabet find (set marks found 1)
-one-marked alphabet find marks i j found before hi hj is =
-    record { marked = λ k h. elim (ℕ-discrete k found) [ yes e ↦ (i, j, hi, hj, sym is ∙ sym e) | no e ↦ before .marked k (λ z. h (getD-set-other marks found k 1 0 e ∙ z)) ] }
+  -- each input digit so far is found at its own index
+  abbrev pub FoundBefore : ℕ → Type 0
+  FoundBefore n = (k : ℕ) → k < n → find (recordAt inputs k) ≡ k
 
-module _ (alphabet inputs : List ℕ) (find : List ℤ → ℕ) (finds : Finds inputs find) where
-  -- a sum that is found is listed
-  pub found-listed : (i j found : ℕ) → found ≡ find (plus (recordAt alphabet i) (recordAt alphabet j)) → found < elementCount inputs → sumListed alphabet inputs i j ≡ true
-  unfolding sumListed sumIndex
-  found-listed i j found is h =
-      let x = plus (recordAt alphabet i) (recordAt alphabet j) in
-      lt-ltb (indexIn inputs (elementCount inputs) x) (elementCount inputs) (omega (arith, index-first inputs (elementCount inputs) x found (ap (recordAt inputs) is ∙ finds x (omega arith))))
+  pub found-next : (n : ℕ) → FoundBefore n → find (recordAt inputs n) ≡ n → FoundBefore (n + 1)
+  found-next n before here k h =
+      elim (decLt k n) [
+        | yes l ↦ before k l
+        | no l ↦ subst (λ (j : ℕ). find (recordAt inputs j) ≡ j) (le-antisymm {n = n} {m = k} (omega arith) (omega arith)) here
+      ]
 
-  -- an input digit at which a sum is found is that sum, and no other one is
-  found-is : (k : ℕ) → k < elementCount inputs → (w : FoundAt alphabet find k) → recordAt inputs k ≡ plus (recordAt alphabet (w .0)) (recordAt alphabet (w .1))
-  found-is k l w = ap (recordAt inputs) (sym (w .4)) ∙ finds (plus (recordAt alphabet (w .0)) (recordAt alphabet (w .1))) (omega (arith, w .4))
+  module _ (finds : Finds inputs find) where
+    pub one-marked : (marks : List ℕ) (x : List ℤ) (found : ℕ) → Marked inputs find marks → found ≡ find x → found < elementCount inputs → Marked inputs find (set marks found 1)
+    one-marked marks x found before is l =
+        record { marked = λ k h. elim (ℕ-discrete k found) [ yes e ↦ subst (λ (j : ℕ). find (recordAt inputs j) ≡ j) (sym e) own | no e ↦ before .marked k (λ z. h (getD-set-other marks found k 1 0 e ∙ z)) ] }
+      where
+        own : find (recordAt inputs found) ≡ found
+        own = ap find (ap (recordAt inputs) is ∙ finds x (omega arith)) ∙ sym is
 
-  found-once : (k q : ℕ) → k < elementCount inputs → q < elementCount inputs → FoundAt alphabet find k → FoundAt alphabet find q → recordAt inputs k ≡ recordAt inputs q → k ≡ q
-  found-once k q l m w v e = sym (w .4) ∙ ap find (sym (found-is k l w) ∙ e ∙ found-is q m v) ∙ v .4
+    -- what is found is listed
+    pub found-listed : (op : Operation) (alphabet : List ℕ) (i j found : ℕ) (x : List ℤ) → x ≡ combine op (recordAt alphabet i) (recordAt alphabet j) → found ≡ find x → found < elementCount inputs → pairListed op alphabet inputs i j ≡ true
+    unfolding pairListed pairIndex
+    found-listed op alphabet i j found x made is h =
+        let y = combine op (recordAt alphabet i) (recordAt alphabet j) in
+        lt-ltb (indexIn inputs (elementCount inputs) y) (elementCount inputs) (omega (arith, index-first inputs (elementCount inputs) y found (ap (recordAt inputs) is ∙ finds x (omega arith) ∙ made)))
 
-  module _ (starts : recordAllowed inputs 0 ≡ true) (found : (k : ℕ) → k < elementCount inputs → FoundAt alphabet find k) where
-    found-allowed : (k : ℕ) → k < elementCount inputs → inputAllowed alphabet inputs k ≡ true
-    unfolding inputAllowed
-    found-allowed k l =
-        let w = found k l in
-        rw (not-failed (recordAllowed inputs k) refuted, sum-passes alphabet (recordAt inputs k) (w .0, w .1, w .2, w .3, found-is k l w)) refl
+  -- digits that are found at their own indexes are all different; zero first, and every sum listed, the rule is kept
+  module _ (starts : recordAllowed inputs 0 ≡ true) (found : FoundBefore (elementCount inputs)) where
+    found-allowed : (k : ℕ) → k < elementCount inputs → recordAllowed inputs k ≡ true
+    found-allowed k l = not-failed (recordAllowed inputs k) refuted
       where
         refuted : recordAllowed inputs k ≡ false → ⊥
         refuted t =
             let b : Broken7 inputs k = record-fails inputs k l t in
-            ⊎-elim (λ z. clash starts (ap (recordAllowed inputs) (sym (z .0)) ∙ t)) (λ r. omega (arith, r .1, found-once k (r .0) l (omega (arith, r .1)) (found k l) (found (r .0) (omega (arith, r .1))) (r .2))) (b .1)
+            ⊎-elim (λ z. clash starts (ap (recordAllowed inputs) (sym (z .0)) ∙ t)) (λ r. omega (arith, r .1, sym (found k l) ∙ ap find (r .2) ∙ found (r .0) (omega (arith, r .1)))) (b .1)
 
-    pub all-kept : allSumsListed alphabet inputs ≡ true → none ≡ inputCheck alphabet inputs
+    all-kept : (alphabet : List ℕ) → allPairsListed Plus alphabet inputs ≡ true → none ≡ inputCheck alphabet inputs
     unfolding inputCheck
-    all-kept listed =
+    all-kept alphabet listed =
         sym (judge-kept 8 (λ k. k) (inputsAllowed alphabet inputs) (elementCount inputs + 1) _ refl (omega (arith, scan-all (inputsAllowed alphabet inputs) 0 (elementCount inputs + 1) passes)))
       where
         passes : (k : ℕ) → 0 ≤ k → k < 0 + (elementCount inputs + 1) → inputsAllowed alphabet inputs k ≡ true
@@ -141,3 +139,12 @@ module _ (alphabet inputs : List ℕ) (find : List ℤ → ℕ) (finds : Finds i
               | yes l ↦ at-record alphabet inputs k l ∙ found-allowed k l
               | no l ↦ after-records alphabet inputs k (omega arith) ∙ listed
             ]
+
+pub located-kept : (inputs heads links : List ℕ) → recordAllowed inputs 0 ≡ true → FoundBefore inputs (located inputs heads links) (elementCount inputs) → (alphabet : List ℕ) → allPairsListed Plus alphabet inputs ≡ true → none ≡ inputCheck alphabet inputs
+located-kept inputs heads links = all-kept inputs (located inputs heads links)
+
+-- every difference listed, 42 is kept
+pub differences-listed : (alphabet inputs : List ℕ) → allPairsListed Minus alphabet inputs ≡ true → none ≡ operationCheck Minus alphabet inputs
+unfolding allPairsListed
+differences-listed alphabet inputs t =
+    differences-kept alphabet inputs _ _ refl refl (omega (arith, scan-all (pairsListed Minus alphabet inputs) 0 (elementCount alphabet) (every-sound (pairsListed Minus alphabet inputs) 0 (elementCount alphabet) t)))

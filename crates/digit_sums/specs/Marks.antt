@@ -1,13 +1,12 @@
--- For helpers' contracts only: how a quick look at rule 8 finds sums among the input digits: by a slot for each element, and links from an input digit to
--- another one of its slot. Marks at input indexes: each marks a sum of two alphabet digits, at the index where it is found.
+-- For helpers' contracts only: how quick looks at rule 8 and at 42 find an element among the input digits: by a slot for each element, and
+-- links from an input digit to another one of its slot.
 use mathlib.Core.Path.{_≡_}
 use mathlib.Core.Bool.{true, false}
 use mathlib.Core.List.{List}
-use Prim.Native.Nat.{ℕ, zero, suc, _<_}
+use Prim.Native.Nat.{ℕ, zero, suc}
 use lib.ListN.{getD}
 use lib.Dec.{ltb}
 use lib.IntN.{ℤ}
-use Rattle.ring.specs.Element.{plus}
 use Rattle.ring.specs.Tests.{same}
 use Rattle.digit_rules.specs.Record.{recordAt, elementCount}
 use Rattle.slots.specs.Slot.{slotOf}
@@ -25,10 +24,6 @@ followed inputs links x (suc n) at =
 unfoldable pub located : List ℕ → List ℕ → List ℕ → List ℤ → ℕ
 located inputs heads links x = followed inputs links x 136 (getD heads (slotOf x) 0)
 
-abbrev pub FoundAt : List ℕ → (List ℤ → ℕ) → ℕ → Type 0
-FoundAt alphabet find k =
-    (i : ℕ) × (j : ℕ) × (i < elementCount alphabet) × (j < elementCount alphabet)
-    × (find (plus (recordAt alphabet i) (recordAt alphabet j)) ≡ k)
-
-pub record Marked (alphabet : List ℕ) (find : List ℤ → ℕ) (marks : List ℕ) : Type 0 where
-  pub marked : (k : ℕ) → ¬ (getD marks k 0 ≡ 0) → FoundAt alphabet find k
+-- marks at input indexes: each input digit that is marked is found at its own index
+pub record Marked (inputs : List ℕ) (find : List ℤ → ℕ) (marks : List ℕ) : Type 0 where
+  pub marked : (k : ℕ) → ¬ (getD marks k 0 ≡ 0) → find (recordAt inputs k) ≡ k

@@ -1,13 +1,16 @@
-// A quick look at rule 8 of document 01: the sums of two alphabet digits are found among the input digits by slots.
+// Quick looks at rule 8 of document 01 and at 42 of document 02: what an operation makes of two alphabet digits is found among the input
+// digits by slots.
 ghost use mathlib.Core.Path.{_≡_};
 ghost use mathlib.Core.Bool.{true};
-ghost use Prim.Native.Nat.{ℕ, _+_, _≤_, _<_};
-ghost use lib.ListN.{getD};
+ghost use Prim.Native.Nat.{ℕ, _≤_, _<_, _^_};
+ghost use Rattle.lists.specs.Scan.{every};
 ghost use Rattle.faults.specs.Check.{none};
-ghost use Rattle.ring.specs.Element.{plus};
+ghost use Rattle.ring.specs.Tests.{Within};
+ghost use Rattle.ring.specs.declared.Operation.the-variants.{Minus};
 ghost use Rattle.digit_rules.specs.Record.{recordAt, elementCount};
-ghost use Rattle.digit_rules.specs.Digits.{sumsListed, inputCheck};
+ghost use Rattle.digit_rules.specs.Digits.{pairListed, allPairsListed, inputCheck, operationCheck};
 ghost use Rattle.digit_sums.specs.Marks.{followed, located, Marked};
+use ring::Operation;
 
 // The sections of digits.
 const ALPHABET: usize = 1;
@@ -55,47 +58,38 @@ fn follow(inputs: &[u8], links: &[u8; MOST], first: u8, x: [i64; 2]) -> usize
     count
 }
 
-// The input index of the sum of two alphabet digits by its slot, or the count of input digits.
-fn locate(
-    alphabet: &[u8],
-    inputs: &[u8],
-    heads: &[u8; SLOTS],
-    links: &[u8; MOST],
-    i: usize,
-    other: usize,
-) -> usize
-    requires digits { ⌜ (i < elementCount (now alphabet)) × (other < elementCount (now alphabet)) ⌝ }
+// The input index of an element by its slot, or the count of input digits.
+fn locate(inputs: &[u8], heads: &[u8; SLOTS], links: &[u8; MOST], x: [i64; 2]) -> usize
     requires inputs { ⌜ elementCount (now inputs) ≤ 136 ⌝ }
-    ensures { λ r. ⌜ r ≡ located (now (inputs .entry)) (now (heads .entry)) (now (links .entry))
-        (plus (recordAt (now (alphabet .entry)) i) (recordAt (now (alphabet .entry)) other)) ⌝ }
+    requires within { ⌜ Within (2 ^ 58) x ⌝ }
+    ensures { λ r. ⌜ r ≡ located (now (inputs .entry)) (now (heads .entry)) (now (links .entry)) x ⌝ }
 {
-    let x = elements::sum(
-        digits::record_at(alphabet, i),
-        digits::record_at(alphabet, other),
-    );
     let place = slots::slot_of(x);
     follow(inputs, links, heads[place], x)
 }
 
-// Marks the input index of each sum of alphabet digit i and one up to it; whether every such sum was found.
-fn mark_sums(
+// Marks the input index of what the operation makes of alphabet digit i and each of the first `end`; whether all were found.
+fn mark_pairs(
+    operation: Operation,
     alphabet: &[u8],
     inputs: &[u8],
     heads: &[u8; SLOTS],
     links: &[u8; MOST],
     i: usize,
+    end: usize,
     marks: &mut [u8; MOST],
 ) -> bool
-    requires sizes { ⌜ (i < elementCount (now alphabet)) × (elementCount (now inputs) ≤ 136) ⌝ }
-    requires marked { ⌜ Marked (now alphabet) (located (now inputs) (now heads) (now links)) (now marks) ⌝ }
-    ensures listed { λ r. ⌜ (r ≡ true → sumsListed (now (alphabet .entry)) (now (inputs .entry)) i ≡ true) ⌝ }
-    ensures marked { λ r. ⌜ Marked (now (alphabet .entry)) (located (now (inputs .entry)) (now (heads .entry)) (now (links .entry)))
+    requires sizes { ⌜ (i < elementCount (now alphabet)) × (end ≤ elementCount (now alphabet)) × (elementCount (now inputs) ≤ 136) ⌝ }
+    requires marked { ⌜ Marked (now inputs) (located (now inputs) (now heads) (now links)) (now marks) ⌝ }
+    ensures listed { λ r. ⌜ (r ≡ true → every (pairListed operation (now (alphabet .entry)) (now (inputs .entry)) i) 0 end ≡ true) ⌝ }
+    ensures marked { λ r. ⌜ Marked (now (inputs .entry)) (located (now (inputs .entry)) (now (heads .entry)) (now (links .entry)))
         (now (marks .exit)) ⌝ }
 {
     let count = layout::record_count(inputs, INPUTS);
     let mut other = 0;
-    while other < i + 1 {
-        let found = locate(alphabet, inputs, heads, links, i, other);
+    while other < end {
+        let x = digits::combined(operation, alphabet, i, other);
+        let found = locate(inputs, heads, links, x);
         if found >= count {
             return false;
         }
@@ -105,13 +99,62 @@ fn mark_sums(
     true
 }
 
-fn all_marked(marks: &[u8; MOST], count: usize) -> bool
-    requires { ⌜ count ≤ 136 ⌝ }
-    ensures { λ r. ⌜ (r ≡ true → (k : ℕ) → k < count → ¬ (getD (now (marks .entry)) k 0 ≡ 0)) ⌝ }
+// Marks the input index of all that the operation makes of two alphabet digits; whether all were found.
+fn mark_all(
+    operation: Operation,
+    alphabet: &[u8],
+    inputs: &[u8],
+    heads: &[u8; SLOTS],
+    links: &[u8; MOST],
+    marks: &mut [u8; MOST],
+) -> bool
+    requires inputs { ⌜ elementCount (now inputs) ≤ 136 ⌝ }
+    requires marked { ⌜ Marked (now inputs) (located (now inputs) (now heads) (now links)) (now marks) ⌝ }
+    ensures listed { λ r. ⌜ (r ≡ true → allPairsListed operation (now (alphabet .entry)) (now (inputs .entry)) ≡ true) ⌝ }
+    ensures marked { λ r. ⌜ Marked (now (inputs .entry)) (located (now (inputs .entry)) (now (heads .entry)) (now (links .entry)))
+        (now (marks .exit)) ⌝ }
 {
+    let n = layout::record_count(alphabet, ALPHABET);
+    let mut i = 0;
+    while i < n {
+        let end = digits::partner_count(operation, n, i);
+        if !mark_pairs(operation, alphabet, inputs, heads, links, i, end, marks) {
+            return false;
+        }
+        i += 1;
+    }
+    true
+}
+
+// Whether an input digit is found at its own index: by its mark, or looked for now.
+fn found_at(
+    inputs: &[u8],
+    heads: &[u8; SLOTS],
+    links: &[u8; MOST],
+    marks: &[u8; MOST],
+    k: usize,
+) -> bool
+    requires inputs { ⌜ (k < elementCount (now inputs)) × (elementCount (now inputs) ≤ 136) ⌝ }
+    requires marked { ⌜ Marked (now inputs) (located (now inputs) (now heads) (now links)) (now marks) ⌝ }
+    ensures { λ r. ⌜ (r ≡ true → located (now (inputs .entry)) (now (heads .entry)) (now (links .entry)) (recordAt (now (inputs .entry)) k) ≡ k) ⌝ }
+{
+    if marks[k] != 0 {
+        return true;
+    }
+    locate(inputs, heads, links, digits::record_at(inputs, k)) == k
+}
+
+// Whether each of them is.
+fn each_found(inputs: &[u8], heads: &[u8; SLOTS], links: &[u8; MOST], marks: &[u8; MOST]) -> bool
+    requires inputs { ⌜ elementCount (now inputs) ≤ 136 ⌝ }
+    requires marked { ⌜ Marked (now inputs) (located (now inputs) (now heads) (now links)) (now marks) ⌝ }
+    ensures { λ r. ⌜ (r ≡ true → (k : ℕ) → k < elementCount (now (inputs .entry))
+        → located (now (inputs .entry)) (now (heads .entry)) (now (links .entry)) (recordAt (now (inputs .entry)) k) ≡ k) ⌝ }
+{
+    let count = layout::record_count(inputs, INPUTS);
     let mut k = 0;
     while k < count {
-        if marks[k] == 0 {
+        if !found_at(inputs, heads, links, marks, k) {
             return false;
         }
         k += 1;
@@ -123,7 +166,6 @@ fn all_marked(marks: &[u8; MOST], count: usize) -> bool
 pub fn inputs_kept(alphabet: &[u8], inputs: &[u8]) -> bool
     ensures { λ r. ⌜ (r ≡ true → none ≡ inputCheck (now (alphabet .entry)) (now (inputs .entry))) ⌝ }
 {
-    let n = layout::record_count(alphabet, ALPHABET);
     let count = layout::record_count(inputs, INPUTS);
     if count == 0 {
         return false;
@@ -138,12 +180,36 @@ pub fn inputs_kept(alphabet: &[u8], inputs: &[u8]) -> bool
     let mut links = [255; MOST];
     link(inputs, &mut heads, &mut links);
     let mut marks = [0; MOST];
-    let mut i = 0;
-    while i < n {
-        if !mark_sums(alphabet, inputs, &heads, &links, i, &mut marks) {
-            return false;
-        }
-        i += 1;
+    if !mark_all(
+        Operation::Plus,
+        alphabet,
+        inputs,
+        &heads,
+        &links,
+        &mut marks,
+    ) {
+        return false;
     }
-    all_marked(&marks, count)
+    each_found(inputs, &heads, &links, &marks)
+}
+
+// A quick look at 42: it is kept, or there is no answer.
+pub fn differences_kept(alphabet: &[u8], inputs: &[u8]) -> bool
+    ensures { λ r. ⌜ (r ≡ true → none ≡ operationCheck Minus (now (alphabet .entry)) (now (inputs .entry))) ⌝ }
+{
+    if layout::record_count(inputs, INPUTS) > MOST {
+        return false;
+    }
+    let mut heads = [255; SLOTS];
+    let mut links = [255; MOST];
+    link(inputs, &mut heads, &mut links);
+    let mut marks = [0; MOST];
+    mark_all(
+        Operation::Minus,
+        alphabet,
+        inputs,
+        &heads,
+        &links,
+        &mut marks,
+    )
 }

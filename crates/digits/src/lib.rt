@@ -1,12 +1,14 @@
-// Elements as they stand in the sections of a table: records, the search among them, the base, and the index of a sum of two digits. Each
-// section is given as its bytes, of a file or not.
+// Elements as they stand in the sections of a table: records, the search among them, the base, and what an operation makes of two digits.
+// Each section is given as its bytes, of a file or not.
 ghost use mathlib.Core.Path.{_≡_};
 ghost use Prim.Native.Nat.{_+_, _≤_, _<_};
 ghost use lib.ListN.{length};
 ghost use Rattle.ring.specs.Tests.{Within};
+ghost use Rattle.ring.specs.Operation.{combine};
 ghost use Rattle.digit_rules.specs.Record.{elementAt, recordAt, elementCount};
-ghost use Rattle.digit_rules.specs.Digits.{indexIn, BasePart, recordAllowed, sumIndex};
+ghost use Rattle.digit_rules.specs.Digits.{indexIn, BasePart, recordAllowed, pairIndex, partners};
 ghost use Rattle.digit_rules.specs.BaseMatrix.{baseMatrix};
+use ring::Operation;
 
 // The bytes of an element.
 const ELEMENT: usize = 4;
@@ -72,14 +74,39 @@ pub fn record_allowed(part: &[u8], k: usize) -> bool
     find(part, k, x) == k
 }
 
-// The input index of the sum of alphabet digits i and j, or the count of input digits.
-pub fn sum_index(alphabet: &[u8], inputs: &[u8], i: usize, j: usize) -> usize
+// What the operation makes of alphabet digits i and j.
+pub fn combined(operation: Operation, alphabet: &[u8], i: usize, j: usize) -> [i64; 2]
     requires { ⌜ (i < elementCount (now alphabet)) × (j < elementCount (now alphabet)) ⌝ }
-    ensures { λ r. ⌜ r ≡ sumIndex (now (alphabet .entry)) (now (inputs .entry)) i j ⌝ }
+    ensures element { λ r. ⌜ r ≡ combine operation (recordAt (now (alphabet .entry)) i) (recordAt (now (alphabet .entry)) j) ⌝ }
+    ensures within { λ r. ⌜ Within 65536 r ⌝ }
+{
+    let x = record_at(alphabet, i);
+    let y = record_at(alphabet, j);
+    match operation {
+        Operation::Plus => elements::sum(x, y),
+        Operation::Minus => elements::difference(x, y),
+    }
+}
+
+// The input index of what the operation makes of alphabet digits i and j, or the count of input digits.
+pub fn pair_index(operation: Operation, alphabet: &[u8], inputs: &[u8], i: usize, j: usize) -> usize
+    requires { ⌜ (i < elementCount (now alphabet)) × (j < elementCount (now alphabet)) ⌝ }
+    ensures { λ r. ⌜ r ≡ pairIndex operation (now (alphabet .entry)) (now (inputs .entry)) i j ⌝ }
 {
     find(
         inputs,
         layout::record_count(inputs, INPUTS),
-        elements::sum(record_at(alphabet, i), record_at(alphabet, j)),
+        combined(operation, alphabet, i, j),
     )
+}
+
+// The alphabet digits that digit i is taken with: those up to it in a sum, all of them in a difference.
+pub fn partner_count(operation: Operation, n: usize, i: usize) -> usize
+    requires { ⌜ i < n ⌝ }
+    ensures { λ r. ⌜ r ≡ partners operation n i ⌝ }
+{
+    match operation {
+        Operation::Plus => i + 1,
+        Operation::Minus => n,
+    }
 }

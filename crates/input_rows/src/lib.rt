@@ -1,44 +1,84 @@
-// The row of input indexes: w(j) of document 01, a sum of two digits at each place.
+// The row of input indexes: w(j) of document 01, a sum of two digits at each place, or a difference.
 ghost use mathlib.Core.Path.{_≡_};
-ghost use Prim.Native.Nat.{ℕ, _+_, _≤_, _<_};
+ghost use Prim.Native.Nat.{ℕ, _+_, _*_, _≤_, _<_};
 ghost use lib.ListN.{getD};
 ghost use Rattle.digit_rules.specs.Record.{elementCount};
+ghost use Rattle.digit_rules.specs.Digits.{pairIndex};
 ghost use Rattle.row_rules.specs.Changed.{changed};
 ghost use Rattle.place_rules.specs.Place.{inputAt};
 ghost use Rattle.place_rules.specs.Helpers.{partRow};
-ghost use Rattle.input_rows.specs.Known.{Known};
+ghost use Rattle.input_rows.specs.Known.{Known, KnownRun};
+use ring::Operation;
 use row_rules::Change;
 
-// The input index of the sum of two rows' digits at a place, the rows read with the change made. A sum is looked for once and then
-// stands in `known`.
-fn input_at(
+// The two rows' digits at a place, the rows read with the change made, as one number: 16 times the first plus the second.
+fn pair_at(change: Change, first: &[u8], second: &[u8], place: usize) -> usize
+    requires { ⌜ (getD (changed change 0 (now first)) place 0 < 16) × (getD (changed change 1 (now second)) place 0 < 16) ⌝ }
+    ensures { λ r. ⌜ r ≡ 16 * getD (changed change 0 (now (first .entry))) place 0 + getD (changed change 1 (now (second .entry))) place 0 ⌝ }
+{
+    16 * rows::byte_at(change, 0, first, place) as usize
+        + rows::byte_at(change, 1, second, place) as usize
+}
+
+// The input index of what the operation makes of two digits, which then stands in `known`, for a sum in either order.
+fn learn(
+    operation: Operation,
     alphabet: &[u8],
     inputs: &[u8],
+    upper: usize,
+    lower: usize,
+    known: &mut [u8; 256],
+) -> u8
+    requires sizes { ⌜ (elementCount (now alphabet) ≤ 16) × (elementCount (now inputs) < 256) ⌝ }
+    requires indexes { ⌜ (upper < elementCount (now alphabet)) × (lower < elementCount (now alphabet)) ⌝ }
+    requires known { ⌜ Known operation (now alphabet) (now inputs) (now known) ⌝ }
+    ensures index { λ r. ⌜ r ≡ pairIndex operation (now (alphabet .entry)) (now (inputs .entry)) upper lower ⌝ }
+    ensures known { λ r. ⌜ Known operation (now (alphabet .entry)) (now (inputs .entry)) (now (known .exit)) ⌝ }
+{
+    let index = digits::pair_index(operation, alphabet, inputs, upper, lower) as u8;
+    known[16 * upper + lower] = index;
+    match operation {
+        Operation::Plus => {
+            known[16 * lower + upper] = index;
+            index
+        }
+        Operation::Minus => index,
+    }
+}
+
+// The input indexes from a place on, as far as their pairs are known; the first place whose pair isn't.
+fn known_run(
     change: Change,
     first: &[u8],
     second: &[u8],
     place: usize,
-    known: &mut [u8],
-) -> u8
-    requires sizes { ⌜ (elementCount (now alphabet) ≤ 16) × (elementCount (now inputs) < 256) ⌝ }
-    requires indexes { ⌜ (getD (changed change 0 (now first)) place 0 < elementCount (now alphabet))
-        × (getD (changed change 1 (now second)) place 0 < elementCount (now alphabet)) ⌝ }
-    requires known { ⌜ Known (now alphabet) (now inputs) (now known) ⌝ }
-    ensures index { λ r. ⌜ r ≡ inputAt (now (alphabet .entry)) (now (inputs .entry)) (changed change 0 (now (first .entry)))
-        (changed change 1 (now (second .entry))) place ⌝ }
-    ensures known { λ r. ⌜ Known (now (alphabet .entry)) (now (inputs .entry)) (now (known .exit)) ⌝ }
+    end: usize,
+    known: &[u8; 256],
+    row: &mut [u8; 256],
+) -> usize
+    requires { ⌜ (place ≤ end) × (end ≤ 256)
+        × ((k : ℕ) → k < end → getD (changed change 0 (now first)) k 0 < 16)
+        × ((k : ℕ) → k < end → getD (changed change 1 (now second)) k 0 < 16) ⌝ }
+    ensures place { λ r. ⌜ (place ≤ r) × (r ≤ end) ⌝ }
+    ensures row { λ r. ⌜ KnownRun (now (known .entry)) (changed change 0 (now (first .entry))) (changed change 1 (now (second .entry)))
+        place (now (row .entry)) r (now (row .exit)) ⌝ }
 {
-    let upper = rows::byte_at(change, 0, first, place) as usize;
-    let lower = rows::byte_at(change, 1, second, place) as usize;
-    let pair = 16 * upper + lower;
-    if known[pair] == 255 {
-        known[pair] = digits::sum_index(alphabet, inputs, upper, lower) as u8;
+    let mut at = place;
+    while at < end {
+        let index = known[pair_at(change, first, second, at)];
+        if index == 255 {
+            return at;
+        }
+        row[at] = index;
+        at += 1;
     }
-    known[pair]
+    at
 }
 
-// The input indexes at the places from `from` up to `end`; zeros elsewhere.
+// The input indexes at the places from `from` up to `end`; zeros elsewhere. A pair of digits is looked for once; between two that are new
+// lies a run of known ones, and of such runs long rows are made.
 pub fn input_row(
+    operation: Operation,
     alphabet: &[u8],
     inputs: &[u8],
     change: Change,
@@ -51,15 +91,17 @@ pub fn input_row(
         × ((k : ℕ) → k < end → getD (changed change 0 (now first)) k 0 < elementCount (now alphabet))
         × ((k : ℕ) → k < end → getD (changed change 1 (now second)) k 0 < elementCount (now alphabet))
         × (elementCount (now alphabet) ≤ 16) ⌝ }
-    ensures { λ r. ⌜ r ≡ partRow (inputAt (now (alphabet .entry)) (now (inputs .entry)) (changed change 0 (now (first .entry)))
+    ensures { λ r. ⌜ r ≡ partRow (inputAt operation (now (alphabet .entry)) (now (inputs .entry)) (changed change 0 (now (first .entry)))
         (changed change 1 (now (second .entry)))) from end ⌝ }
 {
     let mut row = [0u8; 256];
     let mut known = [255u8; 256];
     let mut place = from;
     while place < end {
-        row[place] = input_at(alphabet, inputs, change, first, second, place, &mut known);
-        place += 1;
+        let upper = rows::byte_at(change, 0, first, place) as usize;
+        let lower = rows::byte_at(change, 1, second, place) as usize;
+        row[place] = learn(operation, alphabet, inputs, upper, lower, &mut known);
+        place = known_run(change, first, second, place + 1, end, &known, &mut row);
     }
     row
 }

@@ -15,6 +15,7 @@ ghost use Rattle.edit_rules.specs.State.{state};
 ghost use Rattle.row_edit.specs.Answer.{outcomeOf};
 use edit_rules::EditedFacts;
 use faults::Fault;
+use ring::Operation;
 use row_rules::Change;
 
 pub enum Edited {
@@ -98,7 +99,7 @@ pub fn edit_rows(
     let place = change.place;
     let from = part_start(place, depth);
     let end = part_end(place, depth, first.len());
-    let row = adder::inputs_of(table, change, first, second, from, end);
+    let row = adder::inputs_of(Operation::Plus, table, change, first, second, from, end);
     let mut digits = [0u8; 9];
     let found = adder::digits_of(table, &row, place, depth + 1, &mut digits);
     if found <= depth {

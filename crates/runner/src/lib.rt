@@ -5,7 +5,7 @@ ghost use lib.ListN.{length};
 ghost use Rattle.lists.specs.Overwrite.{overwrite};
 ghost use Rattle.faults.specs.Outcome.{atExit};
 ghost use Rattle.edit_rules.specs.State.{state};
-ghost use Rattle.adder_rules.specs.Add.{addSum};
+ghost use Rattle.adder_rules.specs.Calls.{addSum};
 ghost use Rattle.runner_rules.specs.Told.{groupsOf, numbersOf, valuesOf};
 ghost use Rattle.runner_rules.specs.Run.{askedEdits, runOutcome, runAll};
 ghost use Rattle.runner.specs.Answer.{outcomeOf};

@@ -26,7 +26,7 @@ input-row-requires c κs =
 returns : tie.Need-returns
 returns c =
     let a = c .before .before .before .before .before .before .args in
-    c .input-row .ensures ∙ (λ i. partRow (inputAt (c .before .before .section .ensures i) (c .before .section2 .ensures i) (changed (a .change) 0 (a .first .now)) (changed (a .change) 1 (a .second .now))) (a .from) (a .end))
+    c .input-row .ensures ∙ (λ i. partRow (inputAt (a .operation) (c .before .before .section .ensures i) (c .before .section2 .ensures i) (changed (a .change) 0 (a .first .now)) (changed (a .change) 1 (a .second .now))) (a .from) (a .end))
 
 pub inputs-of-spec : {M : Type 1} → statement M
 inputs-of-spec =

@@ -1,9 +1,10 @@
 -- The quick look says that nothing is broken; else a scan over the records, then the sums.
-use Rattle.digit_rules.proofs.Allowed.{Passed, input-broken, input-on, only-missing, inputs-kept}
-use borrow.Author.Needs.{needs}
-use borrow.Author.Tests.{not-true, not-false}
-use native.Mathlib.Nat.{sub-zero}
 use Prim.Native.Nat.{_≤_, _-_}
+use native.Mathlib.Nat.{sub-zero}
+use borrow.Author.Tests.{not-true, not-false}
+use borrow.Author.Needs.{needs}
+use Rattle.digit_rules.proofs.Allowed.{Passed, input-broken, input-on, only-missing, inputs-kept, some-unlisted, none-unlisted}
+use Rattle.ring.specs.declared.Operation.the-variants.{Plus}
 use Rattle.digit_check.proofs.input_rule.Statement.{statement}
 use Rattle.digit_check.proofs.input_rule.Tie as tie
 
@@ -25,11 +26,11 @@ record-count-requires c κs = search needs
 loop-holds : tie.Need-loop-holds Inv-loop μ-loop
 loop-holds c = (search needs, simp sub-zero)
 
-input-allowed-requires : tie.Need-input-allowed-requires Inv-loop μ-loop
-input-allowed-requires c κs = search needs
+record-allowed-requires : tie.Need-record-allowed-requires Inv-loop μ-loop
+record-allowed-requires c κs = search needs
 
 returns-2 : tie.Need-returns-2 Inv-loop μ-loop
-returns-2 c = input-broken _ _ _ _ (c .before .before .before .before .record-count .ensures) (c .before .before .before .loop .inv .1) _ (c .before .before .loop-test .taken) (c .before .input-allowed .ensures) (not-true _ (c .if2 .taken))
+returns-2 c = input-broken _ _ _ _ (c .before .before .before .before .record-count .ensures) (c .before .before .before .loop .inv .1) _ (c .before .before .loop-test .taken) (c .before .record-allowed .ensures) (not-true _ (c .if2 .taken))
 
 add-input : tie.Need-add-input Inv-loop μ-loop
 add-input c = search needs
@@ -38,16 +39,23 @@ loop-less : tie.Need-loop-less Inv-loop μ-loop
 loop-less c = search needs
 
 loop-again : tie.Need-loop-again Inv-loop μ-loop
-loop-again c = (search needs, input-on _ _ _ _ (c .before .before .before .before .record-count .ensures) (c .before .before .before .loop .inv .1) _ (c .before .before .loop-test .taken) (c .before .input-allowed .ensures) (not-false _ (c .if2 .left)))
+loop-again c = (search needs, input-on _ _ _ _ (c .before .before .before .before .record-count .ensures) (c .before .before .before .loop .inv .1) _ (c .before .before .loop-test .taken) (c .before .record-allowed .ensures) (not-false _ (c .if2 .left)))
 
-all-sums-listed-requires : tie.Need-all-sums-listed-requires Inv-loop μ-loop
-all-sums-listed-requires c κs = search needs
+first-unlisted-requires : tie.Need-first-unlisted-requires Inv-loop μ-loop
+first-unlisted-requires c κs = search needs
+
+record-count-requires-2 : tie.Need-record-count-requires-2 Inv-loop μ-loop
+record-count-requires-2 c κs = search needs
 
 returns-3 : tie.Need-returns-3 Inv-loop μ-loop
-returns-3 c = only-missing _ _ _ _ (c .before .before .before .before .record-count .ensures) (c .before .before .before .loop .inv .1) _ (c .before .before .before .loop .inv .0) (c .before .before .loop-test .left) (c .before .all-sums-listed .ensures) (not-true _ (c .if3 .taken))
+returns-3 c =
+    let unlisted = some-unlisted Plus _ _ _ _ (c .before .before .first-unlisted .ensures) (c .before .record-count2 .ensures) (c .if3 .taken) in
+    only-missing _ _ _ _ (c .before .before .before .before .before .record-count .ensures) (c .before .before .before .before .loop .inv .1) (c .before .before .before .before .loop .inv .0) (c .before .before .before .loop-test .left) unlisted
 
 returns-4 : tie.Need-returns-4 Inv-loop μ-loop
-returns-4 c = inputs-kept _ _ _ _ (c .before .before .before .before .record-count .ensures) (c .before .before .before .loop .inv .1) _ (c .before .before .before .loop .inv .0) (c .before .before .loop-test .left) (c .before .all-sums-listed .ensures) (not-false _ (c .if3 .left))
+returns-4 c =
+    let listed = none-unlisted Plus _ _ _ _ (c .before .before .first-unlisted .ensures) (c .before .record-count2 .ensures) (c .if3 .left) in
+    inputs-kept _ _ _ _ (c .before .before .before .before .before .record-count .ensures) (c .before .before .before .before .loop .inv .1) (c .before .before .before .before .loop .inv .0) (c .before .before .before .loop-test .left) listed
 
 pub input-rule-spec : {M : Type 1} → statement M
 input-rule-spec =
@@ -59,11 +67,12 @@ input-rule-spec =
     returns
     record-count-requires
     loop-holds
-    input-allowed-requires
+    record-allowed-requires
     returns-2
     add-input
     loop-less
     loop-again
-    all-sums-listed-requires
+    first-unlisted-requires
+    record-count-requires-2
     returns-3
     returns-4)

@@ -89,8 +89,8 @@ digits-of-requires c κs =
     (inputs-of .result) (inputs-of .ensures) in
     (pre .0, (held, (omega (arith, few s, pre .1 .1 .0 .in-row, pre .1 .0 .short), omega (arith, few s))))
 
-add-t25 : tie.Need-add-t25
-add-t25 c = search needs
+add-t26 : tie.Need-add-t26
+add-t26 c = search needs
 
 same-length : tie.Need-same-length
 same-length c = search needs
@@ -201,7 +201,7 @@ edit-rows-spec =
     add-digits-of
     slice-aggregate-digits-of-2
     digits-of-requires
-    add-t25
+    add-t26
     same-length
     same-length-2
     returns

@@ -1,7 +1,8 @@
 -- The check's fault, or the addition's, or the number of edits.
 use Rattle.runner_rules.proofs.Outcome.{check-refused, add-refused, both-passed}
 use Rattle.edit_rules.specs.State.{state}
-use Rattle.adder_rules.proofs.Sum.{sum-lent}
+use Rattle.adder_rules.proofs.Sum.{buffer-lent}
+use Rattle.ring.specs.declared.Operation.the-variants.{Plus}
 use Rattle.faults.specs.Outcome.{atExit}
 use Rattle.faults.specs.Stated.{whose, numberOf, placeOf}
 use Rattle.table.specs.Answer.{outcomeOf as checkedAs}
@@ -72,7 +73,7 @@ returns-4 c =
     let is = sym (ap addedAs (c .before .added2 .given .1)) ∙ sym (ap addedAs (c .before .before .before .before .added .given .1)) ∙ add .ensures .0 in
     let lent = state (a .first .now) (a .second .now) (a .sum .now) in (
       add-refused (a .table .now) lent (a .edits) (accepted .given .0 .0) passed (whose fault) (numberOf fault) (placeOf fault) is,
-      add .ensures .1 ∙ sym (sum-lent (a .table .now) (a .first .now) (a .second .now) (a .sum .now) (whose fault) (numberOf fault) (placeOf fault) is),
+      add .ensures .1 ∙ sym (buffer-lent Plus (a .table .now) (a .first .now) (a .second .now) (a .sum .now) (whose fault) (numberOf fault) (placeOf fault) is),
     )
 
 same-length-3 : tie.Need-same-length-3
