@@ -8,7 +8,7 @@ ghost use Rattle.lists.specs.Overwrite.{overwrite};
 ghost use Rattle.faults.specs.Outcome.{facts};
 ghost use Rattle.midpoint.specs.Midpoint.{midpointOf};
 ghost use Rattle.table_rules.specs.Check.{checkOutcome};
-ghost use Rattle.adder_rules.specs.Add.{addOutcome, addSum};
+ghost use Rattle.adder_rules.specs.Calls.{addOutcome, addSum, subtractOutcome, subtractDifference};
 ghost use Rattle.edit_rules.specs.Edit.{editOutcome, editState};
 ghost use Rattle.edit_rules.specs.State.{state};
 ghost use Rattle.value_call_rules.specs.Value.{valueOutcome};
@@ -48,6 +48,27 @@ pub extern "C" fn yoyomyrtle_add(
         return 2;
     }
     answers::added(answer, adder::add(table, first, second, sum))
+}
+
+#[no_mangle]
+pub extern "C" fn yoyomyrtle_subtract(
+    table: &[u8],
+    first: &[u8],
+    second: &[u8],
+    difference: &mut [u8],
+    answer: &mut [i64],
+) -> u64
+    ensures outcome { λ r. ⌜ (let o = subtractOutcome (now (table .entry)) (now (first .entry)) (now (second .entry)) (length (now (difference .entry))) in
+        (r ≡ returned o (now (answer .entry)))
+        × (now (answer .exit) ≡ answered addWords o (now (answer .entry)))) ⌝ }
+    ensures difference { λ r. ⌜ now (difference .exit)
+        ≡ ifRoom 8 (length (now (answer .entry)))
+        (subtractDifference (now (table .entry)) (now (first .entry)) (now (second .entry)) (now (difference .entry))) (now (difference .entry)) ⌝ }
+{
+    if answer.len() < 8 {
+        return 2;
+    }
+    answers::subtracted(answer, adder::subtract(table, first, second, difference))
 }
 
 // The row number, the place and the digit have 64 bits, as usize has.

@@ -5,11 +5,12 @@ ghost use lib.ListN.{length};
 ghost use Rattle.lists.specs.Overwrite.{overwrite};
 ghost use Rattle.answer_rules.specs.Answer.{outcomeStatus, outcomeWords, checkWords, addWords, editWords, runWords, elementWords};
 ghost use Rattle.table.specs.Answer.{outcomeOf as checkedAs};
-ghost use Rattle.adder.specs.Answer.{outcomeOf as addedAs};
+ghost use Rattle.adder.specs.Answer.{outcomeOf as addedAs, subtractedAs};
 ghost use Rattle.row_edit.specs.Answer.{outcomeOf as editedAs};
 ghost use Rattle.runner.specs.Answer.{outcomeOf as ranAs};
 ghost use Rattle.value_call.specs.Answer.{valuedAs};
 use adder::Added;
+use adder::Subtracted;
 use row_edit::Edited;
 use runner::Ran;
 use table::Checked;
@@ -45,6 +46,17 @@ pub fn added(answer: &mut [i64], given: Added) -> u64
     match given {
         Added::Sum(f) => answer_words::put_number(answer, f.places),
         Added::Refused(fault) => answer_words::refuse(answer, fault),
+    }
+}
+
+pub fn subtracted(answer: &mut [i64], given: Subtracted) -> u64
+    requires { ⌜ 8 ≤ length (now answer) ⌝ }
+    ensures status { λ r. ⌜ r ≡ outcomeStatus (subtractedAs given) ⌝ }
+    ensures answer { λ r. ⌜ now (answer .exit) ≡ overwrite (now (answer .entry)) 0 (outcomeWords addWords (subtractedAs given)) ⌝ }
+{
+    match given {
+        Subtracted::Difference(f) => answer_words::put_number(answer, f.places),
+        Subtracted::Refused(fault) => answer_words::refuse(answer, fault),
     }
 }
 

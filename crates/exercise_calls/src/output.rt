@@ -2,6 +2,7 @@
 ghost use Prim.Native.Nat.{_≤_};
 ghost use lib.ListN.{length};
 use adder::Added;
+use adder::Subtracted;
 use faults::Fault;
 use midpoint::Element;
 use row_edit::Edited;
@@ -94,6 +95,14 @@ pub fn added(answer: Added) {
     match answer {
         Added::Sum(facts) => item(b" sum ", facts.places),
         Added::Refused(fault) => refused(fault),
+    }
+}
+
+// ` difference K`, or the fault.
+pub fn subtracted(answer: Subtracted) {
+    match answer {
+        Subtracted::Difference(facts) => item(b" difference ", facts.places),
+        Subtracted::Refused(fault) => refused(fault),
     }
 }
 

@@ -8,6 +8,24 @@ pub fn damaged() -> [u8; 165] {
     file
 }
 
+// TERN with 3, 4 for the alphabet digits −1, −2, and 5 to 8 for the input digits −1 to −4: every sum is listed, and no difference below zero.
+pub fn without_negatives() -> [u8; 165] {
+    let mut file = carried::tern();
+    file[40] = 3;
+    file[41] = 0;
+    file[44] = 4;
+    file[45] = 0;
+    file[68] = 5;
+    file[69] = 0;
+    file[72] = 6;
+    file[73] = 0;
+    file[76] = 7;
+    file[77] = 0;
+    file[80] = 8;
+    file[81] = 0;
+    file
+}
+
 // M12
 pub fn without_weight() {
     output::checked(b"M12", table::check(&damaged()));

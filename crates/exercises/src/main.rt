@@ -3,6 +3,7 @@
 use exercise_calls::additions;
 use exercise_calls::arithmetic;
 use exercise_calls::lines;
+use exercise_calls::subtractions;
 use exercise_calls::tables;
 use exercise_calls::values;
 
@@ -25,6 +26,12 @@ fn tables_and_sums() {
     additions::bin_limits();
     additions::row_faults();
     additions::damaged_sums();
+}
+
+fn differences() {
+    subtractions::differences();
+    subtractions::unlisted();
+    subtractions::damaged_difference();
 }
 
 fn edited_rows() {
@@ -50,6 +57,7 @@ fn elements_of_rows() {
 fn main() {
     marked();
     tables_and_sums();
+    differences();
     edited_rows();
     elements_of_rows();
     lines::of_files();

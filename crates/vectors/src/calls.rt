@@ -5,6 +5,11 @@ use crate::input;
 use crate::input::Read;
 use crate::output;
 
+// The calls on rows but for addition.
+const EDIT: u8 = 3;
+
+const SUBTRACT: u8 = 8;
+
 // 1: the file.
 pub fn check() -> bool {
     let mut file = [0u8; 70000];
@@ -30,21 +35,26 @@ fn edit_line(table: &[u8], first: &mut [u8], second: &mut [u8], sum: &mut [u8]) 
     output::edited(answer, first, second, sum)
 }
 
-// The addition or the edit, and its line. The caller's buffers are never longer than the line has room for; the test makes it plain.
-fn called(edit: bool, table: &[u8], first: &mut [u8], second: &mut [u8], sum: &mut [u8]) -> bool {
+// The addition, the edit or the subtraction, and its line. The caller's buffers are never longer than the line has room for; the test
+// makes it plain.
+fn called(call: u8, table: &[u8], first: &mut [u8], second: &mut [u8], sum: &mut [u8]) -> bool {
     if 600 < first.len() || 600 < second.len() || 1000 < sum.len() {
         return false;
     }
-    if edit {
+    if call == EDIT {
         return edit_line(table, first, second, sum);
+    }
+    if call == SUBTRACT {
+        let answer = adder::subtract(table, first, second, sum);
+        return output::subtracted(answer, sum);
     }
     let answer = adder::add(table, first, second, sum);
     output::added(answer, sum)
 }
 
-// 2 and 3: the table, the first row, the second row, the sum buffer; then what is the edit's alone. Whole buffers are written, so a
-// fault shows that they were left alone.
-pub fn on_rows(edit: bool) -> bool {
+// 2, 3 and 8: the table, the first row, the second row, the buffer for the result; then what is the edit's alone. Whole buffers are
+// written, so a fault shows that they were left alone.
+pub fn on_rows(call: u8) -> bool {
     let mut table = [0u8; 70000];
     let mut first = [0u8; 600];
     let mut second = [0u8; 600];
@@ -66,7 +76,7 @@ pub fn on_rows(edit: bool) -> bool {
         return false;
     };
     called(
-        edit,
+        call,
         &table[..t],
         &mut first[..f],
         &mut second[..s],

@@ -13,8 +13,7 @@ fn answered() -> bool {
     let call = name[0];
     match call {
         1 => calls::check(),
-        2 => calls::on_rows(false),
-        3 => calls::on_rows(true),
+        2 | 3 | 8 => calls::on_rows(call),
         4 => calls::value(),
         5 => calls::midpoint(),
         6 => output::table_bytes(&carried::tern()),

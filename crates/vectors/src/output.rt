@@ -3,6 +3,8 @@ ghost use mathlib.Core.Path.{_≡_};
 ghost use Prim.Native.Nat.{_+_, _*_, _≤_};
 ghost use lib.ListN.{length};
 use adder::Added;
+use adder::Subtracted;
+use faults::Fault;
 use midpoint::Element;
 use row_edit::Edited;
 use table::Checked;
@@ -85,20 +87,41 @@ fn put_count(out: &mut [u8], word: &[u8], n: usize) -> usize
     text::put_item(out, 0, word, n)
 }
 
+// A word, a count and a whole buffer.
+fn counted(word: &[u8], n: usize, buffer: &[u8]) -> bool
+    requires { ⌜ (length (now word) ≤ 20) × (length (now buffer) ≤ 1000) ⌝ }
+{
+    let mut out = [0u8; 2200];
+    let end = put_count(&mut out, word, n);
+    with_buffer(&mut out, end, buffer)
+}
+
+// A fault and a whole buffer.
+fn refused(fault: Fault, buffer: &[u8]) -> bool
+    requires { ⌜ length (now buffer) ≤ 1000 ⌝ }
+{
+    let mut out = [0u8; 2200];
+    let end = fault_text::put_fault(&mut out, 0, fault);
+    with_buffer(&mut out, end, buffer)
+}
+
 // `sum K SUM`, or the fault and SUM.
 pub fn added(answer: Added, sum: &[u8]) -> bool
     requires { ⌜ length (now sum) ≤ 1000 ⌝ }
 {
-    let mut out = [0u8; 2200];
     match answer {
-        Added::Sum(facts) => {
-            let end = put_count(&mut out, b"sum ", facts.places);
-            with_buffer(&mut out, end, sum)
-        }
-        Added::Refused(fault) => {
-            let end = fault_text::put_fault(&mut out, 0, fault);
-            with_buffer(&mut out, end, sum)
-        }
+        Added::Sum(facts) => counted(b"sum ", facts.places, sum),
+        Added::Refused(fault) => refused(fault, sum),
+    }
+}
+
+// `difference K SUM`, or the fault and SUM.
+pub fn subtracted(answer: Subtracted, sum: &[u8]) -> bool
+    requires { ⌜ length (now sum) ≤ 1000 ⌝ }
+{
+    match answer {
+        Subtracted::Difference(facts) => counted(b"difference ", facts.places, sum),
+        Subtracted::Refused(fault) => refused(fault, sum),
     }
 }
 

@@ -1,7 +1,7 @@
--- Addition keeps the length of the sum buffer.
-use lib.ListN.{length}
-use Prim.Native.Nat.{_≤_}
+-- Addition and subtraction keep the length of the lent buffer.
 use native.Mathlib.Omega.{arith}
+use Prim.Native.Nat.{_≤_}
+use lib.ListN.{length}
 use borrow.Author.Needs.{needs}
 use Rattle.vectors.proofs.calls.called.Statement.{statement}
 use Rattle.vectors.proofs.calls.called.Tie as tie
@@ -24,13 +24,13 @@ same-length-3 c = search needs
 returns-2 : tie.Need-returns-2
 returns-2 c = search needs
 
-add-requires : tie.Need-add-requires
-add-requires c κs = search needs
+subtract-requires : tie.Need-subtract-requires
+subtract-requires c κs = search needs
 
-added-requires : tie.Need-added-requires
-added-requires c κs =
-    let room : length (c .before .before .before .before .before .before .before .before .before .before .before .before .before .before .before .args .sum .now) ≤ 1000 = search needs in
-    omega (arith, room, c .before .before .before .add .kept .1 .1 .1 .0)
+subtracted-requires : tie.Need-subtracted-requires
+subtracted-requires c κs =
+    let room : length (c .before .before .before .before .before .before .before .before .before .before .before .before .before .before .before .before .args .sum .now) ≤ 1000 = search needs in
+    omega (arith, room, c .before .before .before .subtract .kept .1 .1 .1 .0)
 
 same-length-4 : tie.Need-same-length-4
 same-length-4 c = search needs
@@ -44,6 +44,26 @@ same-length-6 c = search needs
 returns-3 : tie.Need-returns-3
 returns-3 c = search needs
 
+add-requires : tie.Need-add-requires
+add-requires c κs = search needs
+
+added-requires : tie.Need-added-requires
+added-requires c κs =
+    let room : length (c .before .before .before .before .before .before .before .before .before .before .before .before .before .before .before .before .args .sum .now) ≤ 1000 = search needs in
+    omega (arith, room, c .before .before .before .add .kept .1 .1 .1 .0)
+
+same-length-7 : tie.Need-same-length-7
+same-length-7 c = search needs
+
+same-length-8 : tie.Need-same-length-8
+same-length-8 c = search needs
+
+same-length-9 : tie.Need-same-length-9
+same-length-9 c = search needs
+
+returns-4 : tie.Need-returns-4
+returns-4 c = search needs
+
 pub called-spec : {M : Type 1} → statement M
 called-spec =
     tie.close
@@ -54,9 +74,15 @@ called-spec =
     same-length-2
     same-length-3
     returns-2
-    add-requires
-    added-requires
+    subtract-requires
+    subtracted-requires
     same-length-4
     same-length-5
     same-length-6
-    returns-3)
+    returns-3
+    add-requires
+    added-requires
+    same-length-7
+    same-length-8
+    same-length-9
+    returns-4)

@@ -1,0 +1,49 @@
+-- n + h or the fault, by the answer's case.
+use Rattle.answer_rules.proofs.Answer.{facts-told, fault-told}
+use Rattle.answer_rules.specs.Answer.{addWords}
+use Rattle.adder.specs.Answer.{subtractedAs}
+use mathlib.Core.Path.{ap}
+use borrow.Author.Needs.{needs}
+use Rattle.answers.proofs.subtracted.Statement.{statement}
+use Rattle.answers.proofs.subtracted.Tie as tie
+
+enum-known-given : tie.Need-enum-known-given
+enum-known-given c = search needs
+
+put-number-requires : tie.Need-put-number-requires
+put-number-requires c κs = search needs
+
+enum-known-given-2 : tie.Need-enum-known-given-2
+enum-known-given-2 c = search needs
+
+refuse-requires : tie.Need-refuse-requires
+refuse-requires c κs = search needs
+
+same-length : tie.Need-same-length
+same-length c = search needs
+
+returns : tie.Need-returns
+returns c =
+    let f = c .before .before .before .before .given .given in
+    facts-told addWords (subtractedAs (c .before .before .before .before .before .before .args .given)) (c .before .before .before .before .before .before .args .answer .now) (f .0 .0) _ _ (ap subtractedAs (f .1)) (c .before .put-number .ensures .0) (c .before .put-number .ensures .1)
+
+same-length-2 : tie.Need-same-length-2
+same-length-2 c = search needs
+
+returns-2 : tie.Need-returns-2
+returns-2 c =
+    let f = c .before .before .before .before .given2 .given in
+    fault-told addWords (subtractedAs (c .before .before .before .before .before .before .args .given)) (c .before .before .before .before .before .before .args .answer .now) (f .0 .0) _ _ (ap subtractedAs (f .1)) (c .before .refuse .ensures .0) (c .before .refuse .ensures .1)
+
+pub subtracted-spec : {M : Type 1} → statement M
+subtracted-spec =
+    tie.close
+    (tie.spec
+    enum-known-given
+    put-number-requires
+    enum-known-given-2
+    refuse-requires
+    same-length
+    returns
+    same-length-2
+    returns-2)
