@@ -73,6 +73,9 @@ impl Tally {
         }
         self.compare(Call::Check, &mut lent)?;
         let mut calls = vec![Call::Add];
+        if lend::subtracts(&lent) {
+            calls.insert(0, Call::Subtract);
+        }
         calls.extend(lend::edits(parts, accepted, 256));
         for call in &calls {
             if self.compare(*call, &mut lent)? != 0 {
@@ -85,7 +88,7 @@ impl Tally {
         Ok(())
     }
 
-    /// All four calls on a file that may be faulty, with rows and numbers that may be too.
+    /// All timed calls on a file that may be faulty, with rows and numbers that may be too.
     fn compare_calls(
         &mut self,
         parts: &Parts,
@@ -117,6 +120,7 @@ impl Tally {
             place: random.below(length + 1) as u64,
             digit: random.below(digits + 1) as u64,
         };
+        self.compare(Call::Subtract, &mut lent.clone())?;
         for call in [Call::Check, Call::Add, edit, edit, Call::Value] {
             self.compare(call, &mut lent)?;
         }

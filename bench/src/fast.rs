@@ -3,7 +3,7 @@
 //! - Rules 1 to 13 are judged by passes that only say yes or no, nearly without branches; after a no a second pass names the fault.
 //! - An element is one 64-bit key, a·2³² + b, on which sums, differences and β act as on the element; the alphabet has a perfect hash.
 //! - A word is a left-aligned big-endian number, so that order, "begins" and the window's search are comparisons of numbers.
-//! - Rule 12 adds up how many strings each word begins; the sums of two digits are indexed once a call.
+//! - Rule 12 adds up how many strings each word begins; the sums of two digits, or their differences, are indexed once a call.
 //! - Rule 14 walks upper and lower leaves side by side, in runs of neighbours or by sets of weights.
 #![forbid(unsafe_code)]
 
@@ -21,13 +21,13 @@ use reference::{Element, Fault, Group, TableFacts};
 use alphabet::Alphabet;
 use layout::Sections;
 use leaves::Code;
-use sums::SumIndex;
+use sums::PairIndex;
 
 /// A table past 1 to 13.
 struct Table<'a> {
     sections: Sections<'a>,
     alphabet: Alphabet,
-    sums: SumIndex,
+    sums: PairIndex,
     code: Code<'a>,
 }
 
@@ -76,18 +76,38 @@ pub fn check(file: &[u8], pairs: Pairs) -> Result<TableFacts, Fault> {
 pub fn add(file: &[u8], first: &[u8], second: &[u8], sum: &mut [u8]) -> Result<usize, Fault> {
     let table = read::<true>(file)?;
     rows::check(&table, first, second, sum.len())?;
+    combine(&table, &table.sums, first, second, sum)
+}
+
+/// Subtraction.
+pub fn subtract(file: &[u8], first: &[u8], second: &[u8], out: &mut [u8]) -> Result<usize, Fault> {
+    let table = read::<true>(file)?;
+    rows::check(&table, first, second, out.len())?;
+    let differences = sums::differences(&table.sections).map_err(|digit| author(42, digit))?;
+    combine(&table, &differences, first, second, out)
+}
+
+/// The conversion of what an index makes of the digits at each place.
+#[inline(always)]
+fn combine(
+    table: &Table,
+    index: &PairIndex,
+    first: &[u8],
+    second: &[u8],
+    sum: &mut [u8],
+) -> Result<usize, Fault> {
     let places = first.len() + table.code.depth;
     let mut row = [0; leaves::LONGEST + rows::MOST_PLACES];
     let pairs = first.iter().zip(second);
     for (input, (x, y)) in row[leaves::LONGEST..].iter_mut().zip(pairs) {
-        *input = rows::input(&table, *x, *y);
+        *input = rows::input(index, *x, *y);
     }
     let row = &row[..leaves::LONGEST + places];
     let by_first = table.code.first_digits(table.sections.inputs.len());
     let mut digits = [0; rows::MOST_PLACES];
     let digits = &mut digits[..places];
     let find = |window| by_first.search(window);
-    rows::convert::<{ rows::MOST_PLACES }>(&table, find, row, 0, digits)?;
+    rows::convert::<{ rows::MOST_PLACES }>(table, find, row, 0, digits)?;
     sum[..places].copy_from_slice(digits);
     Ok(places)
 }
@@ -111,7 +131,7 @@ pub fn edit(
         if place == edited {
             pair[row] = digit as u8;
         }
-        *input = rows::input(&table, pair[0], pair[1]);
+        *input = rows::input(&table.sums, pair[0], pair[1]);
     }
     let inputs = &inputs[..leaves::LONGEST + places];
     let mut digits = [0; leaves::LONGEST + 1];

@@ -1,6 +1,6 @@
 //! The rows and buffers that the timed calls are given.
 
-use reference::Parts;
+use reference::{Answer, Parts};
 
 use crate::interface::{Call, Lent, ANSWER_WORDS};
 use crate::random::Random;
@@ -36,6 +36,13 @@ pub fn value_row(parts: &Parts, length: usize) -> Lent {
         .skip(digits)
         .for_each(|digit| *digit = 0);
     lent
+}
+
+/// Subtraction takes these rows: rule 42 has nothing against the table.
+pub fn subtracts(lent: &Lent) -> bool {
+    let mut difference = lent.sum.clone();
+    let answer = reference::subtract(&lent.table, &lent.first, &lent.second, &mut difference);
+    matches!(answer, Answer::Facts(_))
 }
 
 /// Edits that are taken, each of another place.

@@ -10,6 +10,7 @@ mod agree;
 #[allow(unsafe_code)]
 mod calls;
 #[path = "../../differential/src/codes.rs"]
+#[allow(dead_code)]
 mod codes;
 #[path = "../../differential/src/damage.rs"]
 mod damage;

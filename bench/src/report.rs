@@ -23,17 +23,23 @@ struct Job {
     lent: Lent,
 }
 
-/// The four calls on a table, with rows of n digits.
+/// The calls on a table, with rows of n digits; subtraction where its alphabet and input digits let it be.
 fn jobs(sample: &Sample, length: usize) -> Vec<Job> {
     let (parts, accepted) = (&sample.parts, sample.accepted);
     let job = |name, calls, lent| Job { name, calls, lent };
     let rows = || lend::rows(parts, accepted, length);
-    vec![
+    let mut jobs = vec![
         job("check", vec![Call::Check], rows()),
         job("add", vec![Call::Add], rows()),
+    ];
+    if lend::subtracts(&rows()) {
+        jobs.push(job("subtract", vec![Call::Subtract], rows()));
+    }
+    jobs.extend([
         job("edit", lend::edits(parts, accepted, length), rows()),
         job("value", vec![Call::Value], lend::value_row(parts, length)),
-    ]
+    ]);
+    jobs
 }
 
 /// A table of results: what stands in front of each line, and its races.

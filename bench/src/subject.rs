@@ -28,12 +28,19 @@ impl Calls for Fast {
             Call::Add => store(answer, fast::add(table, first, second, sum), |places| {
                 [places as i64]
             }),
+            Call::Subtract => store(
+                answer,
+                fast::subtract(table, first, second, sum),
+                |places| [places as i64],
+            ),
             Call::Edit { row, place, digit } => {
                 let edited = fast::edit(table, [first, second], sum, [row, place, digit]);
                 store(answer, edited, |count| [count as i64])
             }
             Call::Value => store(answer, fast::value(table, first), |x| [x.a, x.b]),
-            Call::Run | Call::Midpoint { .. } | Call::Tern | Call::Bin => unreachable!("not a timed call"),
+            Call::Run | Call::Midpoint { .. } | Call::Tern | Call::Bin => {
+                unreachable!("not a timed call")
+            }
         }
     }
 }

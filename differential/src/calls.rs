@@ -21,6 +21,18 @@ extern "C" {
         answer: *mut i64,
         answer_len: usize,
     ) -> u64;
+    fn yoyomyrtle_subtract(
+        table: *const u8,
+        table_len: usize,
+        first: *const u8,
+        first_len: usize,
+        second: *const u8,
+        second_len: usize,
+        difference: *mut u8,
+        difference_len: usize,
+        answer: *mut i64,
+        answer_len: usize,
+    ) -> u64;
     fn yoyomyrtle_edit(
         table: *const u8,
         table_len: usize,
@@ -99,34 +111,15 @@ impl Calls for Library {
                     table, table_len, first, first_len, second, second_len, sum, sum_len, answer,
                     words,
                 ),
+                Call::Subtract => yoyomyrtle_subtract(
+                    table, table_len, first, first_len, second, second_len, sum, sum_len, answer,
+                    words,
+                ),
                 Call::Edit { row, place, digit } => yoyomyrtle_edit(
                     table, table_len, first, first_len, second, second_len, sum, sum_len, row,
                     place, digit, answer, words,
                 ),
-                Call::Run => yoyomyrtle_run(
-                    table,
-                    table_len,
-                    first,
-                    first_len,
-                    second,
-                    second_len,
-                    sum,
-                    sum_len,
-                    lent.rows.as_mut_ptr(),
-                    lent.rows.len(),
-                    lent.places.as_mut_ptr(),
-                    lent.places.len(),
-                    lent.digits.as_mut_ptr(),
-                    lent.digits.len(),
-                    lent.whose.as_mut_ptr(),
-                    lent.whose.len(),
-                    lent.numbers.as_mut_ptr(),
-                    lent.numbers.len(),
-                    lent.values.as_mut_ptr(),
-                    lent.values.len(),
-                    answer,
-                    words,
-                ),
+                Call::Run => run(lent),
                 Call::Value => yoyomyrtle_value(table, table_len, first, first_len, answer, words),
                 Call::Midpoint { x, y } => yoyomyrtle_midpoint(x.0, x.1, y.0, y.1, answer, words),
                 Call::Tern => yoyomyrtle_tern(sum, sum_len),
@@ -134,4 +127,34 @@ impl Calls for Library {
             }
         }
     }
+}
+
+/// The runner, which is lent every buffer.
+///
+/// SAFETY: as above.
+unsafe fn run(lent: &mut Lent) -> u64 {
+    yoyomyrtle_run(
+        lent.table.as_mut_ptr(),
+        lent.table.len(),
+        lent.first.as_mut_ptr(),
+        lent.first.len(),
+        lent.second.as_mut_ptr(),
+        lent.second.len(),
+        lent.sum.as_mut_ptr(),
+        lent.sum.len(),
+        lent.rows.as_mut_ptr(),
+        lent.rows.len(),
+        lent.places.as_mut_ptr(),
+        lent.places.len(),
+        lent.digits.as_mut_ptr(),
+        lent.digits.len(),
+        lent.whose.as_mut_ptr(),
+        lent.whose.len(),
+        lent.numbers.as_mut_ptr(),
+        lent.numbers.len(),
+        lent.values.as_mut_ptr(),
+        lent.values.len(),
+        lent.answer.as_mut_ptr(),
+        lent.answer.len(),
+    )
 }

@@ -5,6 +5,7 @@ use reference::{Answer, Element, Parts};
 use crate::codes::{self, MOST_LEAVES};
 use crate::damage::{self, Draft};
 use crate::interface::{Call, Lent};
+use crate::kinds::Kind;
 use crate::pairs;
 use crate::random::Random;
 use crate::search;
@@ -12,7 +13,7 @@ use crate::tally::{Comparison, Outcome};
 
 /// The tables of a run.
 pub struct Pool {
-    /// Accepted ones: found by the search, and the two carried ones.
+    /// Accepted ones: found by the search, with input digits beyond the sums too, and the two carried ones.
     pub tables: Vec<Parts>,
     /// Ones with a single pair of leaves that rule 14 refuses.
     pub single_pairs: Vec<Parts>,
@@ -20,13 +21,15 @@ pub struct Pool {
     pub self_pairs: Vec<Parts>,
 }
 
-/// How many tables the search looks for.
+/// How many tables the search looks for: ones whose input digits are the sums, and ones with further digits.
 const TABLES: usize = 60;
+const FURTHER_TABLES: usize = 40;
 
 impl Pool {
     pub fn new(seed: u64) -> Self {
         let mut random = Random::new(seed);
-        let mut tables = search::tables(TABLES, &mut random);
+        let mut tables = search::tables(TABLES, false, &mut random);
+        tables.extend(search::tables(FURTHER_TABLES, true, &mut random));
         tables.extend([
             reference::carried::tern_parts(),
             reference::carried::bin_parts(),
@@ -99,9 +102,10 @@ pub fn run(pool: &Pool, comparison: &mut Comparison, random: &mut Random) {
         25..=44 => damaged(pool, comparison, 1, random),
         45..=54 => damaged(pool, comparison, 2, random),
         55..=62 => flipped(pool, comparison, random),
-        63..=66 => cut(pool, comparison, random),
-        67..=71 => prefix_code(comparison, random),
-        72..=73 => refused_pair(pool, comparison, random),
+        63..=65 => cut(pool, comparison, random),
+        66..=69 => prefix_code(comparison, random),
+        70..=71 => refused_pair(pool, comparison, random),
+        72..=73 => widened(pool, comparison, random),
         74..=83 => rows_and_editor(pool, comparison, random),
         84..=91 => values(pool, comparison, random),
         92..=96 => midpoints(comparison, random),
@@ -119,10 +123,16 @@ fn list_of_edits(pool: &Pool, comparison: &mut Comparison, random: &mut Random) 
     edits(&parts, comparison, &mut lent, random);
 }
 
-/// An addition, and edits of what it leaves.
+/// Often a subtraction of the rows; an addition, and edits of what it leaves.
 fn edits(parts: &Parts, comparison: &mut Comparison, lent: &mut Lent, random: &mut Random) {
+    if random.one_in(2) {
+        subtraction(comparison, lent);
+    }
     if comparison.call(Call::Add, lent) != Outcome::Facts {
         return;
+    }
+    if random.one_in(8) {
+        row_values(Call::Add, comparison, lent);
     }
     let most = match random.below(100) {
         _ if lent.table.len() > 5_000 => 8,
@@ -134,6 +144,39 @@ fn edits(parts: &Parts, comparison: &mut Comparison, lent: &mut Lent, random: &m
         let call = random_edit(parts, lent.first.len(), random);
         comparison.call(call, lent);
     }
+}
+
+/// A subtraction with buffers of its own, so that a list goes on from what it had; the values too where it is taken.
+fn subtraction(comparison: &mut Comparison, lent: &Lent) {
+    let mut apart = lent.clone();
+    if comparison.call(Call::Subtract, &mut apart) == Outcome::Facts {
+        row_values(Call::Subtract, comparison, &apart);
+    }
+}
+
+/// The values of both rows and of what a call made of them: where all three fit, the last is the sum or difference of the others.
+fn row_values(call: Call, comparison: &mut Comparison, lent: &Lent) {
+    let written = lent.answer[1] as usize;
+    let mut value = |row: &[u8]| {
+        let mut apart = lent.clone();
+        apart.first = row.to_vec();
+        let given = comparison.call(Call::Value, &mut apart) == Outcome::Facts;
+        given.then(|| Element::new(apart.answer[1], apart.answer[2]))
+    };
+    let (Some(first), Some(second)) = (value(&lent.first), value(&lent.second)) else {
+        return;
+    };
+    let Some(made) = value(&lent.sum[..written]) else {
+        return;
+    };
+    let (expected, kind) = match call {
+        Call::Subtract => (first - second, Kind::DifferenceValues),
+        _ => (first + second, Kind::SumValues),
+    };
+    comparison.count_kind(kind);
+    comparison.law(made == expected, || {
+        format!("{call:?} of {first:?} and {second:?} has the value {made:?}: {lent:?}")
+    });
 }
 
 /// A list of edits through the runner, often a second one on what the first left; seldom with rows that break a rule.
@@ -281,7 +324,7 @@ fn damaged(pool: &Pool, comparison: &mut Comparison, times: usize, random: &mut 
 fn try_table(parts: &Parts, file: Vec<u8>, comparison: &mut Comparison, random: &mut Random) {
     let mut lent = lend(parts, file, random);
     comparison.call(Call::Check, &mut lent);
-    match random.below(6) {
+    match random.below(7) {
         0 => edits(parts, comparison, &mut lent, random),
         1 => {
             let call = random_edit(parts, lent.first.len(), random);
@@ -292,12 +335,13 @@ fn try_table(parts: &Parts, file: Vec<u8>, comparison: &mut Comparison, random: 
         }
         3 => {
             spoil_rows(parts, &mut lent, random);
-            comparison.call(Call::Add, &mut lent);
+            comparison.call(random.pick(&[Call::Add, Call::Subtract]), &mut lent);
         }
         4 => {
             ask(parts, &mut lent, random);
             comparison.call(Call::Run, &mut lent);
         }
+        5 => subtraction(comparison, &lent),
         _ => (),
     }
 }
@@ -366,10 +410,32 @@ fn refused_pair(pool: &Pool, comparison: &mut Comparison, random: &mut Random) {
             let call = random_edit(parts, lent.first.len(), random);
             comparison.call(call, &mut lent);
         }
+        subtraction(comparison, &lent);
         ask(parts, &mut lent, random);
         comparison.call(Call::Run, &mut lent);
         edits(parts, comparison, &mut lent, random);
     }
+}
+
+/// An accepted table with further input digits put among the others, which mostly rule 14 refuses and addition doesn't notice.
+fn widened(pool: &Pool, comparison: &mut Comparison, random: &mut Random) {
+    let mut parts = pool.tables[random.below(pool.tables.len())].clone();
+    for _ in 0..1 + random.below(3) {
+        let reach = random.pick(&[4, 12, 128]);
+        let mut part = |reach: i64| random.between(-reach, reach) as i16;
+        let digit = (part(reach), part(reach.min(4)));
+        if parts.inputs.len() < 136 && parts.leaves.len() < 1_000 && !parts.inputs.contains(&digit)
+        {
+            codes::widen(&mut parts, digit, random);
+        }
+    }
+    let mut draft = Draft::new(&parts);
+    if random.one_in(4) {
+        damage::damage(&mut draft, 8, random);
+    }
+    let mut lent = lend(&parts, draft.write(), random);
+    comparison.call(Call::Check, &mut lent);
+    edits(&parts, comparison, &mut lent, random);
 }
 
 /// Rows and editor numbers with one or two faults in them, outside a list: the sum may hold anything.
@@ -379,9 +445,10 @@ fn rows_and_editor(pool: &Pool, comparison: &mut Comparison, random: &mut Random
     for _ in 0..random.below(3) {
         spoil_rows(&parts, &mut lent, random);
     }
-    match random.below(3) {
+    match random.below(4) {
         0 => comparison.call(Call::Add, &mut lent),
-        1 => comparison.call(Call::Value, &mut lent),
+        1 => comparison.call(Call::Subtract, &mut lent),
+        2 => comparison.call(Call::Value, &mut lent),
         _ => comparison.call(random_edit(&parts, lent.first.len(), random), &mut lent),
     };
 }
@@ -504,8 +571,9 @@ fn short_buffers(pool: &Pool, comparison: &mut Comparison, random: &mut Random) 
         lent.answer.truncate(random.below(8));
     }
     let out = random.pick(&[0, 1, 164, 165, 166, 186, 187, 188, 300]);
-    let call = match random.below(8) {
+    let call = match random.below(9) {
         0 => Call::Check,
+        8 => Call::Subtract,
         1 => Call::Add,
         2 => random_edit(&parts, lent.first.len(), random),
         3 => Call::Value,

@@ -1,5 +1,7 @@
 //! Prefix codes: random complete ones, and finer codes of tables that are already there.
 
+use std::collections::BTreeSet;
+
 use reference::{Element, Parts};
 
 use crate::random::Random;
@@ -38,6 +40,28 @@ pub fn split(parts: &mut Parts, at: usize) {
     parts.leaves.splice(at..=at, children);
 }
 
+/// A further input digit at any index but 0, and a leaf with a small weight wherever a word may now go on with it. Rows of the other
+/// digits are converted as before; with this one rule 14 mostly fails.
+pub fn widen(parts: &mut Parts, digit: (i16, i16), random: &mut Random) {
+    let at = (1 + random.below(parts.inputs.len())) as u8;
+    parts.inputs.insert(usize::from(at), digit);
+    let indexes = parts.leaves.iter_mut().flat_map(|(word, _)| word);
+    indexes
+        .filter(|index| **index >= at)
+        .for_each(|index| *index += 1);
+    let mut begun: BTreeSet<Vec<u8>> = BTreeSet::new();
+    for (word, _) in &parts.leaves {
+        begun.extend((0..word.len()).map(|length| word[..length].to_vec()));
+    }
+    for mut word in begun {
+        word.push(at);
+        let weight = random_weight(Weights::Small, random);
+        parts.leaves.push((word, weight));
+    }
+    // No word begins another, so this is the order of rule 11.
+    parts.leaves.sort();
+}
+
 /// How the weights of a random code are drawn.
 #[derive(Clone, Copy)]
 enum Weights {
@@ -46,11 +70,14 @@ enum Weights {
     Limits,
 }
 
-/// A random complete prefix code over the inputs of a random system. It passes 1 to 13, and mostly not 14.
+/// A random complete prefix code over the inputs of a random system, often with further ones. It passes 1 to 13, and mostly not 14.
 pub fn random_code(most_leaves: usize, random: &mut Random) -> Parts {
     let mut system = search::random_system(random);
     if random.one_in(3) {
         wide_alphabet(&mut system, random);
+    }
+    if random.one_in(3) {
+        search::add_further(&mut system, random);
     }
     let leaves = (0..system.inputs.len())
         .map(|input| (vec![input as u8], Element::ZERO))

@@ -209,10 +209,15 @@ fn record(draft: &mut Draft, section: usize, random: &mut Random) {
     }
 }
 
-/// The same for input digits, and also a record that is no sum, or a missing sum.
+/// The same for input digits, or a missing sum; also digits beyond the sums, which offend only where they are in a sum's place or
+/// repeat one another. One more digit passes rule 8 and has no leaf (12).
 fn inputs(draft: &mut Draft, random: &mut Random) {
     let records = draft.records(2, 4);
-    match random.below(4) {
+    let further = [
+        random.pick(&[-128, -100, 99, 100, 128]),
+        random.pick(&[0, 1, 128]),
+    ];
+    match random.below(7) {
         0 => draft.sections[2].truncate(4 * (records - 1).max(1)),
         1 => {
             let at = 4 * random.below(records) + 2 * random.below(2);
@@ -224,7 +229,35 @@ fn inputs(draft: &mut Draft, random: &mut Random) {
                 draft.sections[1].extend([50, 0, 50, 0]);
             }
         }
+        3 => further_input(draft, further, random),
+        4 => {
+            further_input(draft, further, random);
+            lose_input(draft, random);
+        }
+        5 => {
+            further_input(draft, further, random);
+            further_input(draft, further, random);
+        }
         _ => record(draft, 2, random),
+    }
+}
+
+/// One record more behind record 0, if there may be.
+fn further_input(draft: &mut Draft, digit: [i16; 2], random: &mut Random) {
+    let records = draft.records(2, 4);
+    let at = 4 * (1 + random.below(records));
+    if records < 136 && at <= draft.sections[2].len() {
+        let bytes = digit.map(i16::to_le_bytes).concat();
+        draft.sections[2].splice(at..at, bytes);
+    }
+}
+
+/// One record less, mostly a sum's, not record 0.
+fn lose_input(draft: &mut Draft, random: &mut Random) {
+    let records = draft.records(2, 4);
+    if records > 2 {
+        let at = 4 * (1 + random.below(records - 1));
+        draft.sections[2].drain(at..at + 4);
     }
 }
 

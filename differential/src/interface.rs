@@ -15,6 +15,7 @@ pub const TOO_SHORT: u64 = 2;
 pub enum Call {
     Check,
     Add,
+    Subtract,
     Edit { row: u64, place: u64, digit: u64 },
     Run,
     Value,
@@ -28,6 +29,7 @@ impl Call {
         match self {
             Call::Check => "check",
             Call::Add => "add",
+            Call::Subtract => "subtract",
             Call::Edit { .. } => "edit",
             Call::Run => "run",
             Call::Value => "value",
@@ -39,8 +41,8 @@ impl Call {
 }
 
 /// Everything lent to a call. A call uses the buffers that it has parameters for: the value call takes `first` as its row, and a
-/// carried table is written to `sum`. The runner takes the numbers of its edits from `rows`, `places` and `digits` and tells their
-/// answers in `whose`, `numbers` and `values`. All are compared after every call, the ones that may only be read included.
+/// difference or a carried table is written to `sum`. The runner takes the numbers of its edits from `rows`, `places` and `digits` and
+/// tells their answers in `whose`, `numbers` and `values`. All are compared after every call, the ones that may only be read included.
 #[derive(Clone, Debug, Default, PartialEq, Eq)]
 pub struct Lent {
     pub table: Vec<u8>,

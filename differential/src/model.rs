@@ -42,29 +42,27 @@ fn answer(call: &Call, lent: &mut Lent) -> Answer<Vec<i64>> {
         values,
         ..
     } = lent;
+    let one = |number: usize| vec![number as i64];
     match *call {
         Call::Check => facts(reference::check(table), |f| {
             vec![f.depth as i64, f.leaves as i64, f.digits as i64]
         }),
-        Call::Add => facts(reference::add(table, first, second, sum), |length| {
-            vec![length as i64]
-        }),
+        Call::Add => facts(reference::add(table, first, second, sum), one),
+        Call::Subtract => facts(reference::subtract(table, first, second, sum), one),
         Call::Edit { row, place, digit } => {
             let edited = reference::edit(table, first, second, sum, row, place, digit);
-            facts(edited, |changed| vec![changed as i64])
+            facts(edited, one)
         }
-        Call::Run => facts(
-            reference::run(table, first, second, sum, &asked),
-            |answers| {
+        Call::Run => {
+            let ran = reference::run(table, first, second, sum, &asked);
+            facts(ran, |answers| {
                 for (k, answer) in answers.iter().enumerate() {
                     [whose[k], numbers[k], values[k]] = told(answer);
                 }
-                vec![answers.len() as i64]
-            },
-        ),
-        Call::Value => facts(reference::value(table, first), |element| {
-            vec![element.a, element.b]
-        }),
+                one(answers.len())
+            })
+        }
+        Call::Value => facts(reference::value(table, first), |x| vec![x.a, x.b]),
         Call::Midpoint { x, y } => {
             let (a, b) = reference::midpoint(x, y);
             Answer::Facts(vec![a.into(), b.into()])

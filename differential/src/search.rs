@@ -1,4 +1,5 @@
-//! A search for weight tables: which weights convert the sums of two digits back into the alphabet.
+//! A search for weight tables: which weights convert the sums of two digits, and further input digits where there are some, back into
+//! the alphabet.
 //!
 //! It is the usual one for parallel addition. First a set Q of weights is grown from zero until every input digit plus a weight of Q
 //! is an alphabet digit plus β times a weight of Q. Then the set is narrowed for each window, one digit deeper at a time: what a
@@ -6,13 +7,16 @@
 
 use std::collections::{BTreeSet, HashMap};
 
-use reference::{Base, Element, Parts};
+use reference::{Base, Element, Operation, Parts};
 
 use crate::random::Random;
 
 const LARGEST_WEIGHT_SET: usize = 40;
 const LARGEST_CODE: usize = 4_000;
 const LONGEST_WORD: usize = 8;
+/// The most input records (rule 3), and the largest part of one (rule 4).
+const MOST_INPUTS: usize = 136;
+const LARGEST_INPUT: i64 = 128;
 
 /// A numeration system: a base and a digit set, zero first in both lists.
 pub struct System {
@@ -21,13 +25,17 @@ pub struct System {
     pub inputs: Vec<Element>,
 }
 
-/// Tables for many bases, found by trying random systems. Each is one that the reference accepts.
-pub fn tables(wanted: usize, random: &mut Random) -> Vec<Parts> {
+/// Tables for many bases, found by trying random systems, with input digits beyond the sums if so wanted. Each is one that the
+/// reference accepts.
+pub fn tables(wanted: usize, further: bool, random: &mut Random) -> Vec<Parts> {
     let mut found: Vec<Parts> = Vec::new();
     let mut tries_left = 400 * wanted;
     while found.len() < wanted && tries_left > 0 {
         tries_left -= 1;
-        let system = random_system(random);
+        let mut system = random_system(random);
+        if further && !add_further(&mut system, random) {
+            continue;
+        }
         let of_base = found
             .iter()
             .filter(|parts| parts.base == base_numbers(&system.base))
@@ -113,6 +121,39 @@ pub fn sums(alphabet: &[Element], random: &mut Random) -> Vec<Element> {
     random.shuffle(&mut list);
     list.insert(0, Element::ZERO);
     list
+}
+
+/// Input digits beyond the sums, which rule 8 lets stand anywhere behind record 0: the differences that are missing, so that no pair
+/// gets 42, or some of them, or small elements, seldom as many as there may be. True if there are any.
+pub fn add_further(system: &mut System, random: &mut Random) -> bool {
+    let sums = system.inputs.len();
+    let mut further = further_digits(&system.alphabet, random);
+    further.retain(|digit| !system.inputs.contains(digit));
+    system.inputs.extend(further);
+    system.inputs.truncate(MOST_INPUTS);
+    if !random.one_in(4) {
+        random.shuffle(&mut system.inputs[1..]);
+    }
+    system.inputs.len() > sums
+}
+
+/// Elements to choose further digits from, each once, in random order.
+fn further_digits(alphabet: &[Element], random: &mut Random) -> Vec<Element> {
+    let differences = || -> BTreeSet<Element> {
+        let of_digit = |x: &Element| Operation::Difference.with_each(*x, alphabet);
+        alphabet.iter().flat_map(of_digit).collect()
+    };
+    let few = 1 + random.below(6);
+    let (choices, most): (Vec<Element>, usize) = match random.below(16) {
+        0..=6 => (differences().into_iter().collect(), MOST_INPUTS),
+        7..=9 => (differences().into_iter().collect(), few),
+        10..=14 => (grid(8, 2), few),
+        _ => (grid(LARGEST_INPUT, 1), MOST_INPUTS),
+    };
+    let mut choices = choices;
+    random.shuffle(&mut choices);
+    choices.truncate(most);
+    choices
 }
 
 /// A table of the system, if the search finds one that the reference accepts.

@@ -1,8 +1,9 @@
-//! What was tried, counted by call and refusal number, and the differences found.
+//! What was tried, counted by call, refusal number and kind, and the differences found.
 
 use std::collections::BTreeMap;
 
 use crate::interface::{Call, Calls, Lent, FACTS, FAULT};
+use crate::kinds::{self, Kind};
 use crate::model::Model;
 
 /// How a call ended, as counted.
@@ -18,7 +19,9 @@ pub struct Comparison<'a> {
     subject: &'a dyn Calls,
     pub counts: BTreeMap<(&'static str, Outcome), u64>,
     pub differences: Vec<String>,
-    /// The row lengths of additions, edits and runs.
+    /// How often each kind of case was met.
+    kinds: BTreeMap<Kind, u64>,
+    /// The row lengths of additions, subtractions, edits and runs.
     lengths: BTreeMap<usize, u64>,
     /// Leaves and depth of the largest codes that the check accepted.
     largest: (i64, i64),
@@ -32,6 +35,7 @@ impl<'a> Comparison<'a> {
             subject,
             counts: BTreeMap::new(),
             differences: Vec::new(),
+            kinds: BTreeMap::new(),
             lengths: BTreeMap::new(),
             largest: (0, 0),
             case: 0,
@@ -61,8 +65,11 @@ impl<'a> Comparison<'a> {
 
     fn count(&mut self, call: &Call, outcome: Outcome, lent: &Lent) {
         *self.counts.entry((call.name(), outcome)).or_default() += 1;
+        for kind in kinds::met(call, outcome, lent) {
+            self.count_kind(kind);
+        }
         match call {
-            Call::Add | Call::Edit { .. } | Call::Run => {
+            Call::Add | Call::Subtract | Call::Edit { .. } | Call::Run => {
                 *self.lengths.entry(lent.first.len()).or_default() += 1
             }
             Call::Check if outcome == Outcome::Facts => {
@@ -70,6 +77,19 @@ impl<'a> Comparison<'a> {
                 self.largest = (leaves.max(lent.answer[2]), depth.max(lent.answer[1]));
             }
             _ => (),
+        }
+    }
+
+    /// One more case of a kind.
+    pub fn count_kind(&mut self, kind: Kind) {
+        *self.kinds.entry(kind).or_default() += 1;
+    }
+
+    /// A law that the answers of several calls have to keep; a difference where they don't.
+    pub fn law(&mut self, holds: bool, law: impl FnOnce() -> String) {
+        if !holds {
+            self.differences
+                .push(format!("case {}: {}", self.case, law()));
         }
     }
 
@@ -81,7 +101,7 @@ impl<'a> Comparison<'a> {
     /// The counts, one line for each call, and then those of each refusal number over all calls.
     pub fn print(&self) {
         for name in [
-            "check", "add", "edit", "run", "value", "midpoint", "tern", "bin",
+            "check", "add", "subtract", "edit", "run", "value", "midpoint", "tern", "bin",
         ] {
             let of_call = self.counts.iter().filter(|((call, _), _)| *call == name);
             let parts: Vec<String> = of_call
@@ -99,10 +119,19 @@ impl<'a> Comparison<'a> {
             .map(|number| format!("{number}: {}", self.of_number(*number)))
             .collect();
         println!("by refusal number: {}", by_number.join(", "));
-        let missing: Vec<String> = self.not_reached().iter().map(i64::to_string).collect();
+        let by_kind: Vec<String> = Kind::ALL
+            .iter()
+            .map(|kind| format!("{kind:?}: {}", self.of_kind(*kind)))
+            .collect();
+        println!("by kind: {}", by_kind.join(", "));
+        let missing = self.not_reached();
         if !missing.is_empty() {
             println!("not reached: {}", missing.join(", "));
         }
+    }
+
+    fn of_kind(&self, kind: Kind) -> u64 {
+        self.kinds.get(&kind).copied().unwrap_or(0)
     }
 
     fn of_number(&self, number: i64) -> u64 {
@@ -113,11 +142,15 @@ impl<'a> Comparison<'a> {
         of_number.map(|(_, count)| count).sum()
     }
 
-    /// The refusal numbers that no call has met.
-    pub fn not_reached(&self) -> Vec<i64> {
+    /// The refusal numbers and kinds that no call has met.
+    fn not_reached(&self) -> Vec<String> {
         let numbers = crate::wrong::NUMBERS.into_iter();
+        let numbers = numbers.filter(|number| self.of_number(*number) == 0);
+        let kinds = Kind::ALL.into_iter();
+        let kinds = kinds.filter(|kind| self.of_kind(*kind) == 0);
+        let numbers = numbers.map(|number| number.to_string());
         numbers
-            .filter(|number| self.of_number(*number) == 0)
+            .chain(kinds.map(|kind| format!("{kind:?}")))
             .collect()
     }
 }

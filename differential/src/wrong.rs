@@ -1,5 +1,7 @@
 //! Implementations with one mistake each, to see that the comparison finds it.
 
+mod subtraction;
+
 use std::cell::Cell;
 
 use reference::Element;
@@ -54,15 +56,48 @@ pub enum Mistake {
     ShortAnswerWritten,
     /// A short out buffer is filled as far as it reaches.
     ShortOutWritten,
+    /// Subtraction takes the first row from the second.
+    SecondMinusFirst,
+    /// Subtraction adds.
+    SubtractAdds,
+    /// Subtraction says 27 before computing.
+    SubtractRefuses,
+    /// Subtraction clears the buffer beyond n + h.
+    DifferenceCleared,
+    /// The place of 42 is the second index of the pair.
+    UnlistedSecondIndex,
+    /// The place of 42 is the first index of the pair that is lowest by second index, and the second index of that.
+    UnlistedByColumn,
+    UnlistedReversed,
+    /// 42 is judged before 23.
+    UnlistedBeforeRoom,
+    /// 42 is left out: the rows are converted, and 27 is said where a difference isn't an input digit.
+    UnlistedLetThrough,
+    /// 42 is judged over the digits that the rows hold, and not over the whole alphabet.
+    UnlistedInRowsOnly,
+    /// A call other than subtraction says 42.
+    UnlistedSaidBy(&'static str),
+    /// A record that is no sum is still refused with 8.
+    FurtherRefused,
+    /// A missing sum is let through by the check.
+    MissingSumPasses,
+    /// The check only counts: a missing sum is let through where there are as many records as sums.
+    SumsCounted,
+    /// A missing sum is told before a record that isn't zero or repeats another.
+    MissingSumFirst,
+    /// Rule 14 looks at the leaves of sums only.
+    PairsOfSumsOnly,
+    /// The place of one refusal number is one too high in subtraction.
+    SubtractPlaceOff(i64),
     /// The place of one refusal number is one too high.
     PlaceOff(i64),
     /// One refusal number is told as the next.
     NumberOff(i64),
 }
 
-/// The refusal numbers of document 01.
-pub const NUMBERS: [i64; 23] = [
-    1, 2, 3, 4, 5, 6, 7, 8, 9, 10, 11, 12, 13, 14, 20, 21, 22, 23, 24, 25, 26, 27, 28,
+/// The refusal numbers of document 01, and 42 of job 2.
+pub const NUMBERS: [i64; 24] = [
+    1, 2, 3, 4, 5, 6, 7, 8, 9, 10, 11, 12, 13, 14, 20, 21, 22, 23, 24, 25, 26, 27, 28, 42,
 ];
 
 /// Every mistake that is tried.
@@ -92,6 +127,7 @@ pub fn mistakes() -> Vec<Mistake> {
         ShortAnswerWritten,
         ShortOutWritten,
     ];
+    all.extend(subtraction::mistakes());
     all.extend(NUMBERS.map(PlaceOff));
     all.extend(NUMBERS.map(NumberOff));
     all
@@ -118,12 +154,17 @@ impl Calls for Wrong {
         let returned = Model.call(&self.asked(call), lent);
         match (call, returned) {
             (Call::Add, FACTS) => self.spoil_add(lent),
+            (Call::Subtract, FACTS) => self.spoil_subtract(&before, lent),
             (Call::Edit { .. }, FACTS) => self.spoil_edit(call, &before, lent),
             (Call::Run, FACTS) => self.spoil_run(&before, lent),
             (_, FAULT) => self.spoil_fault(call, &before, lent),
             _ => (),
         }
         self.spoil_any(call, returned, lent);
+        let takes_table = !matches!(call, Call::Midpoint { .. } | Call::Tern | Call::Bin);
+        if takes_table && returned != TOO_SHORT {
+            self.spoil_digits(call, &before, lent);
+        }
         returned
     }
 }
@@ -244,11 +285,13 @@ impl Wrong {
             (Mistake::RunSkipsCheck, Call::Run) if number == 14 => {
                 Model.call(&Call::Add, lent);
             }
-            (Mistake::SecondRowFirst, Call::Add | Call::Edit { .. } | Call::Run)
-                if number == 21 =>
-            {
+            (
+                Mistake::SecondRowFirst,
+                Call::Add | Call::Subtract | Call::Edit { .. } | Call::Run,
+            ) if number == 21 => {
                 self.spoil_rows(call, before, lent);
             }
+            (_, Call::Subtract) => self.spoil_subtract_fault(number, before, lent),
             (Mistake::LimitLoose, Call::Value) if number == 28 => self.spoil_value(lent),
             _ => (),
         }

@@ -1,7 +1,7 @@
-//! The calls of document 01.
+//! The calls of document 01 and of the jobs that have landed.
 
 use crate::answer::{author, editor, rows, Answer, Fault};
-use crate::element::Element;
+use crate::element::{Element, Operation};
 use crate::table::{self, Table, LONGEST_WORD};
 
 /// The longest row that rule 20 lets pass.
@@ -31,13 +31,33 @@ pub fn check(file: &[u8]) -> Answer<TableFacts> {
 
 /// Addition: writes the sum row of n + h digits and says its length. A refused call writes nothing.
 pub fn add(file: &[u8], first: &[u8], second: &[u8], sum: &mut [u8]) -> Answer<usize> {
+    combine(Operation::Sum, file, first, second, sum)
+}
+
+/// Subtraction (job 2): the same with the first row's digits minus the second's.
+pub fn subtract(file: &[u8], first: &[u8], second: &[u8], difference: &mut [u8]) -> Answer<usize> {
+    combine(Operation::Difference, file, first, second, difference)
+}
+
+/// Addition and subtraction. Rule 8 has every sum among the input digits, so only differences have to be judged, by 42, after 23.
+fn combine(
+    operation: Operation,
+    file: &[u8],
+    first: &[u8],
+    second: &[u8],
+    out: &mut [u8],
+) -> Answer<usize> {
     let convert = || {
         let table = table::read(file)?;
-        check_rows(&table, first, second, sum.len())?;
-        sum_row(&table, first, second, 0..first.len() + table.depth)
+        check_rows(&table, first, second, out.len())?;
+        if operation == Operation::Difference {
+            table.check_differences()?;
+        }
+        let places = 0..first.len() + table.depth;
+        converted_row(operation, &table, first, second, places)
     };
     let written = convert().map(|digits| {
-        sum[..digits.len()].copy_from_slice(&digits);
+        out[..digits.len()].copy_from_slice(&digits);
         digits.len()
     });
     written.into()
@@ -63,12 +83,8 @@ pub fn edit(
         let (place, digit) = (place as usize, digit as u8);
         let mut edited = [first.to_vec(), second.to_vec()];
         edited[row as usize][place] = digit;
-        let digits = sum_row(
-            &table,
-            &edited[0],
-            &edited[1],
-            place..place + table.depth + 1,
-        )?;
+        let places = place..place + table.depth + 1;
+        let digits = converted_row(Operation::Sum, &table, &edited[0], &edited[1], places)?;
         Ok((edited, place, digits))
     };
     let taken = judge().map(|(edited, place, digits)| {
@@ -110,7 +126,8 @@ pub fn run(
                 0 => first[place as usize] = digit as u8,
                 _ => second[place as usize] = digit as u8,
             }
-            let digits = sum_row(&table, first, second, 0..first.len() + table.depth)?;
+            let places = 0..first.len() + table.depth;
+            let digits = converted_row(Operation::Sum, &table, first, second, places)?;
             let changed = sum.iter().zip(&digits).filter(|(x, y)| x != y).count();
             sum[..digits.len()].copy_from_slice(&digits);
             Ok(changed)
@@ -160,19 +177,21 @@ fn check_digits(table: &Table, row: &[u8], number: u8) -> Result<(), Fault> {
     rows(foreign.is_none(), number, foreign.unwrap_or(0))
 }
 
-/// The sum digits at some places, or rule 27 at the lowest of them whose digit isn't in the alphabet.
-fn sum_row(
+/// The digits of a sum or difference at some places, or rule 27 at the lowest of them whose digit isn't in the alphabet. What the
+/// operation makes of the rows' digits has to be input digits, as rules 8 and 42 see to.
+pub fn converted_row(
+    operation: Operation,
     table: &Table,
     first: &[u8],
     second: &[u8],
     places: std::ops::Range<usize>,
 ) -> Result<Vec<u8>, Fault> {
+    let input = |place: i64| input(operation, table, first, second, place);
     let mut digits = Vec::new();
     for place in places {
         let at = place as i64;
-        let here = input(table, first, second, at);
-        let from_below = weight(table, first, second, at - 1);
-        let digit = here + from_below - table.base.times(weight(table, first, second, at));
+        let from_below = weight(table, input, at - 1);
+        let digit = input(at) + from_below - table.base.times(weight(table, input, at));
         let index = table.digit_index(digit);
         author(index.is_some(), 27, place)?;
         digits.extend(index);
@@ -180,22 +199,22 @@ fn sum_row(
     Ok(digits)
 }
 
-/// w(j): the sum of the two digits at a place, zero outside the rows.
-fn input(table: &Table, first: &[u8], second: &[u8], place: i64) -> Element {
+/// w(j): the sum or difference of the two digits at a place, zero outside the rows.
+fn input(operation: Operation, table: &Table, first: &[u8], second: &[u8], place: i64) -> Element {
     let digit = |row: &[u8]| {
         let index = usize::try_from(place)
             .ok()
             .and_then(|place| row.get(place).copied());
         index.map_or(Element::ZERO, |index| table.alphabet[usize::from(index)])
     };
-    digit(first) + digit(second)
+    operation.of(digit(first), digit(second))
 }
 
 /// q(j): the weight of the window w(j), w(j−1), w(j−2), and so on downward.
-fn weight(table: &Table, first: &[u8], second: &[u8], place: i64) -> Element {
+fn weight(table: &Table, input: impl Fn(i64) -> Element, place: i64) -> Element {
     let mut window = [Element::ZERO; LONGEST_WORD];
     for (below, seen) in window.iter_mut().enumerate() {
-        *seen = input(table, first, second, place - below as i64);
+        *seen = input(place - below as i64);
     }
     table.weight(&window)
 }

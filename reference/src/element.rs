@@ -31,6 +31,28 @@ impl Sub for Element {
     }
 }
 
+/// What is done to the two digits at a place before the conversion: addition takes their sum, subtraction (job 2) the first minus the
+/// second.
+#[derive(Clone, Copy, Debug, PartialEq, Eq)]
+pub enum Operation {
+    Sum,
+    Difference,
+}
+
+impl Operation {
+    pub fn of(self, x: Element, y: Element) -> Element {
+        match self {
+            Operation::Sum => x + y,
+            Operation::Difference => x - y,
+        }
+    }
+
+    /// One digit with each of some, in their order.
+    pub fn with_each(self, x: Element, others: &[Element]) -> impl Iterator<Item = Element> + '_ {
+        others.iter().map(move |y| self.of(x, *y))
+    }
+}
+
 /// The base β = u + v·ω of a numeration system in the ring of s and t.
 #[derive(Clone, Copy, Debug, PartialEq, Eq)]
 pub struct Base {

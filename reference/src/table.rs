@@ -1,9 +1,9 @@
-//! The weight table of a numeration system: rules 5 to 14 and the look-up.
+//! The weight table of a numeration system: rules 5 to 14 and 42, and the look-up.
 
 use std::collections::{BTreeSet, HashMap, HashSet};
 
 use crate::answer::{author, Fault};
-use crate::element::{Base, Element};
+use crate::element::{Base, Element, Operation};
 use crate::file::{self, Contents, LeafRecord};
 
 /// The longest word, and the length of the strings that rule 12 speaks of.
@@ -60,19 +60,17 @@ fn check_alphabet(alphabet: &[Element]) -> Result<(), Fault> {
     Ok(())
 }
 
-/// Rule 8: in one pass, record 0 is zero, none repeats, each is a sum; then none of the sums may be missing.
+/// Rule 8: in one pass, record 0 is zero and none repeats; then none of the sums of two alphabet digits may be missing. A record that
+/// is no sum is a further digit and offends nobody (job 2).
 fn check_inputs(alphabet: &[Element], inputs: &[Element]) -> Result<(), Fault> {
-    let mut sums = BTreeSet::new();
-    for x in alphabet {
-        sums.extend(alphabet.iter().map(|y| *x + *y));
-    }
     let mut seen = BTreeSet::new();
     for (record, input) in inputs.iter().enumerate() {
         let starts_with_zero = record > 0 || *input == Element::ZERO;
-        let good = starts_with_zero && sums.contains(input) && seen.insert(*input);
-        author(good, 8, record)?;
+        author(starts_with_zero && seen.insert(*input), 8, record)?;
     }
-    author(seen == sums, 8, inputs.len())
+    let of_digit = |x: &Element| Operation::Sum.with_each(*x, alphabet);
+    let mut sums = alphabet.iter().flat_map(of_digit);
+    author(sums.all(|sum| seen.contains(&sum)), 8, inputs.len())
 }
 
 /// Rule 9: words of 1 to 8 digits that follow one another and fill section 4. Ends are whole numbers.
@@ -157,6 +155,17 @@ impl Table {
                 let digit = first + lower.weight - carried_up;
                 author(self.index_of_digit.contains_key(&digit), 14, number)?;
             }
+        }
+        Ok(())
+    }
+
+    /// Rule 42: the difference of every two alphabet digits is an input digit. The place is the first digit's index, of the pair that
+    /// comes first by first and then second index; rows have no part in it.
+    pub fn check_differences(&self) -> Result<(), Fault> {
+        for (first, digit) in self.alphabet.iter().enumerate() {
+            let mut differences = Operation::Difference.with_each(*digit, &self.alphabet);
+            let listed = differences.all(|input| self.index_of_input.contains_key(&input));
+            author(listed, 42, first)?;
         }
         Ok(())
     }

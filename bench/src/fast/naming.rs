@@ -92,17 +92,13 @@ fn new_digit(records: &[u64], record: usize, digit: u64) -> bool {
 
 /// Rule 8.
 fn input_digits(alphabet: &[u64], inputs: &[u64]) -> Result<(), Fault> {
-    let pairs = alphabet
+    for (record, input) in inputs.iter().enumerate() {
+        demand(new_digit(inputs, record, *input), 8, record)?;
+    }
+    let mut sums = alphabet
         .iter()
         .flat_map(|x| alphabet.iter().map(|y| x.wrapping_add(*y)));
-    let mut sums: Vec<u64> = pairs.collect();
-    sums.sort_unstable();
-    sums.dedup();
-    for (record, input) in inputs.iter().enumerate() {
-        let is_sum = sums.binary_search(input).is_ok();
-        demand(is_sum && new_digit(inputs, record, *input), 8, record)?;
-    }
-    demand(sums.len() == inputs.len(), 8, inputs.len())
+    demand(sums.all(|sum| inputs.contains(&sum)), 8, inputs.len())
 }
 
 /// Rules 9 to 13.

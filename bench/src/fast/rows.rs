@@ -4,6 +4,7 @@ use reference::{Element, Fault, Group};
 
 use super::layout::{element, key, key_times_base};
 use super::leaves::LONGEST;
+use super::sums::PairIndex;
 use super::{author, Table};
 
 const LONGEST_ROW: usize = 256;
@@ -55,8 +56,8 @@ pub fn digit(row: &[u8], place: usize) -> u8 {
 
 /// The input index of two digits. The remainders change nothing, they only say that indexes are small.
 #[inline(always)]
-pub fn input(table: &Table, first: u8, second: u8) -> u8 {
-    table.sums[usize::from(first % 16)][usize::from(second % 16)]
+pub fn input(index: &PairIndex, first: u8, second: u8) -> u8 {
+    index[usize::from(first % 16)][usize::from(second % 16)]
 }
 
 /// The digits of the sum from a place on, or 27. The row has the input indexes of these places, in front of them the eight below;

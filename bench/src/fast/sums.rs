@@ -1,11 +1,11 @@
-//! The input digits as the sums of two alphabet digits (rule 8), each sum indexed once.
+//! The sums and differences of two alphabet digits among the input digits (rules 8 and 42), each indexed once.
 
 use super::layout::{element, Sections};
 
 const MOST_DIGITS: usize = 16;
 
-/// The input index of the sum of two alphabet digits.
-pub type SumIndex = [[u8; MOST_DIGITS]; MOST_DIGITS];
+/// The input index of the sum, or of the difference, of two alphabet digits.
+pub type PairIndex = [[u8; MOST_DIGITS]; MOST_DIGITS];
 
 /// A hash table of input digits: a digit's number and its index in one slot, 0 where there is none.
 struct Inputs<const SLOTS: usize> {
@@ -41,6 +41,12 @@ impl<const SLOTS: usize> Inputs<SLOTS> {
         }
         (number(&records[0]) == 0).then_some(inputs)
     }
+
+    /// The index of the digit with this number, if there is one.
+    fn index(&self, number: i32) -> Option<u8> {
+        let found = self.slots[self.slot(tag(number))];
+        (found != 0).then_some(found as u8)
+    }
 }
 
 /// A number made positive, so that no slot in use is 0.
@@ -48,37 +54,57 @@ fn tag(number: i32) -> u32 {
     (number + (1 << 17)) as u32
 }
 
-/// The index of sums, if the input digits are exactly the sums, each once.
-pub fn index(sections: &Sections) -> Option<SumIndex> {
+/// The index of sums, if record 0 of the input digits is zero, none repeats and no sum is missing.
+pub fn index(sections: &Sections) -> Option<PairIndex> {
     // A quarter full at most, and small where the table is, since it is cleared for every call.
     match sections.inputs.len() {
-        0..=16 => index_with::<64>(sections),
-        17..=34 => index_with::<128>(sections),
-        _ => index_with::<512>(sections),
+        0..=16 => sums_with::<64>(sections),
+        17..=34 => sums_with::<128>(sections),
+        _ => sums_with::<512>(sections),
     }
 }
 
-fn index_with<const SLOTS: usize>(sections: &Sections) -> Option<SumIndex> {
-    let inputs = Inputs::<SLOTS>::of(sections.inputs)?;
+/// The index of differences, first digit minus second; else the first digit of the lowest pair whose difference isn't there. Of a
+/// table past rule 8.
+pub fn differences(sections: &Sections) -> Result<PairIndex, usize> {
+    match sections.inputs.len() {
+        0..=16 => differences_with::<64>(sections),
+        17..=34 => differences_with::<128>(sections),
+        _ => differences_with::<512>(sections),
+    }
+}
+
+/// The alphabet digits as numbers.
+fn digits(sections: &Sections) -> [i32; MOST_DIGITS] {
     let mut digits = [0; MOST_DIGITS];
     for (digit, record) in digits.iter_mut().zip(sections.alphabet) {
         *digit = number(record);
     }
+    digits
+}
+
+fn sums_with<const SLOTS: usize>(sections: &Sections) -> Option<PairIndex> {
+    let inputs = Inputs::<SLOTS>::of(sections.inputs)?;
+    let digits = digits(sections);
     let mut index = [[0; MOST_DIGITS]; MOST_DIGITS];
-    let mut used = [0u64; 4];
     for x in 0..sections.alphabet.len() {
         for y in 0..=x {
-            let found = inputs.slots[inputs.slot(tag(digits[x] + digits[y]))];
-            if found == 0 {
-                return None;
-            }
-            let input = found as u8;
-            used[usize::from(input / 64)] |= 1 << (input % 64);
+            let input = inputs.index(digits[x] + digits[y])?;
             index[x][y] = input;
             index[y][x] = input;
         }
     }
-    // Every sum is an input digit; each input digit is one if as many are used as there are.
-    let distinct: u32 = used.iter().map(|word| word.count_ones()).sum();
-    (distinct as usize == sections.inputs.len()).then_some(index)
+    Some(index)
+}
+
+fn differences_with<const SLOTS: usize>(sections: &Sections) -> Result<PairIndex, usize> {
+    let inputs = Inputs::<SLOTS>::of(sections.inputs).ok_or(0usize)?;
+    let digits = digits(sections);
+    let mut index = [[0; MOST_DIGITS]; MOST_DIGITS];
+    for x in 0..sections.alphabet.len() {
+        for y in 0..sections.alphabet.len() {
+            index[x][y] = inputs.index(digits[x] - digits[y]).ok_or(x)?;
+        }
+    }
+    Ok(index)
 }

@@ -56,7 +56,7 @@ fn next_line(run: &mut Reader) -> Option<String> {
     let [call] = run.take()?;
     match call {
         1 => Some(check_line(&run.buffer()?)),
-        2 => add_line(run),
+        2 => row_line(run, "sum", reference::add),
         3 => edit_line(run),
         4 => {
             let (table, row) = (run.buffer()?, run.buffer()?);
@@ -71,6 +71,7 @@ fn next_line(run: &mut Reader) -> Option<String> {
         }
         6 => Some(format!("table {}", hexadecimal(&reference::tern()))),
         7 => Some(format!("table {}", hexadecimal(&reference::bin()))),
+        8 => row_line(run, "difference", reference::subtract),
         _ => None,
     }
 }
@@ -84,12 +85,15 @@ fn check_line(file: &[u8]) -> String {
     })
 }
 
-fn add_line(run: &mut Reader) -> Option<String> {
+/// Addition or subtraction: both are lent a table, two rows and a buffer.
+type RowCall = fn(&[u8], &[u8], &[u8], &mut [u8]) -> Answer<usize>;
+
+fn row_line(run: &mut Reader, name: &str, call: RowCall) -> Option<String> {
     let (table, first, second) = (run.buffer()?, run.buffer()?, run.buffer()?);
-    let mut sum = run.buffer()?;
-    let answer = reference::add(&table, &first, &second, &mut sum);
-    let head = or_fault(answer, |written| format!("sum {written}"));
-    Some(format!("{head} {}", hexadecimal(&sum)))
+    let mut out = run.buffer()?;
+    let answer = call(&table, &first, &second, &mut out);
+    let head = or_fault(answer, |written| format!("{name} {written}"));
+    Some(format!("{head} {}", hexadecimal(&out)))
 }
 
 fn edit_line(run: &mut Reader) -> Option<String> {

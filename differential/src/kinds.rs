@@ -1,0 +1,137 @@
+//! Kinds of cases that a refusal number alone doesn't tell apart, those of subtraction and of input digits beyond the sums (job 2).
+
+use crate::further::{self, Digits};
+use crate::interface::{Call, Lent};
+use crate::tally::Outcome;
+
+/// A kind of case that a run should meet.
+#[derive(Clone, Copy, Debug, PartialEq, Eq, PartialOrd, Ord)]
+pub enum Kind {
+    /// Subtraction gives facts.
+    Subtracted,
+    /// The same where some difference is no sum, so that further input digits are needed.
+    SubtractedByFurther,
+    /// 42 at place 0, and at a later one.
+    UnlistedFromZero,
+    UnlistedFromLater,
+    /// 42 with empty rows, and with a second row of zeros, whose own differences are all listed.
+    UnlistedEmptyRows,
+    UnlistedHarmlessRows,
+    /// 27 by subtraction.
+    BadDifference,
+    /// A table with further input digits is accepted; one of them stands in front of a sum; there are 136 records.
+    FurtherAccepted,
+    FurtherBetweenAccepted,
+    FurtherFull,
+    /// 14, though the leaves of sums alone would pass.
+    FurtherBreaks14,
+    /// 8 for a further digit that repeats an earlier one, and for a missing sum in spite of further digits.
+    FurtherRepeated,
+    SumMissingAmongFurther,
+    /// As many records as sums or more, but a sum is missing.
+    SumReplaced,
+    /// Additions and edits with further digits in the table.
+    FurtherAdded,
+    FurtherEdited,
+    /// The values of two rows and their sum or difference, all three within 32 bits.
+    SumValues,
+    DifferenceValues,
+}
+
+impl Kind {
+    pub const ALL: [Kind; 18] = [
+        Kind::Subtracted,
+        Kind::SubtractedByFurther,
+        Kind::UnlistedFromZero,
+        Kind::UnlistedFromLater,
+        Kind::UnlistedEmptyRows,
+        Kind::UnlistedHarmlessRows,
+        Kind::BadDifference,
+        Kind::FurtherAccepted,
+        Kind::FurtherBetweenAccepted,
+        Kind::FurtherFull,
+        Kind::FurtherBreaks14,
+        Kind::FurtherRepeated,
+        Kind::SumMissingAmongFurther,
+        Kind::SumReplaced,
+        Kind::FurtherAdded,
+        Kind::FurtherEdited,
+        Kind::SumValues,
+        Kind::DifferenceValues,
+    ];
+}
+
+/// The kinds that a call met, from its outcome and the buffers that it left.
+pub fn met(call: &Call, outcome: Outcome, lent: &Lent) -> Vec<Kind> {
+    let judged = match (call, outcome) {
+        (Call::Subtract, Outcome::Facts | Outcome::Fault(27 | 42)) => true,
+        (Call::Check, Outcome::Facts | Outcome::Fault(8 | 14)) => true,
+        (Call::Add | Call::Edit { .. }, Outcome::Facts) => true,
+        _ => false,
+    };
+    let digits = judged.then(|| Digits::of(&lent.table)).flatten();
+    let Some(digits) = digits else {
+        return Vec::new();
+    };
+    let kinds = match (call, outcome) {
+        (Call::Subtract, _) => subtraction(&digits, outcome, lent),
+        (Call::Check, Outcome::Fault(8)) => broken_inputs(&digits, lent.answer[2] as usize),
+        (Call::Check, _) => checked(&digits, outcome, lent),
+        (Call::Add, _) => vec![(digits.any_further(), Kind::FurtherAdded)],
+        _ => vec![(digits.any_further(), Kind::FurtherEdited)],
+    };
+    let holding = kinds.into_iter().filter(|(holds, _)| *holds);
+    holding.map(|(_, kind)| kind).collect()
+}
+
+fn subtraction(digits: &Digits, outcome: Outcome, lent: &Lent) -> Vec<(bool, Kind)> {
+    let zeros = lent.second.iter().all(|digit| *digit == 0);
+    let (from_zero, empty) = (lent.answer[2] == 0, lent.first.is_empty());
+    match outcome {
+        Outcome::Facts => vec![
+            (true, Kind::Subtracted),
+            (digits.needs_further(), Kind::SubtractedByFurther),
+        ],
+        Outcome::Fault(42) => vec![
+            (from_zero, Kind::UnlistedFromZero),
+            (!from_zero, Kind::UnlistedFromLater),
+            (empty, Kind::UnlistedEmptyRows),
+            (zeros && !empty, Kind::UnlistedHarmlessRows),
+        ],
+        _ => vec![(true, Kind::BadDifference)],
+    }
+}
+
+/// Of a table past rule 8.
+fn checked(digits: &Digits, outcome: Outcome, lent: &Lent) -> Vec<(bool, Kind)> {
+    if !digits.any_further() {
+        return Vec::new();
+    }
+    let full = (digits.inputs.len() == 136, Kind::FurtherFull);
+    if outcome != Outcome::Facts {
+        let alone = further::only_further_pairs_fail(&lent.table);
+        return vec![full, (alone, Kind::FurtherBreaks14)];
+    }
+    vec![
+        full,
+        (true, Kind::FurtherAccepted),
+        (digits.further_between(), Kind::FurtherBetweenAccepted),
+    ]
+}
+
+/// Of a table that rule 8 refuses at a place.
+fn broken_inputs(digits: &Digits, place: usize) -> Vec<(bool, Kind)> {
+    let count = digits.inputs.len();
+    let missing = place == count;
+    vec![
+        (
+            !missing && place > 0 && digits.is_further(place),
+            Kind::FurtherRepeated,
+        ),
+        (
+            missing && digits.any_further(),
+            Kind::SumMissingAmongFurther,
+        ),
+        (missing && count >= digits.sums(), Kind::SumReplaced),
+    ]
+}

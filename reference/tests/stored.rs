@@ -1,0 +1,67 @@
+//! The stored run of outside vectors: every call of it gets the line that the outside implementation gave. It is the library's own
+//! (`crates/vectors`); YOYOMYRTLE_VECTORS names another folder with a `stdin` and a `stdout`.
+
+use std::fs::{self, File};
+use std::path::{Path, PathBuf};
+use std::process::Command;
+
+fn folder() -> PathBuf {
+    let own = || Path::new(env!("CARGO_MANIFEST_DIR")).join("../crates/vectors");
+    std::env::var_os("YOYOMYRTLE_VECTORS").map_or_else(own, PathBuf::from)
+}
+
+/// The first line that two texts don't share, with its number from 1.
+fn first_difference(expected: &str, got: &str) -> Option<String> {
+    let (mut right, mut found) = (expected.split('\n'), got.split('\n'));
+    for number in 1.. {
+        match (right.next(), found.next()) {
+            (None, None) => break,
+            (line, other) if line != other => {
+                return Some(format!("line {number}: expected {line:?}, got {other:?}"))
+            }
+            _ => (),
+        }
+    }
+    None
+}
+
+#[test]
+fn every_stored_call_gets_its_line() {
+    let folder = folder();
+    let expected = fs::read_to_string(folder.join("stdout")).unwrap();
+    let run = Command::new(env!("CARGO_BIN_EXE_vectors"))
+        .stdin(File::open(folder.join("stdin")).unwrap())
+        .output()
+        .unwrap();
+    assert!(run.status.success(), "the run breaks off");
+    let got = String::from_utf8(run.stdout).unwrap();
+    assert_eq!(first_difference(&expected, &got), None);
+}
+
+/// A run that has lost a kind of call would be met too easily.
+#[test]
+fn every_kind_of_line_is_stored() {
+    let expected = fs::read_to_string(folder().join("stdout")).unwrap();
+    let heads = [
+        "accepted",
+        "refused",
+        "sum",
+        "changed",
+        "value",
+        "midpoint",
+        "table",
+        "difference",
+    ];
+    for head in heads {
+        let kept = expected.lines().any(|line| line.starts_with(head));
+        assert!(kept, "no line begins with {head}");
+    }
+}
+
+#[test]
+fn differences_are_seen() {
+    assert_eq!(first_difference("a\nb\n", "a\nb\n"), None);
+    for other in ["a\nc\n", "a\nb", "a\nb\nb\n", "", "a\n"] {
+        assert!(first_difference("a\nb\n", other).is_some(), "{other:?}");
+    }
+}
