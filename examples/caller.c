@@ -1,4 +1,4 @@
-/* Loads a table (the file named, else the carried TERN), adds two rows, edits a digit, runs a list of edits and prints the rows.
+/* Loads a table (the file named, else the carried TERN), adds two rows, edits a digit, runs a list of edits, subtracts and prints the rows.
  *
  *     cc -std=c99 -I include examples/caller.c target/staticlib/libadder_c.a -o caller && ./caller tables/bin.table */
 #include <stdio.h>
@@ -91,5 +91,13 @@ int main(int argc, char **argv) {
         }
     }
     print_row("sum", sum, DIGITS + depth);
+
+    /* The rows as the edits left them; a table may add and yet not subtract. */
+    uint8_t difference[DIGITS + DEEPEST];
+    if (yoyomyrtle_subtract(table, length, first, DIGITS, second, DIGITS, difference, DIGITS + depth, answer,
+                            YOYOMYRTLE_ANSWER_WORDS) != YOYOMYRTLE_FACTS) {
+        return refused();
+    }
+    print_row("difference", difference, DIGITS + depth);
     return 0;
 }

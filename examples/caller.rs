@@ -1,5 +1,5 @@
-//! Loads a table (the file named, else the carried TERN), adds two rows, edits a digit, runs a list of edits and prints the
-//! rows.
+//! Loads a table (the file named, else the carried TERN), adds two rows, edits a digit, runs a list of edits, subtracts and
+//! prints the rows.
 //!
 //!     rustc --edition 2021 -L target/staticlib -l static=adder_c examples/caller.rs -o caller && ./caller tables/bin.table
 
@@ -11,6 +11,10 @@ extern "C" {
     fn yoyomyrtle_add(
         table: *const u8, table_len: usize, first: *const u8, first_len: usize, second: *const u8, second_len: usize,
         sum: *mut u8, sum_len: usize, answer: *mut i64, answer_len: usize,
+    ) -> u64;
+    fn yoyomyrtle_subtract(
+        table: *const u8, table_len: usize, first: *const u8, first_len: usize, second: *const u8, second_len: usize,
+        difference: *mut u8, difference_len: usize, answer: *mut i64, answer_len: usize,
     ) -> u64;
     fn yoyomyrtle_edit(
         table: *const u8, table_len: usize, first: *mut u8, first_len: usize, second: *mut u8, second_len: usize,
@@ -40,6 +44,16 @@ fn add(table: &[u8], first: &[u8], second: &[u8], sum: &mut [u8]) -> Result<Answ
     let returned = unsafe {
         yoyomyrtle_add(table.as_ptr(), table.len(), first.as_ptr(), first.len(), second.as_ptr(), second.len(),
             sum.as_mut_ptr(), sum.len(), words.as_mut_ptr(), 8)
+    };
+    facts(returned, words)
+}
+
+#[rustfmt::skip]
+fn subtract(table: &[u8], first: &[u8], second: &[u8], difference: &mut [u8]) -> Result<Answer, Answer> {
+    let mut words = [0; 8];
+    let returned = unsafe {
+        yoyomyrtle_subtract(table.as_ptr(), table.len(), first.as_ptr(), first.len(), second.as_ptr(), second.len(),
+            difference.as_mut_ptr(), difference.len(), words.as_mut_ptr(), 8)
     };
     facts(returned, words)
 }
@@ -136,6 +150,10 @@ fn run(table: &[u8]) -> Result<(), Answer> {
         }
     }
     print_row("sum", &sum);
+    // The rows as the edits left them; a table may add and yet not subtract.
+    let mut difference = vec![0; 6 + depth as usize];
+    subtract(table, &first, &second, &mut difference)?;
+    print_row("difference", &difference);
     Ok(())
 }
 

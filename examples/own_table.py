@@ -3,7 +3,8 @@
 
     python3 examples/own_table.py mine.table
 
-Change BASE and ALPHABET for another one, such as base 2i: (0, -1, 0, 2) and the nine digits a + b*omega with a and b from -1 to 1. The
+Change BASE and ALPHABET for another one, such as base 2i: (0, -1, 0, 2) and the nine digits a + b*omega with a and b from -1 to 1. With an
+alphabet that has a digit without its negative the table adds and doesn't subtract, unless INPUTS is inputs(ALPHABET, differences=True). The
 method doesn't end for every choice. docs/TABLES.md says how it goes, and bin/check whether a table is one to add by.
 """
 import functools
@@ -16,6 +17,7 @@ from yoyomyrtle import element, inputs, table
 
 BASE = (0, -3, 0, 1)  # s, t, u, v: omega^2 = s*omega + t = -3, and the base is u + v*omega = omega
 ALPHABET = [0, 1, 2, -1, -2]
+INPUTS = inputs(ALPHABET)
 
 MOST_WEIGHTS, LONGEST_WORD, MOST_LEAVES = 255, 8, 4000
 
@@ -43,7 +45,7 @@ def weights():
     """Phase 1: weights to serve each input digit plus a weight that may come from below; of several the one nearest to zero."""
     known = [(0, 0)]
     for weight in known:  # and those that join on the way
-        for digit in inputs(ALPHABET):
+        for digit in INPUTS:
             able = serving(plus(digit, weight))
             if not able or len(known) > MOST_WEIGHTS:
                 sys.exit('phase 1 does not end: no weight serves some value, or the weights are too many')
@@ -69,7 +71,7 @@ def choice(word):
 
 def leaves(word=()):
     """A word with one weight is a leaf; any other is extended by a digit."""
-    for longer in (word + (digit,) for digit in inputs(ALPHABET)):
+    for longer in (word + (digit,) for digit in INPUTS):
         if len(choice(longer)) == 1:
             yield longer, choice(longer)[0]
         elif len(longer) < LONGEST_WORD:
@@ -82,7 +84,7 @@ def build():
     found = list(itertools.islice(leaves(), MOST_LEAVES + 1))
     if len(found) > MOST_LEAVES:
         sys.exit('phase 2 finds more than %d leaves' % MOST_LEAVES)
-    return table(BASE, ALPHABET, found)
+    return table(BASE, ALPHABET, found, inputs=INPUTS)
 
 
 def main():

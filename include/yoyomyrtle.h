@@ -5,8 +5,8 @@
  * outside and nothing else. It has no variables of its own, so that calls may run on several threads at once where none writes a buffer that
  * another is lent.
  *
- * Stack in bytes, at the most: check and run 73,000 (of these 71,000 even with TERN), add and edit 3,300, value 2,200, the others 100. Where
- * memcpy and memset are looked up on first use, the dynamic linker takes some 3,000 more at that time.
+ * Stack in bytes, at the most: check and run 73,000 (of these 71,000 even with TERN), add, subtract and edit 3,400, value 2,200, the others
+ * 100. Where memcpy and memset are looked up on first use, the dynamic linker takes some 3,000 more at that time.
  *
  * Each buffer is a pointer and its length, and must hold as many bytes or words as its length says; the pointer may be NULL where the length
  * is 0. A buffer that a call may write, which is one without const and the answer array too, must not overlap any other buffer of that call.
@@ -46,6 +46,15 @@ uint64_t yoyomyrtle_add(const uint8_t *table, size_t table_len,
                         const uint8_t *second, size_t second_len,
                         uint8_t *sum, size_t sum_len,
                         int64_t *answer, size_t answer_len);
+
+/* Subtracts the second row of n digits from the first, into the first n + h bytes of the difference. Facts: n + h. It refuses with 42 a table
+ * in which some difference of two alphabet digits isn't an input digit, even for empty rows; no other call does. The place is the alphabet
+ * index of the digit that is subtracted from, the lowest. */
+uint64_t yoyomyrtle_subtract(const uint8_t *table, size_t table_len,
+                             const uint8_t *first, size_t first_len,
+                             const uint8_t *second, size_t second_len,
+                             uint8_t *difference, size_t difference_len,
+                             int64_t *answer, size_t answer_len);
 
 /* Stores a digit at a place of a row (0 the first, 1 the second) and renews the sum places from there to h above it.
  * Facts: how many of these sum bytes changed. */

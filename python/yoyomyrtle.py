@@ -17,6 +17,11 @@ Checked(depth=1, leaves=9, digits=5)
 >>> edited = edit(tern(), first, second, added.sum, row=0, place=0, digit=4)
 >>> print(*digits(tern(), edited.sum), '-', edited.changed, 'changed')
 -1 1 1 - 2 changed
+
+Subtraction takes the second row from the first:
+
+>>> print(*digits(tern(), subtract(tern(), first, second).difference))
+1 0 0
 """
 import ctypes
 import functools
@@ -35,6 +40,7 @@ _DEEPEST = 8
 
 Checked = namedtuple('Checked', 'depth leaves digits')
 Added = namedtuple('Added', 'places sum')
+Subtracted = namedtuple('Subtracted', 'places difference')
 Edited = namedtuple('Edited', 'changed first second sum')
 Ran = namedtuple('Ran', 'answers first second sum')
 Explained = namedtuple('Explained', 'wrong counts todo')
@@ -181,6 +187,14 @@ def check(table):
     return Checked(*_facts('check', _bytes(table))[:3])
 
 
+def _combined(call, table, first, second):
+    """What an addition or a subtraction of two rows writes: how many places, and their digits."""
+    first, second = _buffer(first), _buffer(second)
+    written = _buffer([], len(first) + _DEEPEST)
+    places = _facts(call, _bytes(table), first, second, written)[0]
+    return places, written[:places]
+
+
 def add(table, first, second):
     """Adds two rows; the sum has as many places more as the table is deep.
 
@@ -191,10 +205,34 @@ def add(table, first, second):
     >>> add(tern(), [], []), add(bin(), [], [])
     (Added(places=1, sum=[0]), Added(places=2, sum=[0, 0]))
     """
-    first, second = _buffer(first), _buffer(second)
-    sum = _buffer([], len(first) + _DEEPEST)
-    places = _facts('add', _bytes(table), first, second, sum)[0]
-    return Added(places, sum[:places])
+    return Added(*_combined('add', table, first, second))
+
+
+def subtract(table, first, second):
+    """Subtracts the second row from the first; the difference has as many places more as the table is deep.
+
+    >>> subtract(bin(), [1, 1], [1, 2])
+    Subtracted(places=4, difference=[0, 0, 1, 0])
+    >>> subtract(tern(), [], [])
+    Subtracted(places=1, difference=[0])
+
+    Every difference of two alphabet digits has to be an input digit. With the digits -2 to 3 the sums of two are -4 to 6, and -2 - 3 isn't
+    one of them; -2 has the index 5:
+
+    >>> base, alphabet, weights = (0, -1, 4, 0), [0, 1, 2, 3, -1, -2], {(x,): (x + 1) // 4 for x in range(-4, 7)}
+    >>> subtract(table(base, alphabet, weights), [], [])  # doctest: +ELLIPSIS
+    Traceback (most recent call last):
+        ...
+    yoyomyrtle.Refused: refused 42 place 5 (author): ...
+
+    With -5 as a further input digit, which needs a weight too:
+
+    >>> weights[-5,] = -1
+    >>> further = table(base, alphabet, weights, inputs=inputs(alphabet, differences=True))
+    >>> print(*digits(further, subtract(further, row(further, [-2, 1]), row(further, [3, 1])).difference))
+    -1 -1 0
+    """
+    return Subtracted(*_combined('subtract', table, first, second))
 
 
 def edit(table, first, second, sum, row, place, digit):
@@ -307,18 +345,25 @@ def element(x):
     return Element(operator.index(a), operator.index(b))
 
 
-def inputs(alphabet):
-    """The input digits of an alphabet, which are the sums of two of its digits, in the order that `table` gives them: zero and what is
-    above it in order of (a, b), then what is below zero in the order of its negatives.
+def _inputs(alphabet, signs):
+    """The digits of an alphabet plus (sign 1) or minus (sign -1) those of the same, in the order that `inputs` tells."""
+    known = [element(digit) for digit in alphabet]
+    found = {Element(x.a + sign * y.a, x.b + sign * y.b) for x in known for y in known for sign in signs}
+    return sorted(found, key=lambda x: (x < (0, 0), max(x, (-x.a, -x.b))))
+
+
+def inputs(alphabet, differences=False):
+    """The input digits that an alphabet needs: for addition the sums of two of its digits, for subtraction the differences too. Zero and
+    what is above it come first, in order of (a, b), then what is below zero in the order of its negatives.
 
     >>> print(*inputs([0, 1, 2, -1, -2]))
     0 1 2 3 4 -1 -2 -3 -4
     >>> print(*inputs([0, 1, (0, 1)]))
     0 w 2w 1 1+w 2
+    >>> print(*inputs([0, 1, 2, -1], differences=True))
+    0 1 2 3 4 -1 -2 -3
     """
-    known = [element(digit) for digit in alphabet]
-    sums = {Element(x.a + y.a, x.b + y.b) for x in known for y in known}
-    return sorted(sums, key=lambda x: (x < (0, 0), max(x, (-x.a, -x.b))))
+    return _inputs(alphabet, (1, -1) if differences else (1,))
 
 
 def _numbers(kind, numbers):
@@ -342,7 +387,7 @@ def _leaves(digits, leaves):
         try:
             indexed.append((bytes(index[element(digit)] for digit in word), weight))
         except (KeyError, ValueError):
-            raise ValueError('the word %s has a digit that is no sum of two alphabet digits, or is past 256 of them' % (word,)) from None
+            raise ValueError('the word %s has a digit that is no input digit, or is past 256 of them' % (word,)) from None
     records, words = b'', b''
     for word, weight in sorted(indexed, key=lambda leaf: leaf[0]):
         records += _numbers('H', (len(words), len(word))) + _records([weight])
@@ -350,12 +395,15 @@ def _leaves(digits, leaves):
     return records, words
 
 
-def table(base, alphabet, leaves):
+def table(base, alphabet, leaves, inputs=None):
     """The bytes of a table file; `check` says whether it is one to add by.
 
     `base` is s, t, u, v: omega^2 = s*omega + t, and the base is u + v*omega. An element is a whole number a or a pair (a, b). `alphabet`
     lists the digits, zero first. `leaves` has a weight for each word, as a mapping or in pairs; a word is a tuple of input digits, that of
-    the place itself and then those below it. Input digits, the order of the leaves and the directory are made here.
+    the place itself and then those below it. The order of the leaves and the directory are made here.
+
+    `inputs` lists the input digits, zero first; without it they are the sums of two alphabet digits, as the function `inputs` gives them.
+    A list may have further digits, and each of them needs leaves like any other.
 
     BIN: a 2 carries 1, a 1 carries 1 if the digit below is positive, and the negatives mirror this.
 
@@ -366,7 +414,7 @@ def table(base, alphabet, leaves):
     >>> table((0, -1, 2, 0), [0, 1, -1], weights) == bin()
     True
     """
-    digits = inputs(alphabet)
+    digits = _inputs(alphabet, (1,)) if inputs is None else [element(digit) for digit in inputs]
     sections = [_numbers('h', base), _records(alphabet), _records(digits), *_leaves(digits, leaves)]
     directory, end = b'', 20
     for section in sections:

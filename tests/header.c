@@ -55,6 +55,9 @@ static void nothing_lent(void) {
     fault("add: table", yoyomyrtle_add(NONE, NONE, NONE, NONE, ANSWER), 1, 1);
     facts("add: rows", yoyomyrtle_add(tern, sizeof tern, NONE, NONE, sum, 1, ANSWER), 1);
     fault("add: sum", yoyomyrtle_add(tern, sizeof tern, NONE, NONE, NONE, ANSWER), 2, 23);
+    fault("subtract: table", yoyomyrtle_subtract(NONE, NONE, NONE, NONE, ANSWER), 1, 1);
+    facts("subtract: rows", yoyomyrtle_subtract(tern, sizeof tern, NONE, NONE, sum, 1, ANSWER), 1);
+    fault("subtract: difference", yoyomyrtle_subtract(tern, sizeof tern, NONE, NONE, NONE, ANSWER), 2, 23);
     fault("edit: table", yoyomyrtle_edit(NONE, NONE, NONE, NONE, 0, 0, 0, ANSWER), 1, 1);
     fault("edit: rows", yoyomyrtle_edit(tern, sizeof tern, NONE, NONE, sum, 1, 0, 0, 0, ANSWER), 3, 25);
     fault("edit: sum", yoyomyrtle_edit(tern, sizeof tern, NONE, NONE, NONE, 0, 0, 0, ANSWER), 2, 23);
@@ -64,6 +67,7 @@ static void nothing_lent(void) {
     too_short("check: answer", yoyomyrtle_check(tern, sizeof tern, NONE));
     too_short("value: answer", yoyomyrtle_value(tern, sizeof tern, NONE, NONE));
     too_short("add: answer", yoyomyrtle_add(tern, sizeof tern, NONE, NONE, sum, 1, NONE));
+    too_short("subtract: answer", yoyomyrtle_subtract(tern, sizeof tern, NONE, NONE, sum, 1, NONE));
     too_short("edit: answer", yoyomyrtle_edit(tern, sizeof tern, NONE, NONE, sum, 1, 0, 0, 0, NONE));
     too_short("run: answer", yoyomyrtle_run(tern, sizeof tern, NONE, NONE, sum, 1, NONE, NONE, NONE, NONE, NONE, NONE, NONE));
     too_short("midpoint: answer", yoyomyrtle_midpoint(1, 2, 3, 4, NONE));
@@ -80,6 +84,9 @@ static void lent_twice(void) {
     facts("add: rows apart", yoyomyrtle_add(tern, sizeof tern, first, DIGITS, second, DIGITS, sum, sizeof sum, ANSWER), DIGITS + 1);
     facts("add: one row", yoyomyrtle_add(tern, sizeof tern, part, DIGITS, part, DIGITS, same, sizeof same, ANSWER), DIGITS + 1);
     judge("add: the sum of one row", memcmp(sum, same, sizeof sum) == 0);
+    const uint8_t zeros[DIGITS + 1] = {0};
+    facts("subtract: one row", yoyomyrtle_subtract(tern, sizeof tern, part, DIGITS, part, DIGITS, same, sizeof same, ANSWER), DIGITS + 1);
+    judge("subtract: a row from itself", memcmp(zeros, same, sizeof same) == 0);
 
     const size_t ones[EDITS] = {1, 1, 1};
     size_t whose[EDITS], numbers[EDITS], values[EDITS];
@@ -99,6 +106,7 @@ static size_t answers[3][EDITS];
 static void no_call(void) {}
 static void check_call(void) { yoyomyrtle_check(LENT(TABLE), ANSWER); }
 static void add_call(void) { yoyomyrtle_add(LENT(TABLE), LENT(FIRST), LENT(SECOND), LENT(SUM), ANSWER); }
+static void subtract_call(void) { yoyomyrtle_subtract(LENT(TABLE), LENT(FIRST), LENT(SECOND), LENT(SUM), ANSWER); }
 static void edit_call(void) { yoyomyrtle_edit(LENT(TABLE), LENT(FIRST), LENT(SECOND), LENT(SUM), 1, 0, 1, ANSWER); }
 static void run_call(void) {
     yoyomyrtle_run(LENT(TABLE), LENT(FIRST), LENT(SECOND), LENT(SUM), rows, EDITS, places, EDITS, digits, EDITS, answers[0], EDITS,
@@ -115,8 +123,9 @@ static struct {
     void (*call)(void);
     size_t promised, most;
 } calls[] = {
-    {"check", check_call, 73000, 0}, {"add", add_call, 3300, 0},           {"edit", edit_call, 3300, 0}, {"run", run_call, 73000, 0},
-    {"value", value_call, 2200, 0},  {"midpoint", midpoint_call, 100, 0}, {"tern", tern_call, 100, 0},  {"bin", bin_call, 100, 0},
+    {"check", check_call, 73000, 0},     {"add", add_call, 3400, 0},   {"subtract", subtract_call, 3400, 0},
+    {"edit", edit_call, 3400, 0},        {"run", run_call, 73000, 0},  {"value", value_call, 2200, 0},
+    {"midpoint", midpoint_call, 100, 0}, {"tern", tern_call, 100, 0},  {"bin", bin_call, 100, 0},
 };
 
 enum { CALLS = sizeof calls / sizeof *calls, STACK = 256 * 1024, PAINT = 0xa5 };
@@ -148,7 +157,7 @@ static void read_bytes(uint8_t *to, size_t count) {
 
 /* Takes the next vector's buffers; 0 where there is none. */
 static int next_vector(void) {
-    static const size_t buffers[] = {0, 1, 4, 4, 2, 0, 0, 0}, more[] = {0, 0, 0, 24, 0, 16, 0, 0};
+    static const size_t buffers[] = {0, 1, 4, 4, 2, 0, 0, 0, 4}, more[] = {0, 0, 0, 24, 0, 16, 0, 0, 0};
     int call = getchar();
     uint8_t bytes[24];
     if (call == EOF) {
