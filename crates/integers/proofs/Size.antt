@@ -1,6 +1,6 @@
 -- Sizes: the absolute value of a sum, a product and a negative, and from a bound on it to a signed width's range.
 -- `omega` reads no integer, so an overflow is shown from bounds on absolute values.
-use mathlib.Core.Path.{_≡_, refl}
+use mathlib.Core.Path.{_≡_, refl, ap}
 use Prim.Native.Nat.{ℕ, zero, suc, _+_, _-_, _*_, _^_, _<_, _≤_}
 use native.Mathlib.Omega.{arith}
 use native.Mathlib.Nat.{mul-le-mul}
@@ -16,20 +16,26 @@ natAbs-neg (pos zero) = refl
 natAbs-neg (pos (suc n)) = refl
 natAbs-neg (negsuc n) = refl
 
+pub no-size : (z : ℤ) → natAbs z ≡ 0 → z ≡ pos 0
+no-size (pos n) h = ap pos h
+no-size (negsuc n) h = absurd (omega arith)
+
 natAbs-cond : (b : Bool) (x y : ℤ) (n : ℕ) → (T b → natAbs x ≤ n) → (T (not b) → natAbs y ≤ n) → natAbs (cond b x y) ≤ n
 natAbs-cond true x y n f g = f tt
 natAbs-cond false x y n f g = g tt
 
-natAbs-sub : (a b : ℕ) → natAbs (subℕ a b) ≤ a + b
-natAbs-sub a b = natAbs-cond (ltb a b) (negsuc (b - suc a)) (pos (a - b)) (a + b) (λ t. below (ltb→lt a b t)) (λ t. omega arith)
+-- two numbers of which neither passes the other by more than n
+pub natAbs-sub : (a b n : ℕ) → a ≤ b + n → b ≤ a + n → natAbs (subℕ a b) ≤ n
+natAbs-sub a b n h k =
+    natAbs-cond (ltb a b) (negsuc (b - suc a)) (pos (a - b)) n (λ t. below (ltb→lt a b t)) (λ t. omega arith)
   where
-    below : a < b → suc (b - suc a) ≤ a + b
-    below h = omega arith
+    below : a < b → suc (b - suc a) ≤ n
+    below l = omega arith
 
 pub natAbs-+ : (a b : ℤ) → natAbs (a +ℤ b) ≤ natAbs a + natAbs b
 natAbs-+ (pos a) (pos b) = omega arith
-natAbs-+ (pos a) (negsuc b) = natAbs-sub a (suc b)
-natAbs-+ (negsuc a) (pos b) = omega (arith, natAbs-sub b (suc a))
+natAbs-+ (pos a) (negsuc b) = natAbs-sub a (suc b) (a + suc b) (omega arith) (omega arith)
+natAbs-+ (negsuc a) (pos b) = natAbs-sub b (suc a) (suc a + b) (omega arith) (omega arith)
 natAbs-+ (negsuc a) (negsuc b) = omega arith
 
 pub natAbs-minus : (a b : ℤ) → natAbs (a -ℤ b) ≤ natAbs a + natAbs b
@@ -63,11 +69,6 @@ mag-cond : (b : Bool) (x y : ℤ) (n : ℕ) → mag x < n → mag y < n → mag 
 mag-cond true x y n h k = h
 mag-cond false x y n h k = k
 
-mag-sub : (a b n : ℕ) → a < n → b ≤ n → mag (subℕ a b) < n
+-- the difference of two numbers in such a range
+pub mag-sub : (a b n : ℕ) → a < n → b ≤ n → mag (subℕ a b) < n
 mag-sub a b n h k = mag-cond (ltb a b) (negsuc (b - suc a)) (pos (a - b)) n (omega arith) (omega arith)
-
-pub mag-+ : (a b : ℤ) (n : ℕ) → mag a < n → mag b < n → mag (a +ℤ b) < n + n
-mag-+ (pos a) (pos b) n h k = omega arith
-mag-+ (pos a) (negsuc b) n h k = omega (arith, mag-sub a (suc b) n h k)
-mag-+ (negsuc a) (pos b) n h k = omega (arith, mag-sub b (suc a) n k h)
-mag-+ (negsuc a) (negsuc b) n h k = omega arith

@@ -6,14 +6,10 @@ use Prim.Native.Nat.{ℕ, _*_}
 use native.Mathlib.Omega.{arith}
 use lib.IntN.{ℤ, pos, negsuc, natAbs, _+ℤ_, _-ℤ_, _*ℤ_, -ℤ-+ℤ-cancel, +ℤ-invr}
 use Rattle.integers.proofs.Laws.{ -zero→≡}
-use Rattle.integers.proofs.Size.{natAbs-*, square-size}
+use Rattle.integers.proofs.Size.{natAbs-*, no-size, square-size}
 use Rattle.integers.proofs.Half.{half, twice-half}
 use Rattle.integers.proofs.Solver.{Expression, var, num, _⊕_, _⊖_, _⊗_, meaning, solve}
 use Rattle.ring.specs.Base.{discriminant, Square}
-
-no-size : (z : ℤ) → natAbs z ≡ 0 → z ≡ pos 0
-no-size (pos n) h = ap pos h
-no-size (negsuc n) h = absurd (omega arith)
 
 -- a product by 4 that is zero, and one by 2 that is −1
 four-zero : (z : ℤ) → pos 4 *ℤ z ≡ pos 0 → z ≡ pos 0

@@ -6,7 +6,7 @@ use Prim.Native.Nat.{ℕ, zero, suc, _+_, _≤_, max}
 use native.Mathlib.Omega.{arith}
 use native.Mathlib.Nat.{not-suc-le-zero}
 use lib.ListN.{length, take, length-map, List·getD-map}
-use lib.IntN.{ℤ, pos, negℤ, _+ℤ_, _-ℤ_, _*ℤ_, +ℤ-assoc, +ℤ-comm, +ℤ-idl, +ℤ-idr, +ℤ-invl, *ℤ-comm, *ℤ-zero, zero-*ℤ}
+use lib.IntN.{ℤ, pos, negℤ, _+ℤ_, _-ℤ_, _*ℤ_, +ℤ-assoc, +ℤ-comm, +ℤ-idl, +ℤ-idr, +ℤ-invl, negℤ-+ℤ, *ℤ-comm, *ℤ-zero, zero-*ℤ}
 use Rattle.lists.proofs.Cons.{cons≡}
 use Rattle.lists.proofs.Test.{both, clash}
 use Rattle.integers.proofs.Test.{eqZ-refl, eqZ→≡}
@@ -132,6 +132,12 @@ length-negative x = length-map x negℤ
 pub minus-parts : (d : ℕ) (x y : List ℤ) → length x ≡ d → length y ≡ d → length (minus x y) ≡ d
 unfolding minus
 minus-parts d x y h k = plus-parts d x (negative y) h (length-negative y ∙ k)
+
+pub negative-sum : (x y : List ℤ) → plus (negative x) (negative y) ≡ negative (plus x y)
+unfolding negative plus
+negative-sum [] y = refl
+negative-sum (a ∷ x) [] = refl
+negative-sum (a ∷ x) (b ∷ y) = cons≡ (sym (negℤ-+ℤ a b)) (negative-sum x y)
 
 negative-plus : (x : List ℤ) → plus (negative x) x ≡ zeros (length x)
 unfolding negative plus
