@@ -1,1 +1,3 @@
+pub mod Half
+pub mod Halved
 pub mod Midpoint

@@ -1,7 +1,9 @@
 // The public element and the midpoint of two.
 ghost use mathlib.Core.Path.{_≡_};
-ghost use lib.IntN.{_+ℤ_};
-ghost use Rattle.midpoint.specs.Midpoint.{halved, parts, midpointOf};
+ghost use Prim.Native.Nat.{_≤_, _^_};
+ghost use lib.IntN.{natAbs, _+ℤ_};
+ghost use Rattle.midpoint.specs.Halved.{halved};
+ghost use Rattle.midpoint.specs.Midpoint.{parts, midpointOf};
 
 // An element a + b·ω as callers see it.
 pub struct Element {
@@ -9,13 +11,22 @@ pub struct Element {
     pub b: i32,
 }
 
+// Half, to the even neighbour: two quarters rounded down make it without a branch.
+fn half(sum: i64) -> i64
+    requires { ⌜ natAbs sum ≤ 2 ^ 32 ⌝ }
+    ensures { λ r. ⌜ r ≡ halved sum ⌝ }
+{
+    ((sum + 1) >> 2) + ((sum + 2) >> 2)
+}
+
+// The sum is taken in 64 bits, where it can't overflow.
 fn half_sum(x: i32, y: i32) -> i32
     ensures { λ r. ⌜ r ≡ halved (x +ℤ y) ⌝ }
 {
-    ((x as i64 + y as i64) >> 1) as i32
+    half(x as i64 + y as i64) as i32
 }
 
-// Each part is the sum of the two parts halved, rounded down.
+// Each part is half the sum of the two parts; halves go to the even neighbour.
 pub fn midpoint(x: Element, y: Element) -> Element
     ensures { λ r. ⌜ parts r ≡ midpointOf (parts x) (parts y) ⌝ }
 {

@@ -6,7 +6,8 @@ use mir.Syntax.{w32}
 use mir.ValLaws.{toZ-ofZ}
 use Rattle.lists.proofs.Cons.{cons≡}
 use Rattle.ring.specs.Element.{plus}
-use Rattle.midpoint.specs.Midpoint.{halved, midpointOf}
+use Rattle.midpoint.specs.Halved.{halved}
+use Rattle.midpoint.specs.Midpoint.{midpointOf}
 use Rattle.midpoint.proofs.midpoint.Statement.{statement}
 use Rattle.midpoint.proofs.midpoint.Tie as tie
 
