@@ -37,10 +37,12 @@ fn between(a: i32, b: i32, c: i32, d: i32) {
     );
 }
 
-// Rounded down on both sides of zero; the least and the greatest parts.
+// Job 6: the halves of 3, 1 and 5, and of −3, −1 and −5, to the even neighbour; the least and the greatest parts.
 pub fn midpoints() {
     between(1, -1, 2, -2);
-    between(0, -1, 0, 0);
+    between(0, -1, 1, 0);
+    between(2, -2, 3, -3);
     between(2147483647, -2147483648, 2147483647, -2147483648);
     between(2147483647, -2147483648, -2147483648, 2147483647);
+    between(2147483647, -2147483648, 2147483646, -2147483647);
 }
