@@ -1,4 +1,5 @@
-//! Kinds of cases that a refusal number alone doesn't tell apart, those of subtraction and of input digits beyond the sums (job 2).
+//! Kinds of cases that a refusal number alone doesn't tell apart: those of subtraction and of input digits beyond the sums (job 2), and
+//! those of midpoints at the half (job 6).
 
 use crate::further::{self, Digits};
 use crate::interface::{Call, Lent};
@@ -36,10 +37,16 @@ pub enum Kind {
     /// The values of two rows and their sum or difference, all three within 32 bits.
     SumValues,
     DifferenceValues,
+    /// A half that goes up to the even neighbour, and one that goes down.
+    HalfUp,
+    HalfDown,
+    /// A half below zero, and one whose sum doesn't fit into 32 bits.
+    HalfBelowZero,
+    HalfOfWideSum,
 }
 
 impl Kind {
-    pub const ALL: [Kind; 18] = [
+    pub const ALL: [Kind; 22] = [
         Kind::Subtracted,
         Kind::SubtractedByFurther,
         Kind::UnlistedFromZero,
@@ -58,11 +65,18 @@ impl Kind {
         Kind::FurtherEdited,
         Kind::SumValues,
         Kind::DifferenceValues,
+        Kind::HalfUp,
+        Kind::HalfDown,
+        Kind::HalfBelowZero,
+        Kind::HalfOfWideSum,
     ];
 }
 
 /// The kinds that a call met, from its outcome and the buffers that it left.
 pub fn met(call: &Call, outcome: Outcome, lent: &Lent) -> Vec<Kind> {
+    if let (Call::Midpoint { x, y }, Outcome::Facts) = (call, outcome) {
+        return holding(half(x.0, y.0));
+    }
     let judged = match (call, outcome) {
         (Call::Subtract, Outcome::Facts | Outcome::Fault(27 | 42)) => true,
         (Call::Check, Outcome::Facts | Outcome::Fault(8 | 14)) => true,
@@ -73,15 +87,33 @@ pub fn met(call: &Call, outcome: Outcome, lent: &Lent) -> Vec<Kind> {
     let Some(digits) = digits else {
         return Vec::new();
     };
-    let kinds = match (call, outcome) {
+    holding(match (call, outcome) {
         (Call::Subtract, _) => subtraction(&digits, outcome, lent),
         (Call::Check, Outcome::Fault(8)) => broken_inputs(&digits, lent.answer[2] as usize),
         (Call::Check, _) => checked(&digits, outcome, lent),
         (Call::Add, _) => vec![(digits.any_further(), Kind::FurtherAdded)],
         _ => vec![(digits.any_further(), Kind::FurtherEdited)],
-    };
+    })
+}
+
+fn holding(kinds: Vec<(bool, Kind)>) -> Vec<Kind> {
     let holding = kinds.into_iter().filter(|(holds, _)| *holds);
     holding.map(|(_, kind)| kind).collect()
+}
+
+/// Of a midpoint's first parts.
+fn half(p: i32, q: i32) -> Vec<(bool, Kind)> {
+    let sum = i64::from(p) + i64::from(q);
+    if sum % 2 == 0 {
+        return Vec::new();
+    }
+    let up = sum.rem_euclid(4) == 3;
+    vec![
+        (up, Kind::HalfUp),
+        (!up, Kind::HalfDown),
+        (sum < 0, Kind::HalfBelowZero),
+        (i32::try_from(sum).is_err(), Kind::HalfOfWideSum),
+    ]
 }
 
 fn subtraction(digits: &Digits, outcome: Outcome, lent: &Lent) -> Vec<(bool, Kind)> {

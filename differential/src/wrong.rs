@@ -1,5 +1,6 @@
 //! Implementations with one mistake each, to see that the comparison finds it.
 
+mod midpoint;
 mod subtraction;
 
 use std::cell::Cell;
@@ -48,8 +49,10 @@ pub enum Mistake {
     RunCountsRows,
     /// The value lets −2,147,483,648 pass at the last digit.
     LimitLoose,
-    /// The midpoint is rounded toward zero.
-    MidpointTruncated,
+    /// The midpoint is rounded by another rule.
+    MidpointRounded(midpoint::Rounding),
+    /// The midpoint's sums are taken in 32 bits.
+    MidpointWraps,
     /// The answer's last word is written too.
     AnswerOverrun,
     /// A short answer array is filled as far as it reaches.
@@ -122,11 +125,11 @@ pub fn mistakes() -> Vec<Mistake> {
         RunTellsPlaceFirst,
         RunCountsRows,
         LimitLoose,
-        MidpointTruncated,
         AnswerOverrun,
         ShortAnswerWritten,
         ShortOutWritten,
     ];
+    all.extend(midpoint::mistakes());
     all.extend(subtraction::mistakes());
     all.extend(NUMBERS.map(PlaceOff));
     all.extend(NUMBERS.map(NumberOff));
@@ -157,6 +160,7 @@ impl Calls for Wrong {
             (Call::Subtract, FACTS) => self.spoil_subtract(&before, lent),
             (Call::Edit { .. }, FACTS) => self.spoil_edit(call, &before, lent),
             (Call::Run, FACTS) => self.spoil_run(&before, lent),
+            (Call::Midpoint { x, y }, FACTS) => self.spoil_midpoint(*x, *y, lent),
             (_, FAULT) => self.spoil_fault(call, &before, lent),
             _ => (),
         }
@@ -311,10 +315,6 @@ impl Wrong {
             }
             (Mistake::ShortOutWritten, Call::Tern | Call::Bin) if returned == TOO_SHORT => {
                 lent.sum.fill(0)
-            }
-            (Mistake::MidpointTruncated, Call::Midpoint { x, y }) if returned == FACTS => {
-                lent.answer[1] = (i64::from(x.0) + i64::from(y.0)) / 2;
-                lent.answer[2] = (i64::from(x.1) + i64::from(y.1)) / 2;
             }
             _ => (),
         }

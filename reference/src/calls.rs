@@ -154,10 +154,18 @@ pub fn value(file: &[u8], row: &[u8]) -> Answer<Element> {
     evaluate().into()
 }
 
-/// The midpoint of two elements of signed 32-bit parts, each half rounded down.
+/// The midpoint of two elements of signed 32-bit parts; a half goes to the even one of its two neighbours.
 pub fn midpoint(x: (i32, i32), y: (i32, i32)) -> (i32, i32) {
-    let half = |p: i32, q: i32| (i64::from(p) + i64::from(q)).div_euclid(2) as i32;
-    (half(x.0, y.0), half(x.1, y.1))
+    (half_sum(x.0, y.0), half_sum(x.1, y.1))
+}
+
+/// Half of p + q: of the whole numbers next to it, which are one and the same where it is whole, the even one.
+fn half_sum(p: i32, q: i32) -> i32 {
+    let sum = i64::from(p) + i64::from(q);
+    let below = sum.div_euclid(2);
+    let above = sum - below;
+    let half = if below % 2 == 0 { below } else { above };
+    half as i32
 }
 
 /// Rules 20 to 23. The rows are judged as lent, the digit to be replaced included.
