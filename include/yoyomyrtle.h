@@ -87,7 +87,8 @@ uint64_t yoyomyrtle_value(const uint8_t *table, size_t table_len,
                           const uint8_t *row, size_t row_len,
                           int64_t *answer, size_t answer_len);
 
-/* The midpoint of two elements, each part rounded down. Facts: a and b. */
+/* The midpoint of two elements: half the sum of each two parts, where the sum is odd to the even neighbour (3/2 is 2, 1/2 is 0,
+   -1/2 is 0, -3/2 is -2). Facts: a and b. */
 uint64_t yoyomyrtle_midpoint(int32_t a1, int32_t b1, int32_t a2, int32_t b2,
                              int64_t *answer, size_t answer_len);
 

@@ -279,10 +279,12 @@ def value(table, row):
 
 
 def midpoint(x, y):
-    """The midpoint of two elements, each part rounded down.
+    """The midpoint of two elements: half the sum of each two parts, to the even neighbour where the sum is odd.
 
     >>> print(midpoint((1, 2), -4))
     -2+w
+    >>> [midpoint(n, 0).a for n in (3, 1, -1, -3)]
+    [2, 0, 0, -2]
     """
     return Element(*_facts('midpoint', *map(_part, element(x) + element(y)))[:2])
 
