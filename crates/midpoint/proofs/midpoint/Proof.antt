@@ -1,8 +1,9 @@
 -- The two halves, part by part.
-use mathlib.Core.Path.{refl, ap₂, _∙_}
+use mathlib.Core.Path.{_≡_, refl, ap₂, _∙_}
 use borrow.Author.Needs.{needs}
-use lib.IntN.{_+ℤ_}
+use lib.IntN.{ℤ, _+ℤ_}
 use mir.Syntax.{w32}
+use mir.Val.{SFits, toZ, ofZ}
 use mir.ValLaws.{toZ-ofZ}
 use Rattle.lists.proofs.Cons.{cons≡}
 use Rattle.ring.specs.Element.{plus}
@@ -10,6 +11,10 @@ use Rattle.midpoint.specs.Halved.{halved}
 use Rattle.midpoint.specs.Midpoint.{midpointOf}
 use Rattle.midpoint.proofs.midpoint.Statement.{statement}
 use Rattle.midpoint.proofs.midpoint.Tie as tie
+
+-- a part, with all three numbers as they are read back from their bits
+read-back : (r p q : ℤ) → SFits w32 r → SFits w32 p → SFits w32 q → r ≡ halved (toZ w32 (ofZ w32 p) +ℤ toZ w32 (ofZ w32 q)) → toZ w32 (ofZ w32 r) ≡ halved (p +ℤ q)
+read-back r p q f g h e = toZ-ofZ w32 r f ∙ e ∙ ap₂ (λ a b. halved (a +ℤ b)) (toZ-ofZ w32 p g) (toZ-ofZ w32 q h)
 
 half-sum-requires : tie.Need-half-sum-requires
 half-sum-requires c κs = search needs
@@ -24,7 +29,7 @@ returns c =
     let s = d .before .before .before in
     let x = s .args .x in
     let y = s .args .y in
-    cons≡ (toZ-ofZ w32 (d .half-sum .result) (search needs) ∙ d .half-sum .ensures ∙ ap₂ (λ p q. halved (p +ℤ q)) (toZ-ofZ w32 (x .a) (search needs)) (toZ-ofZ w32 (y .a) (search needs))) (cons≡ (toZ-ofZ w32 (c .half-sum2 .result) (search needs) ∙ c .half-sum2 .ensures ∙ ap₂ (λ p q. halved (p +ℤ q)) (toZ-ofZ w32 (x .b) (search needs)) (toZ-ofZ w32 (y .b) (search needs))) refl)
+    cons≡ (read-back (d .half-sum .result) (x .a) (y .a) (search needs) (search needs) (search needs) (d .half-sum .ensures)) (cons≡ (read-back (c .half-sum2 .result) (x .b) (y .b) (search needs) (search needs) (search needs) (c .half-sum2 .ensures)) refl)
 
 pub midpoint-spec : {M : Type 1} → statement M
 midpoint-spec = tie.close (tie.spec half-sum-requires half-sum-requires-2 returns)
