@@ -4,7 +4,7 @@ use mathlib.Core.Path.{_≡_, refl, sym, ap, subst, _∙_}
 use mathlib.Core.Bool.{true}
 use mathlib.Core.List.{List}
 use mathlib.Core.Logic.{inl, inr, ⊎-elim}
-use Prim.Native.Nat.{ℕ, _+_, _<_}
+use Prim.Native.Nat.{ℕ, _+_, _<_, _≤_}
 use native.Mathlib.Decide.{decLt}
 use native.Mathlib.Nat.{le-antisymm}
 use native.Mathlib.Omega.{arith}
@@ -20,6 +20,7 @@ use Rattle.ring.specs.declared.Operation.{Operation}
 use Rattle.ring.specs.declared.Operation.the-variants.{Plus, Minus}
 use Rattle.ring.specs.Operation.{combine}
 use Rattle.ring.proofs.Element.{same→≡}
+use Rattle.ring.proofs.Combined.{combine-zeros}
 use Rattle.ring.proofs.Base.{expanding-test, square-test}
 use Rattle.digit_rules.specs.Record.{recordAt, elementCount}
 use Rattle.digit_rules.specs.Digits.{indexIn, discriminantAllowed, expandingBase, baseCheck, recordAllowed, alphabetCheck, pairIndex, pairsListed, inputsAllowed, inputCheck, digitCheck, operationCheck}
@@ -101,6 +102,15 @@ module _ (op : Operation) (alphabet inputs : List ℕ) (is : AllListed op alphab
   pub pair-index-is : recordAt inputs (pairIndex op alphabet inputs i j) ≡ combine op (recordAt alphabet i) (recordAt alphabet j)
   unfolding pairIndex
   pair-index-is = index-is inputs (elementCount inputs) _ pair-index-below
+
+-- of zero and zero that of zero, where both lists start with it
+pub pair-index-zero : (op : Operation) (alphabet inputs : List ℕ) → recordAt alphabet 0 ≡ zeros degree → recordAt inputs 0 ≡ zeros degree → pairIndex op alphabet inputs 0 0 ≡ 0
+unfolding pairIndex
+pair-index-zero op alphabet inputs none nothing =
+    lowest (index-first inputs (elementCount inputs) _ 0 (nothing ∙ sym ((λ i. combine op (none i) (none i)) ∙ combine-zeros op degree)))
+  where
+    lowest : {k : ℕ} → k ≤ 0 → k ≡ 0
+    lowest h = omega arith
 
 -- "−a listed for every a listed": then every difference is a sum
 pub symmetric-listed : (base alphabet inputs : List ℕ) → DigitsFormed base alphabet inputs → Symmetric alphabet → operationCheck Minus alphabet inputs ≡ none

@@ -11,17 +11,21 @@ use Rattle.numeration.specs.Laws.{AdditiveGroup, convertRow, InGroup}
 use Rattle.numeration.specs.Code.{Code}
 use Rattle.numeration.specs.LeafOf.{leafOf, depth}
 use Rattle.numeration.specs.Prefix.{PrefixCode}
-use Rattle.numeration.specs.Conversion.{window, weightInto, weightAt, convert}
+use Rattle.numeration.specs.Conversion.{window, leafInto, weightInto, weightAt, convert}
 use Rattle.numeration.specs.Value.{value, topDown}
-use Rattle.numeration.proofs.Leaves.{size-depth}
-use Rattle.numeration.proofs.Windows.{window-by-place, weightInto-leaf}
+use Rattle.numeration.proofs.Leaves.{size-depth, leafOf-unique}
+use Rattle.numeration.proofs.Windows.{window-by-place}
 use Rattle.numeration.proofs.Sums.{unit-right, outDigit-none, element-outDigit, elements-span, element-topDown, telescope, topDown-padded, value-topDown}
 
 module _ {A : Type 0} (c : Code A) (m : ℕ) (p : PrefixCode c m) where
-  -- where the window of a place begins with h zeros, the weight into the place is leaf 0's
+  -- where the window of a place begins with h zeros, its leaf is leaf 0, and the weight into the place is leaf 0's
+  pub leaf-zeros : (row : List ℕ) (j : ℕ) → ((k : ℕ) → k < depth c → window row j k ≡ 0) → leafInto c row j ≡ 0
+  leaf-zeros row j zeros =
+      leafOf-unique c (p .separate) (window row j) 0 (p .some-leaf) (λ k h. p .zeros k h ∙ sym (zeros k (omega (arith, size-depth c 0 (p .some-leaf)))))
+
   weight-zeros : (row : List ℕ) (j : ℕ) → ((k : ℕ) → k < depth c → window row j k ≡ 0) → weightInto c row j ≡ c .weight 0
-  weight-zeros row j zeros =
-      weightInto-leaf c (p .separate) row j 0 (p .some-leaf) (λ k h. p .zeros k h ∙ sym (zeros k (omega (arith, size-depth c 0 (p .some-leaf)))))
+  unfolding weightInto
+  weight-zeros row j zeros = ap (c .weight) (leaf-zeros row j zeros)
 
   pub weight-below : (row : List ℕ) → weightInto c row 0 ≡ c .weight 0
   unfolding window

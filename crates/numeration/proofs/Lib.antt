@@ -3,6 +3,7 @@ pub mod Leaves
 pub mod Windows
 pub mod Sums
 pub mod Ends
+pub mod Reach
 pub mod Pairs
 pub mod Runs
 pub mod Changes

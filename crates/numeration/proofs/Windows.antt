@@ -9,7 +9,7 @@ use Rattle.numeration.specs.Group.{Operations}
 use Rattle.numeration.specs.Code.{Code, Inputs, Begins}
 use Rattle.numeration.specs.LeafOf.{depth}
 use Rattle.numeration.specs.Prefix.{Below, Separate}
-use Rattle.numeration.specs.Conversion.{window, weightInto, weightAt, convert}
+use Rattle.numeration.specs.Conversion.{window, leafInto, weightInto, weightAt, convert}
 use Rattle.numeration.proofs.Leaves.{leafOf-ext, leafOf-unique, getD-inputs}
 
 -- what holds of zeros, and of the digits at the place that digit k of the window below place j stands for, holds of that digit
@@ -23,11 +23,14 @@ pub window-below : (m : ℕ) (row : List ℕ) → 0 < m → Inputs m row → (j 
 window-below m row some all j k = window-by-place (λ d e. d < m) row row j k (λ h. some) (λ i e. getD-inputs m row some all i)
 
 module _ {A : Type 0} (c : Code A) where
-  -- the weight into place j reads the h places below it
-  pub weightInto-ext : (r s : List ℕ) (j : ℕ) → ((i : ℕ) → i < j → j ≤ i + depth c → getD r i 0 ≡ getD s i 0) → weightInto c r j ≡ weightInto c s j
-  unfolding weightInto
-  weightInto-ext r s j same =
-      ap (c .weight) (leafOf-ext c _ _ (λ k h. window-by-place (λ d e. d ≡ e) r s j k (λ low. refl) (λ i e. same i (omega arith) (omega arith))))
+  -- the leaf below place j, and with it the weight into the place, reads the h places below it
+  module _ (r s : List ℕ) (j : ℕ) (same : (i : ℕ) → i < j → j ≤ i + depth c → getD r i 0 ≡ getD s i 0) where
+    pub leafInto-ext : leafInto c r j ≡ leafInto c s j
+    leafInto-ext = leafOf-ext c _ _ (λ k h. window-by-place (λ d e. d ≡ e) r s j k (λ low. refl) (λ i e. same i (omega arith) (omega arith)))
+
+    pub weightInto-ext : weightInto c r j ≡ weightInto c s j
+    unfolding weightInto
+    weightInto-ext = ap (c .weight) leafInto-ext
 
   -- it is the weight of any leaf that begins the window
   pub weightInto-leaf : Separate c → (row : List ℕ) (j k : ℕ) → k < c .leaves → Begins c k (window row j) → weightInto c row j ≡ c .weight k

@@ -17,9 +17,13 @@ unfoldable pub outDigit : {A : Type 0} → Operations A → A → A → A → A
 outDigit o input below own = o .difference (o .sum input below) (o .base own)
 
 module _ {A : Type 0} (c : Code A) where
-  -- q(j−1): the weight that place j gets from below; at place 0 that of the window of zeros
+  -- the leaf that is looked up at place j − 1: its word begins w(j−1), w(j−2), ..; at place −1 that of the window of zeros
+  abbrev pub leafInto : List ℕ → ℕ → ℕ
+  leafInto row j = leafOf c (window row j)
+
+  -- q(j−1): the weight that place j gets from below
   unfoldable pub weightInto : List ℕ → ℕ → A
-  weightInto row j = c .weight (leafOf c (window row j))
+  weightInto row j = c .weight (leafInto row j)
 
   -- q(j)
   unfoldable pub weightAt : List ℕ → ℕ → A

@@ -3,6 +3,8 @@ pub mod Code
 pub mod LeafOf
 pub mod Prefix
 pub mod Conversion
+pub mod Reach
+pub mod ReachOf
 pub mod Pairs
 pub mod PairTests
 pub mod Runs

@@ -1,10 +1,12 @@
--- The operation of a call, part by part: the sum of the parts, and the first element's part minus the second's.
-use mathlib.Core.Path.{_≡_}
+-- The operation of a call, part by part: the sum of the parts, and the first element's part minus the second's; and on zero.
+use mathlib.Core.Path.{_≡_, refl}
 use mathlib.Core.List.{List}
-use Prim.Native.Nat.{ℕ}
+use Prim.Native.Nat.{ℕ, zero, suc}
 use lib.IntN.{ℤ, _+ℤ_, _-ℤ_}
+use Rattle.lists.proofs.Cons.{cons≡}
+use Rattle.ring.specs.declared.Operation.{Operation}
 use Rattle.ring.specs.declared.Operation.the-variants.{Plus, Minus}
-use Rattle.ring.specs.Element.{part}
+use Rattle.ring.specs.Element.{part, zeros, plus, negative, minus}
 use Rattle.ring.specs.Operation.{combine}
 use Rattle.ring.proofs.Element.{part-plus, part-minus}
 
@@ -13,3 +15,10 @@ part-sum x y k = part-plus x y k
 
 pub part-difference : (x y : List ℤ) (k : ℕ) → part (combine Minus x y) k ≡ part x k -ℤ part y k
 part-difference x y k = part-minus x y k
+
+pub combine-zeros : (op : Operation) (d : ℕ) → combine op (zeros d) (zeros d) ≡ zeros d
+unfolding plus negative minus
+combine-zeros Plus zero = refl
+combine-zeros Plus (suc d) = cons≡ refl (combine-zeros Plus d)
+combine-zeros Minus zero = refl
+combine-zeros Minus (suc d) = cons≡ refl (combine-zeros Minus d)
