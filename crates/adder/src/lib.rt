@@ -13,13 +13,14 @@ ghost use Rattle.reader_rules.specs.Check.{tableCheck};
 ghost use Rattle.row_rules.specs.Changed.{changed};
 ghost use Rattle.row_rules.specs.Rows.{RowsFit};
 ghost use Rattle.place_rules.specs.Helpers.{partRow};
-ghost use Rattle.adder_rules.specs.Sum.{digitCount, placeCount};
+ghost use Rattle.adder_rules.specs.Sum.{digitCount, placeCount, rowReach};
 ghost use Rattle.adder_rules.specs.Input.{inputOf};
 ghost use Rattle.adder_rules.specs.Add.{rowAllowed, rowPart, resultRow, digitsOutcome, askedOutcome, resultOutcome, resultIn};
 ghost use Rattle.adder_rules.specs.Calls.{addOutcome, addSum, subtractOutcome, subtractDifference};
 ghost use Rattle.adder.specs.Answer.{outcomeOf, subtractedAs};
 use adder_rules::AddedFacts;
 use faults::Fault;
+use places::Written;
 use reader_rules::Reading;
 use ring::Operation;
 use row_rules::Change;
@@ -66,14 +67,15 @@ pub fn inputs_of(
 }
 
 // Writes the alphabet indexes of the digits of a row of input indexes at the places from `from` on, up to the first digit that isn't
-// in the alphabet, at most `count` of them; how many.
-pub fn digits_of(table: &[u8], row: &[u8], from: usize, count: usize, out: &mut [u8]) -> usize
+// in the alphabet, at most `count` of them.
+pub fn digits_of(table: &[u8], row: &[u8], from: usize, count: usize, out: &mut [u8]) -> Written
     requires table { ⌜ tableCheck (now table) .number ≡ 0 ⌝ }
     requires inputs { ⌜ Inputs (inputCount (now table)) (now row) ⌝ }
     requires room { ⌜ (from + count < 65536) × (count ≤ length (now out)) ⌝ }
-    ensures count { λ r. ⌜ r ≡ firstFailing (λ k. rowAllowed (now (table .entry)) (now (row .entry)) (from + k)) 0 count ⌝ }
+    ensures count { λ r. ⌜ r .count ≡ firstFailing (λ k. rowAllowed (now (table .entry)) (now (row .entry)) (from + k)) 0 count ⌝ }
+    ensures reach { λ r. ⌜ r .reach ≡ rowReach (now (table .entry)) (now (row .entry)) from (r .count) ⌝ }
     ensures digits { λ r. ⌜ now (out .exit)
-        ≡ overwrite (now (out .entry)) 0 (rowPart (now (table .entry)) (now (row .entry)) from r) ⌝ }
+        ≡ overwrite (now (out .entry)) 0 (rowPart (now (table .entry)) (now (row .entry)) from (r .count)) ⌝ }
 {
     let base = digits::base_of(reader::section(table, 0));
     let alphabet = reader::section(table, 1);
@@ -113,14 +115,17 @@ fn write_digits(
     );
     let mut digits = [0u8; 264];
     let found = digits_of(table, &row, 0, places, &mut digits);
-    if found < places {
+    if found.count < places {
         return Added::Refused(Fault::Author {
             number: 27,
-            place: found,
+            place: found.count,
         });
     }
     octets::put(out, 0, &digits[..places]);
-    Added::Sum(AddedFacts { places })
+    Added::Sum(AddedFacts {
+        places,
+        reach: found.reach,
+    })
 }
 
 // The result of rows that pass 20 to 23, or what the operation asks and isn't so, or fault 27.

@@ -32,7 +32,7 @@ use Rattle.row_rules.proofs.Fit.{rows-fit}
 use Rattle.row_rules.proofs.Broken.{rows-exact}
 use Rattle.table_rules.specs.Check.{checkFacts, checkOutcome}
 use Rattle.table_rules.proofs.Demand.{demand-2}
-use Rattle.adder_rules.specs.Sum.{digitCount, placeCount}
+use Rattle.adder_rules.specs.Sum.{digitCount, placeCount, resultFacts}
 use Rattle.adder_rules.specs.Input.{inputOf, inputRow}
 use Rattle.adder_rules.specs.Add.{outputCheck, digitsOutcome, resultOutcome}
 use Rattle.adder_rules.specs.Broken.{outputRules, resultStages}
@@ -63,7 +63,7 @@ module _ (file : List ℕ) (accepted : checkOutcome file ≡ facts (checkFacts f
   module _ (op : Operation) (first second : List ℕ) (room : ℕ) where
     -- rows that pass 20 to 23 get their result, where nothing that the operation asks is broken
     pub accepted-gives : rowCheck first second room (digitCount file) (tableFacts file .depth) .number ≡ 0 → operationCheck op (alphabetPart file) (inputPart file) .number ≡ 0
-        → resultOutcome op file first second room ≡ facts (record { places = placeCount file first })
+        → resultOutcome op file first second room ≡ facts (resultFacts op file first second)
     unfolding digitsOutcome
     accepted-gives z asked =
         let fit = rows-fit first second room (digitCount file) (tableFacts file .depth) z in

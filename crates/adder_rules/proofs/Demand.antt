@@ -19,7 +19,7 @@ use Rattle.reader_rules.proofs.Broken.{table-decided}
 use Rattle.row_rules.proofs.Broken.{rows-decided}
 use Rattle.table_rules.proofs.Demand.{listed-test}
 use Rattle.adder_rules.specs.declared.AddedFacts.{AddedFacts}
-use Rattle.adder_rules.specs.Sum.{digitCount, placeCount, rowDigit}
+use Rattle.adder_rules.specs.Sum.{digitCount, placeCount, rowDigit, resultFacts}
 use Rattle.adder_rules.specs.Input.{inputRow}
 use Rattle.adder_rules.specs.Add.{rowAllowed, outputCheck, digitsOutcome, askedOutcome, resultOutcome, resultIn}
 use Rattle.adder_rules.specs.Broken.{Broken27, outputRules, resultStages}
@@ -41,8 +41,8 @@ digits-decided file row from count =
         (omega (arith, w .2), omega (arith, w .1, w .2), λ l. clash (listed-test (alphabetPart file) (rowDigit file row p) .1 l) (subst (λ (j : ℕ). rowAllowed file row j ≡ false) (sym (w .2)) (w .3)))
 
 -- Demand 1. For every list of bytes as table, rows and buffer the call refuses with whose, N and P exactly when rule N is broken at P,
--- at no earlier place, and no rule before N in the order 1 to 13, 20 to 23, in subtraction 42, 27 is broken; else it gives n + h.
-pub demand-1 : (op : Operation) (file first second : List ℕ) (room : ℕ) → Answers (resultStages op file first second room) (record { places = placeCount file first }) (resultOutcome op file first second room)
+-- at no earlier place, and no rule before N in the order 1 to 13, 20 to 23, in subtraction 42, 27 is broken; else it gives n + h and the reach.
+pub demand-1 : (op : Operation) (file first second : List ℕ) (room : ℕ) → Answers (resultStages op file first second room) (resultFacts op file first second) (resultOutcome op file first second room)
 unfolding resultOutcome askedOutcome digitsOutcome
 demand-1 op file first second room =
     told-answers (resultStages op file first second room) given _
@@ -52,7 +52,7 @@ demand-1 op file first second room =
     (λ _. told-unless author _ _ given _ _ (digits-decided file (inputRow op file first second) 0 (placeCount file first)) (λ _. told-end given)))))
   where
     given : AddedFacts
-    given = record { places = placeCount file first }
+    given = resultFacts op file first second
 
 -- and then the buffer is as lent
 pub refused-lent : (op : Operation) (file first second buffer : List ℕ) (g : Group) (n p : ℕ) → resultOutcome op file first second (length buffer) ≡ refused g n p → resultIn op file first second buffer ≡ buffer

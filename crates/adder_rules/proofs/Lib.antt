@@ -8,3 +8,4 @@ pub mod Accepted
 pub mod Combined
 pub mod Reused
 pub mod Subtraction
+pub mod Reach

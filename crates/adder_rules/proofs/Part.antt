@@ -15,9 +15,10 @@ use Rattle.lists.proofs.Overwrite.{length-overwrite}
 use Rattle.faults.specs.Check.{refusal, none}
 use Rattle.faults.proofs.Check.{judge-broken, judge-kept}
 use Rattle.reader_rules.specs.TableFacts.{tableFacts}
+use Rattle.adder_rules.specs.Sum.{rowReach}
 use Rattle.adder_rules.specs.Input.{rowIndex}
 use Rattle.adder_rules.specs.Add.{rowAllowed, rowPart, outputCheck}
-use Rattle.adder_rules.proofs.Rows.{same-index, same-allowed}
+use Rattle.adder_rules.proofs.Rows.{same-index, same-allowed, same-reach}
 
 -- the part of a buffer that was written first
 pub written-first : (s new : List ℕ) (n : ℕ) → length new ≡ n → take n (overwrite s 0 new) ≡ new
@@ -41,13 +42,19 @@ module _ (file row inputs : List ℕ) (p count : ℕ) (same : (k : ℕ) → p �
   unfolding outputCheck
   check-kept h = judge-kept 27 (λ k. p + k) (λ k. rowAllowed file inputs (p + k)) count found at h
 
+  all-found : count ≤ found → found ≡ count
+  all-found h = le-antisymm (omega (arith, first-outside, scan-high (λ k. rowAllowed file row (p + k)) 0 count)) h
+
+  -- the longest word looked up for them
+  pub reach-found : count ≤ found → rowReach file row p found ≡ rowReach file inputs p count
+  reach-found h = ap (rowReach file row p) (all-found h) ∙ same-reach file row inputs p count same
+
   -- the digits found, as a buffer's first bytes hold them
   pub part-found : (s : List ℕ) → count ≤ found → take count (overwrite s 0 (rowPart file row p found)) ≡ rowPart file inputs p count
   unfolding rowPart
   part-found s h =
-      let all : found ≡ count = le-antisymm (omega (arith, first-outside, scan-high (λ k. rowAllowed file row (p + k)) 0 count)) h in
-      written-first s _ count (length-span _ 0 found ∙ all)
-      ∙ ap (span (λ k. rowIndex file row (p + k)) 0) all
+      written-first s _ count (length-span _ 0 found ∙ all-found h)
+      ∙ ap (span (λ k. rowIndex file row (p + k)) 0) (all-found h)
       ∙ span-ext (λ k. rowIndex file row (p + k)) (λ k. rowIndex file inputs (p + k)) 0 0 count (λ k h. same-index file row inputs (p + (0 + k)) (near (0 + k) (omega arith)))
 
   pub part-room : (s : List ℕ) → count ≤ length s → length (overwrite s 0 (rowPart file row p found)) ≡ length s

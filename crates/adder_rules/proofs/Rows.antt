@@ -13,6 +13,7 @@ use Rattle.digit_rules.specs.Digits.{operationCheck}
 use Rattle.digit_rules.proofs.Formed.{pair-index-below}
 use Rattle.numeration.specs.Code.{Inputs}
 use Rattle.numeration.proofs.Windows.{convert-ext}
+use Rattle.numeration.proofs.Reach.{reach-ext}
 use Rattle.reader_rules.specs.Table.{alphabetPart, inputPart, inputCount}
 use Rattle.reader_rules.specs.TableFacts.{tableFacts}
 use Rattle.reader_rules.specs.Check.{tableCheck}
@@ -26,7 +27,7 @@ use Rattle.table_rules.specs.Pairs.{inAlphabet}
 use Rattle.place_rules.specs.Place.{alphabetIndex, indexAt}
 use Rattle.place_rules.specs.Helpers.{partRow}
 use Rattle.place_rules.proofs.Part.{part-in, part-behind, part-each}
-use Rattle.adder_rules.specs.Sum.{digitCount, placeCount, rowDigit}
+use Rattle.adder_rules.specs.Sum.{digitCount, placeCount, rowDigit, rowReach}
 use Rattle.adder_rules.specs.Input.{inputOf, inputRow, rowIndex}
 use Rattle.adder_rules.specs.Add.{rowAllowed}
 use Rattle.adder_rules.proofs.Table.{all-listed}
@@ -43,6 +44,11 @@ module _ (file r s : List ℕ) (j : ℕ) (same : (k : ℕ) → k ≤ j → j ≤
 
   pub same-allowed : rowAllowed file r j ≡ rowAllowed file s j
   same-allowed = ap (inAlphabet (alphabetPart file)) same-digit
+
+-- and so is the reach of some places, for rows that agree where their digits depend on them
+pub same-reach : (file r s : List ℕ) (p count : ℕ) → ((k : ℕ) → p ≤ k + tableFacts file .depth → k < p + count → getD r k 0 ≡ getD s k 0) → rowReach file r p count ≡ rowReach file s p count
+unfolding tableFacts
+same-reach file r s p count same = reach-ext _ r s p count same
 
 -- a row read with no change made
 pub read-unchanged : (digits number : ℕ) (change : Change) (row : List ℕ) → change ≡ noChange → number < 2 → Indexes digits row → (k : ℕ) → k < length row → getD (changed change number row) k 0 < digits

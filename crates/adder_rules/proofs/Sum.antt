@@ -21,17 +21,17 @@ use Rattle.reader_rules.specs.Check.{tableCheck, readOutcome}
 use Rattle.reader_rules.proofs.Answer.{read-fault}
 use Rattle.row_rules.specs.Check.{rowCheck}
 use Rattle.adder_rules.specs.declared.AddedFacts.{AddedFacts}
-use Rattle.adder_rules.specs.Sum.{digitCount, placeCount}
+use Rattle.adder_rules.specs.Sum.{digitCount, placeCount, rowReach, resultFacts}
 use Rattle.adder_rules.specs.Input.{inputRow}
 use Rattle.adder_rules.specs.Add.{rowAllowed, rowPart, resultRow, digitsOutcome, askedOutcome, resultOutcome, resultIn}
-use Rattle.adder_rules.proofs.Part.{check-refused, check-kept, part-found, part-room}
+use Rattle.adder_rules.proofs.Part.{check-refused, check-kept, reach-found, part-found, part-room}
 
 module _ (op : Operation) (file first second : List ℕ) where
   -- by a row with the entries of the row of input indexes
   module _ (row : List ℕ) (same : (k : ℕ) → getD row k 0 ≡ getD (inputRow op file first second) k 0) (places : ℕ) (all : places ≡ placeCount file first)
       (found : ℕ) (first-outside : found ≡ firstFailing (λ k. rowAllowed file row (0 + k)) 0 places) where
     abbrev given : Outcome AddedFacts
-    given = facts (record { places = placeCount file first })
+    given = facts (resultFacts op file first second)
 
     at : found ≡ firstFailing (λ k. rowAllowed file row (0 + k)) 0 (placeCount file first)
     at = first-outside ∙ ap (firstFailing (λ k. rowAllowed file row (0 + k)) 0) all
@@ -43,11 +43,12 @@ module _ (op : Operation) (file first second : List ℕ) where
         let is = check-refused file row (inputRow op file first second) 0 (placeCount file first) (λ k low high. same k) found at (omega arith) in
         ap (refused author 27) (sym (zero-add found)) ∙ sym (ap (λ (r : Refusal). unless author r given) is ∙ unless-found author (refusal 27 (0 + found)) given (λ z. omega (arith, z)))
 
-    pub digits-given : places ≤ found → facts (record { places = places }) ≡ digitsOutcome op file first second
+    pub digits-given : (reach : ℕ) → reach ≡ rowReach file row 0 found → places ≤ found → facts (record { places = places; reach = reach }) ≡ digitsOutcome op file first second
     unfolding digitsOutcome
-    digits-given h =
+    digits-given reach longest h =
         let is = check-kept file row (inputRow op file first second) 0 (placeCount file first) (λ k low high. same k) found at (omega arith) in
-        (λ i. facts (record { places = all i })) ∙ sym (ap (λ (r : Refusal). unless author r given) is ∙ unless-none author none given refl)
+        let reached : reach ≡ rowReach file (inputRow op file first second) 0 (placeCount file first) = longest ∙ reach-found file row (inputRow op file first second) 0 (placeCount file first) (λ k low high. same k) found at (omega arith) in
+        (λ i. facts (record { places = all i; reach = reached i })) ∙ sym (ap (λ (r : Refusal). unless author r given) is ∙ unless-none author none given refl)
 
     -- the digits found, as a buffer's first bytes hold them
     pub digits-found : (s : List ℕ) → places ≤ found → take places (overwrite s 0 (rowPart file row 0 found)) ≡ resultRow op file first second

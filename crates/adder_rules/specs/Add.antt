@@ -18,7 +18,7 @@ use Rattle.reader_rules.specs.Check.{tableCheck}
 use Rattle.row_rules.specs.Check.{rowCheck}
 use Rattle.place_rules.specs.Place.{digitAllowed}
 use Rattle.adder_rules.specs.declared.AddedFacts.{AddedFacts}
-use Rattle.adder_rules.specs.Sum.{digitCount, placeCount}
+use Rattle.adder_rules.specs.Sum.{digitCount, placeCount, resultFacts}
 use Rattle.adder_rules.specs.Input.{inputRow, rowIndex}
 
 module _ (file : List ℕ) where
@@ -40,9 +40,9 @@ module _ (op : Operation) (file first second : List ℕ) where
   unfoldable pub resultRow : List ℕ
   resultRow = rowPart file (inputRow op file first second) 0 (placeCount file first)
 
-  -- 27 over all places, then n + h
+  -- 27 over all places, then the facts
   unfoldable pub digitsOutcome : Outcome AddedFacts
-  digitsOutcome = unless author (outputCheck file (inputRow op file first second) 0 (placeCount file first)) (facts (record { places = placeCount file first }))
+  digitsOutcome = unless author (outputCheck file (inputRow op file first second) 0 (placeCount file first)) (facts (resultFacts op file first second))
 
   -- before it what the operation asks: in subtraction 42
   unfoldable pub askedOutcome : Outcome AddedFacts

@@ -4,3 +4,4 @@ pub mod Add
 pub mod Calls
 pub mod Broken
 pub mod Combined
+pub mod Reach

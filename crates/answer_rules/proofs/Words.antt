@@ -21,11 +21,13 @@ use Rattle.ring.specs.declared.Operation.{Operation}
 use Rattle.adder_rules.specs.Add.{resultOutcome}
 use Rattle.adder_rules.proofs.Demand.{demand-1 as add-demand-1}
 use Rattle.adder_rules.proofs.Combined.{passed}
+use Rattle.adder_rules.proofs.Reach.{result-reach}
 use Rattle.edit_rules.specs.declared.EditedFacts.{EditedFacts}
 use Rattle.edit_rules.specs.Count.{tally, failing}
 use Rattle.edit_rules.specs.Edit.{count, editOutcome}
-use Rattle.edit_rules.specs.State.{State, reach}
+use Rattle.edit_rules.specs.State.{State, renewedCount}
 use Rattle.edit_rules.proofs.Demand.{demand-1 as edit-demand-1}
+use Rattle.edit_rules.proofs.Reach.{edit-reach}
 use Rattle.answer_rules.specs.Answer.{checkWords, addWords, editWords}
 
 -- a fault's number and place
@@ -39,13 +41,14 @@ check-words file f is =
     let r = ready-passed file (unless-given author (tableCheck file) _ f is .0) in
     rw (demand-1 file .only-facts f is) (cons≡ (word-small _ (omega (arith, r .depth-high))) (cons≡ (word-small _ (omega (arith, r .leaf-lies .counts, r .leaf-count .1))) (cons≡ (word-small _ (omega (arith, r .alphabet-lies .counts, r .alphabet-count .1))) refl)))
 
--- n + h of an addition that isn't refused
-pub add-words : (op : Operation) (file first second : List ℕ) (room : ℕ) (f : AddedFacts) → resultOutcome op file first second room ≡ facts f → addWords f ≡ pos (f .places) ∷ []
+-- n + h and the reach of an addition that isn't refused
+pub add-words : (op : Operation) (file first second : List ℕ) (room : ℕ) (f : AddedFacts) → resultOutcome op file first second room ≡ facts f → addWords f ≡ pos (f .places) ∷ pos (f .reach) ∷ []
 add-words op file first second room f is =
     let ok = passed op file first second room f is in
-    cons≡ (word-small _ (omega (arith, ap (λ (a : AddedFacts). a .places) (add-demand-1 op file first second room .only-facts f is), ok .fit .short, ready-passed file (ok .table) .depth-high))) refl
+    let shallow = ready-passed file (ok .table) .depth-high in
+    cons≡ (word-small _ (omega (arith, ap (λ (a : AddedFacts). a .places) (add-demand-1 op file first second room .only-facts f is), ok .fit .short))) (cons≡ (word-small _ (omega (arith, result-reach op file first second room f is .most))) refl)
 
--- the count of an edit that is taken
+-- the count and the reach of an edit that is taken
 tally-most : (b : Bool) (n : ℕ) → tally b n ≤ suc n
 unfolding tally
 tally-most true n = omega arith
@@ -56,9 +59,9 @@ unfolding failing
 most-fail test i zero = omega arith
 most-fail test i (suc n) = omega (arith, tally-most (test i) (failing test (suc i) n), most-fail test (suc i) n)
 
-pub edit-words : (file : List ℕ) (e : Change) (s : State) (f : EditedFacts) → editOutcome file e s ≡ facts f → editWords f ≡ pos (f .count) ∷ []
+pub edit-words : (file : List ℕ) (e : Change) (s : State) (f : EditedFacts) → editOutcome file e s ≡ facts f → editWords f ≡ pos (f .count) ∷ pos (f .reach) ∷ []
 unfolding editOutcome count
 edit-words file e s f is =
     let r = ready-passed file (unless-given author (tableCheck file) _ f is .0) in
-    let most : count file e s ≤ reach file = most-fail _ (e .place) (reach file) in
-    cons≡ (word-small _ (omega (arith, ap (λ (a : EditedFacts). a .count) (edit-demand-1 file e s .only-facts f is), r .depth-high))) refl
+    let most : count file e s ≤ renewedCount file = most-fail _ (e .place) (renewedCount file) in
+    cons≡ (word-small _ (omega (arith, ap (λ (a : EditedFacts). a .count) (edit-demand-1 file e s .only-facts f is), r .depth-high))) (cons≡ (word-small _ (omega (arith, r .depth-high, edit-reach file e s f is .most))) refl)

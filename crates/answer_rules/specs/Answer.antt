@@ -40,13 +40,13 @@ answered words outcome answer = ifRoom 8 (length answer) (overwrite answer 0 (ou
 abbrev pub checkWords : Facts → List ℤ
 checkWords f = wordOf (f .depth) ∷ wordOf (f .leaves) ∷ wordOf (f .digits) ∷ []
 
--- the fact of addition and of subtraction: n + h
+-- the facts of addition and of subtraction: n + h and the reach
 abbrev pub addWords : AddedFacts → List ℤ
-addWords f = wordOf (f .places) ∷ []
+addWords f = wordOf (f .places) ∷ wordOf (f .reach) ∷ []
 
--- the fact of the edit: the count of sum bytes that differ from before
+-- the facts of the edit: the count of sum bytes that differ from before, and the reach
 abbrev pub editWords : EditedFacts → List ℤ
-editWords f = wordOf (f .count) ∷ []
+editWords f = wordOf (f .count) ∷ wordOf (f .reach) ∷ []
 
 -- the fact of the runner: the number of edits that were called
 abbrev pub runWords : RanFacts → List ℤ

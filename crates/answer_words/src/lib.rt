@@ -34,13 +34,21 @@ pub fn put(answer: &mut [i64], words: &[i64])
     }
 }
 
+// Writes a word and then two numbers, which are a fault's or two facts.
+fn put_three(answer: &mut [i64], head: i64, n: usize, m: usize)
+    requires { ⌜ 8 ≤ length (now answer) ⌝ }
+    ensures { λ _. ⌜ now (answer .exit) ≡ overwrite (now (answer .entry)) 0 (head ∷ wordOf n ∷ wordOf m ∷ []) ⌝ }
+{
+    put(answer, &[head, word(n), word(m)]);
+}
+
 // Writes whose fault it is, its number and its place; what the call returns.
 fn put_fault(answer: &mut [i64], whose: i64, number: usize, place: usize) -> u64
     requires { ⌜ 8 ≤ length (now answer) ⌝ }
     ensures status { λ r. ⌜ r ≡ 1 ⌝ }
     ensures answer { λ r. ⌜ now (answer .exit) ≡ overwrite (now (answer .entry)) 0 (whose ∷ wordOf number ∷ wordOf place ∷ []) ⌝ }
 {
-    put(answer, &[whose, word(number), word(place)]);
+    put_three(answer, whose, number, place);
     1
 }
 
@@ -63,6 +71,16 @@ pub fn put_number(answer: &mut [i64], n: usize) -> u64
     ensures answer { λ r. ⌜ now (answer .exit) ≡ overwrite (now (answer .entry)) 0 (pos 0 ∷ wordOf n ∷ []) ⌝ }
 {
     put(answer, &[0, word(n)]);
+    0
+}
+
+// Writes two numbers as facts; what the call returns.
+pub fn put_numbers(answer: &mut [i64], n: usize, m: usize) -> u64
+    requires { ⌜ 8 ≤ length (now answer) ⌝ }
+    ensures status { λ r. ⌜ r ≡ 0 ⌝ }
+    ensures answer { λ r. ⌜ now (answer .exit) ≡ overwrite (now (answer .entry)) 0 (pos 0 ∷ wordOf n ∷ wordOf m ∷ []) ⌝ }
+{
+    put_three(answer, 0, n, m);
     0
 }
 

@@ -44,7 +44,7 @@ pub fn added(answer: &mut [i64], given: Added) -> u64
     ensures answer { λ r. ⌜ now (answer .exit) ≡ overwrite (now (answer .entry)) 0 (outcomeWords addWords (addedAs given)) ⌝ }
 {
     match given {
-        Added::Sum(f) => answer_words::put_number(answer, f.places),
+        Added::Sum(f) => answer_words::put_numbers(answer, f.places, f.reach),
         Added::Refused(fault) => answer_words::refuse(answer, fault),
     }
 }
@@ -55,7 +55,7 @@ pub fn subtracted(answer: &mut [i64], given: Subtracted) -> u64
     ensures answer { λ r. ⌜ now (answer .exit) ≡ overwrite (now (answer .entry)) 0 (outcomeWords addWords (subtractedAs given)) ⌝ }
 {
     match given {
-        Subtracted::Difference(f) => answer_words::put_number(answer, f.places),
+        Subtracted::Difference(f) => answer_words::put_numbers(answer, f.places, f.reach),
         Subtracted::Refused(fault) => answer_words::refuse(answer, fault),
     }
 }
@@ -66,7 +66,7 @@ pub fn edited(answer: &mut [i64], given: Edited) -> u64
     ensures answer { λ r. ⌜ now (answer .exit) ≡ overwrite (now (answer .entry)) 0 (outcomeWords editWords (editedAs given)) ⌝ }
 {
     match given {
-        Edited::Count(f) => answer_words::put_number(answer, f.count),
+        Edited::Count(f) => answer_words::put_numbers(answer, f.count, f.reach),
         Edited::Refused(fault) => answer_words::refuse(answer, fault),
     }
 }

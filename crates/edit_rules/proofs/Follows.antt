@@ -38,7 +38,7 @@ use Rattle.table_rules.specs.Pairs.{inAlphabet}
 use Rattle.table_rules.proofs.Demand.{demand-2, listed-test}
 use Rattle.place_rules.specs.Place.{indexAt}
 use Rattle.adder_rules.specs.declared.AddedFacts.{AddedFacts}
-use Rattle.adder_rules.specs.Sum.{digitCount, placeCount, rowDigit}
+use Rattle.adder_rules.specs.Sum.{digitCount, placeCount, rowDigit, rowReach}
 use Rattle.adder_rules.specs.Input.{inputOf, inputRow, rowIndex}
 use Rattle.adder_rules.specs.Add.{rowPart, resultRow, resultIn}
 use Rattle.adder_rules.specs.Calls.{addOutcome, addSum}
@@ -49,7 +49,7 @@ use Rattle.edit_rules.specs.declared.EditedFacts.{EditedFacts}
 use Rattle.edit_rules.specs.Edit.{newSum, editOutcome, editState}
 use Rattle.edit_rules.specs.State.{State, state}
 use Rattle.edit_rules.specs.Run.{editAll, editAnswers, added, run}
-use Rattle.edit_rules.specs.Follows.{storeEdits, Follows, Step, ListFollows}
+use Rattle.edit_rules.specs.Follows.{storeEdits, Follows, Step, noFacts, ListFollows}
 use Rattle.edit_rules.specs.Edits.{rowEdits}
 use Rattle.edit_rules.proofs.Step.{taken-state, lent-state, step}
 
@@ -162,7 +162,7 @@ module _ (file : List ℕ) where
   edit-next (e ∷ es) s zero h = refl
   edit-next (e ∷ es) s (suc k) h = rw (suc-add) (edit-next es (editState file e s) k (omega arith))
 
-  answer-at : (es : List Change) (s : State) (k : ℕ) → k < length es → getD (editAnswers file es s) k (facts (record { count = 0 })) ≡ editOutcome file (getD es k noChange) (editAll file (take k es) s)
+  answer-at : (es : List Change) (s : State) (k : ℕ) → k < length es → getD (editAnswers file es s) k (facts noFacts) ≡ editOutcome file (getD es k noChange) (editAll file (take k es) s)
   unfolding editAll editAnswers
   answer-at [] s k h = absurd (not-suc-le-zero h)
   answer-at (e ∷ es) s zero h = refl
@@ -194,10 +194,13 @@ module _ (file : List ℕ) (accepted : checkOutcome file ≡ facts (checkFacts f
   unfolding behind
   filled = omega (arith, length-drop (placeCount file (s .first)) (s .sum), start .0 .room)
 
-  adds : (r : List ℕ × List ℕ) → Kept r → addOutcome file (r .0) (r .1) (length (s .sum)) ≡ facts (record { places = placeCount file (s .first) })
+  abbrev addFacts : List ℕ × List ℕ → AddedFacts
+  addFacts r = record { places = placeCount file (s .first); reach = rowReach file (inputRow Plus file (r .0) (r .1)) 0 (placeCount file (s .first)) }
+
+  adds : (r : List ℕ × List ℕ) → Kept r → addOutcome file (r .0) (r .1) (length (s .sum)) ≡ facts (addFacts r)
   adds r v =
       accepted-gives file accepted Plus (r .0) (r .1) (length (s .sum)) (no-number _ (rows-pass (r .0) (r .1) (length (s .sum)) (digitCount file) (tableFacts file .depth) (v .0))) (nothing-asked _ _)
-      ∙ (λ i. facts (record { places = v .1 i + tableFacts file .depth }))
+      ∙ (λ i. let places : ℕ = v .1 i + tableFacts file .depth in facts (record { places = places; reach = rowReach file (inputRow Plus file (r .0) (r .1)) 0 places }))
 
   -- the sum row with what stands behind it is what a whole addition leaves
   whole-is : (r : List ℕ × List ℕ) → Kept r → digitRow kind r ++ behind ≡ addSum file (r .0) (r .1) (s .sum)
@@ -208,7 +211,7 @@ module _ (file : List ℕ) (accepted : checkOutcome file ≡ facts (checkFacts f
       let row : span index 0 (n + tableFacts file .depth) ≡ resultRow Plus file (r .0) (r .1) = ap (span index 0) places ∙ span-ext index (λ j. index (0 + j)) 0 0 (placeCount file (r .0)) (λ j h. ap index (sym (zero-add (0 + j)))) in
       let long : placeCount file (s .first) ≡ 0 + length (resultRow Plus file (r .0) (r .1)) = places ∙ sym (zero-add _ ∙ result-row-long Plus file (r .0) (r .1)) in
       (λ i. row i ++ drop (long i) (s .sum))
-      ∙ exit-written (addOutcome file (r .0) (r .1) (length (s .sum))) (record { places = placeCount file (s .first) }) (s .sum) (overwrite (s .sum) 0 (resultRow Plus file (r .0) (r .1))) (sym (adds r v))
+      ∙ exit-written (addOutcome file (r .0) (r .1) (length (s .sum))) (addFacts r) (s .sum) (overwrite (s .sum) 0 (resultRow Plus file (r .0) (r .1))) (sym (adds r v))
 
   stored : List Change → List ℕ × List ℕ
   stored es = storeAll kind es (s .first, s .second)
@@ -229,7 +232,7 @@ module _ (file : List ℕ) (accepted : checkOutcome file ≡ facts (checkFacts f
       let v = kept es in
       let sum : List ℕ = digitRow kind r ++ behind in
       let is : sum ≡ addSum file (r .0) (r .1) (s .sum) = whole-is r v in
-      let t = combined Plus file (r .0) (r .1) (s .sum) (record { places = placeCount file (s .first) }) (adds r v) in
+      let t = combined Plus file (r .0) (r .1) (s .sum) (addFacts r) (adds r v) in
       let places : placeCount file (s .first) ≡ placeCount file (r .0) = ap (λ (m : ℕ). m + tableFacts file .depth) (sym (v .1)) in
       subst (Follows file s es) (sym (buffers-are es)) (record {
         rows-stored = stored-edits file n es (s .first, s .second);
@@ -247,12 +250,12 @@ module _ (file : List ℕ) (accepted : checkOutcome file ≡ facts (checkFacts f
   fit-of es =
       let r = stored es in
       let v = kept es in
-      let long = ap length (whole-is r v) ∙ combined Plus file (r .0) (r .1) (s .sum) (record { places = placeCount file (s .first) }) (adds r v) .long in
+      let long = ap length (whole-is r v) ∙ combined Plus file (r .0) (r .1) (s .sum) (addFacts r) (adds r v) .long in
       subst (λ (b : State). RowsFit (b .first) (b .second) (length (b .sum)) (digitCount file) (tableFacts file .depth) × (length (b .first) ≡ n)) (sym (buffers-are es))
       (subst (λ (m : ℕ). RowsFit (r .0) (r .1) m (digitCount file) (tableFacts file .depth)) (sym long) (v .0), v .1)
 
   each : (es : List Change) (k : ℕ) → k < length es
-      → Step file n (getD es k noChange) (run file s (take k es) .buffers) (run file s (take (k + 1) es) .buffers) (getD (run file s es .answers) k (facts (record { count = 0 })))
+      → Step file n (getD es k noChange) (run file s (take k es) .buffers) (run file s (take (k + 1) es) .buffers) (getD (run file s es .answers) k (facts noFacts))
   unfolding run
   each es k h =
       let e = getD es k noChange in
@@ -264,7 +267,7 @@ module _ (file : List ℕ) (accepted : checkOutcome file ≡ facts (checkFacts f
   -- Demand 3. After a fresh addition with a table that the check accepts and any list of edits, refused ones included: after every
   -- prefix of the list the rows are those of the addition with the taken digits stored in turn, the sum is in every byte what a whole
   -- addition of these rows leaves and its value the sum of their values; each edit is answered with the first of 24 to 26 that it
-  -- breaks, and then nothing is changed, or else with the number of sum digits that it changed, and then nothing is changed but its
+  -- breaks, and then nothing is changed, or else with the number of sum digits that it changed and the reach in the rows after it, and then nothing is changed but its
   -- place in its row and sum places p to p + h.
   pub demand-3 : (es : List Change) → ListFollows file s es
   unfolding run

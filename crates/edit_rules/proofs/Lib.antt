@@ -6,3 +6,4 @@ pub mod Demand
 pub mod Step
 pub mod Follows
 pub mod Accepted
+pub mod Reach

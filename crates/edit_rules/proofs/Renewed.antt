@@ -30,15 +30,15 @@ use Rattle.row_rules.specs.Rows.{RowsFit}
 use Rattle.row_rules.proofs.Changed.{length-changed, changed-fit}
 use Rattle.place_rules.specs.Helpers.{partRow}
 use Rattle.lists.proofs.Entries.{overwrite-in}
-use Rattle.adder_rules.specs.Sum.{digitCount}
+use Rattle.adder_rules.specs.Sum.{digitCount, rowReach}
 use Rattle.adder_rules.specs.Input.{inputOf, rowIndex}
 use Rattle.adder_rules.specs.Add.{rowAllowed, rowPart, outputCheck}
 use Rattle.adder_rules.proofs.Rows.{part-inputs, part-same}
-use Rattle.adder_rules.proofs.Part.{check-refused, check-kept, part-found, part-room}
+use Rattle.adder_rules.proofs.Part.{check-refused, check-kept, reach-found, part-found, part-room}
 use Rattle.edit_rules.specs.declared.EditedFacts.{EditedFacts}
 use Rattle.edit_rules.specs.Count.{differing}
-use Rattle.edit_rules.specs.Edit.{newSum, written, count, renewOutcome, renewState}
-use Rattle.edit_rules.specs.State.{newInputs, State, reach}
+use Rattle.edit_rules.specs.Edit.{newSum, written, count, renewFacts, renewOutcome, renewState}
+use Rattle.edit_rules.specs.State.{newInputs, State, renewedCount}
 use Rattle.edit_rules.proofs.Count.{failing-ext}
 
 -- the digits at a count of places
@@ -48,17 +48,17 @@ part-long file row p n = length-span (λ k. rowIndex file row (p + k)) 0 n
 
 module _ (file : List ℕ) (e : Change) (s : State) where
   -- 27 over p to p + h, and the buffers
-  pub renew-refused : (place : ℕ) → outputCheck file (newInputs file e s) (e .place) (reach file) ≡ refusal 27 place → refused author 27 place ≡ renewOutcome file e s
+  pub renew-refused : (place : ℕ) → outputCheck file (newInputs file e s) (e .place) (renewedCount file) ≡ refusal 27 place → refused author 27 place ≡ renewOutcome file e s
   unfolding renewOutcome
   renew-refused place is =
-      let given : Outcome EditedFacts = facts (record { count = count file e s }) in
+      let given : Outcome EditedFacts = facts (renewFacts file e s) in
       sym (ap (λ (r : Refusal). unless author r given) is ∙ unless-found author (refusal 27 place) given (λ z. omega (arith, z)))
 
-  pub renew-given : (n : ℕ) → n ≡ count file e s → outputCheck file (newInputs file e s) (e .place) (reach file) ≡ none → facts (record { count = n }) ≡ renewOutcome file e s
+  pub renew-given : (f : EditedFacts) → f ≡ renewFacts file e s → outputCheck file (newInputs file e s) (e .place) (renewedCount file) ≡ none → facts f ≡ renewOutcome file e s
   unfolding renewOutcome
-  renew-given n c is =
-      let given : Outcome EditedFacts = facts (record { count = count file e s }) in
-      (λ i. facts (record { count = c i })) ∙ sym (ap (λ (r : Refusal). unless author r given) is ∙ unless-none author none given refl)
+  renew-given f c is =
+      let given : Outcome EditedFacts = facts (renewFacts file e s) in
+      ap facts c ∙ sym (ap (λ (r : Refusal). unless author r given) is ∙ unless-none author none given refl)
 
   pub renew-lent : (g : Group) (n p : ℕ) → refused g n p ≡ renewOutcome file e s → s ≡ renewState file e s
   unfolding renewState
@@ -69,34 +69,34 @@ module _ (file : List ℕ) (e : Change) (s : State) where
   renew-written f o = exit-written (renewOutcome file e s) f s (written file e s) o
 
   -- the sum after its part from p on, of d + 1 places, was rewritten
-  module _ (fits : e .place + reach file ≤ length (s .sum)) (d : ℕ) (deep : d ≡ tableFacts file .depth) where
+  module _ (fits : e .place + renewedCount file ≤ length (s .sum)) (d : ℕ) (deep : d ≡ tableFacts file .depth) where
     abbrev lentPart : List ℕ
     lentPart = take (e .place + d + 1 - e .place) (drop (e .place) (s .sum))
 
     abbrev newPart : List ℕ
-    newPart = rowPart file (newInputs file e s) (e .place) (reach file)
+    newPart = rowPart file (newInputs file e s) (e .place) (renewedCount file)
 
-    size : e .place + d + 1 - e .place ≡ reach file
+    size : e .place + d + 1 - e .place ≡ renewedCount file
     size = omega (arith, deep)
 
-    long : length newPart ≡ reach file
-    long = part-long file (newInputs file e s) (e .place) (reach file)
+    long : length newPart ≡ renewedCount file
+    long = part-long file (newInputs file e s) (e .place) (renewedCount file)
 
-    pub lent-long : length lentPart ≡ reach file
+    pub lent-long : length lentPart ≡ renewedCount file
     lent-long = length-take-le _ (drop (e .place) (s .sum)) (omega (arith, size, length-drop (e .place) (s .sum))) ∙ size
 
     pub sum-renewed : (last : List ℕ) → last ≡ newPart → take (e .place) (s .sum) ++ (last ++ drop (e .place + d + 1 - e .place) (drop (e .place) (s .sum))) ≡ newSum file e s
     unfolding newSum overwrite
     sum-renewed last is =
         (λ i. take (e .place) (s .sum) ++ (is i ++ drop (size i) (drop (e .place) (s .sum))))
-        ∙ ap (λ (x : List ℕ). take (e .place) (s .sum) ++ (newPart ++ x)) (drop-drop (reach file) (e .place) (s .sum) ∙ ap (λ (n : ℕ). drop (e .place + n) (s .sum)) (sym long))
+        ∙ ap (λ (x : List ℕ). take (e .place) (s .sum) ++ (newPart ++ x)) (drop-drop (renewedCount file) (e .place) (s .sum) ∙ ap (λ (n : ℕ). drop (e .place + n) (s .sum)) (sym long))
 
     -- bytes of the part are bytes of the sum
-    lent-at : (k : ℕ) → k < reach file → getD lentPart (0 + k) 0 ≡ getD (s .sum) (e .place + k) 0
+    lent-at : (k : ℕ) → k < renewedCount file → getD lentPart (0 + k) 0 ≡ getD (s .sum) (e .place + k) 0
     lent-at k h =
         ap (λ (n : ℕ). getD lentPart n 0) (zero-add k) ∙ getD-take (e .place + d + 1 - e .place) (drop (e .place) (s .sum)) k 0 (omega (arith, size)) ∙ getD-drop (e .place) (s .sum) k 0
 
-    new-at : (k : ℕ) → k < reach file → getD newPart (0 + k) 0 ≡ getD (newSum file e s) (e .place + k) 0
+    new-at : (k : ℕ) → k < renewedCount file → getD newPart (0 + k) 0 ≡ getD (newSum file e s) (e .place + k) 0
     unfolding newSum
     new-at k h =
         ap (λ (n : ℕ). getD newPart n 0) (zero-add k) ∙ sym (overwrite-in (s .sum) newPart (e .place) (omega (arith, long)) k (omega (arith, long)))
@@ -105,7 +105,7 @@ module _ (file : List ℕ) (e : Change) (s : State) where
     unfolding count
     count-is digits is =
         (λ i. differing lentPart (is i) 0 (lent-long i))
-        ∙ failing-ext (λ k. eqb (getD lentPart k 0) (getD newPart k 0)) (λ k. eqb (getD (s .sum) k 0) (getD (newSum file e s) k 0)) 0 (e .place) (reach file) (λ k h. ap₂ eqb (lent-at k h) (new-at k h))
+        ∙ failing-ext (λ k. eqb (getD lentPart k 0) (getD newPart k 0)) (λ k. eqb (getD (s .sum) k 0) (getD (newSum file e s) k 0)) 0 (e .place) (renewedCount file) (λ k h. ap₂ eqb (lent-at k h) (new-at k h))
 
 module _ (file : List ℕ) (e : Change) (s : State) (passes : tableCheck file .number ≡ 0)
     (fit : RowsFit (s .first) (s .second) (length (s .sum)) (digitCount file) (tableFacts file .depth))
@@ -116,7 +116,7 @@ module _ (file : List ℕ) (e : Change) (s : State) (passes : tableCheck file .n
   pub shallow : tableFacts file .depth ≤ 8
   shallow = ready-passed file passes .depth-high
 
-  pub part-fits : e .place + reach file ≤ length (s .sum)
+  pub part-fits : e .place + renewedCount file ≤ length (s .sum)
   part-fits = omega (arith, asked .in-row, fit .room)
 
   -- the part of the row of input indexes that the digits at p to p + h depend on
@@ -134,26 +134,29 @@ module _ (file : List ℕ) (e : Change) (s : State) (passes : tableCheck file .n
       row-inputs =
           rw is (part-inputs Plus file (changed e 0 (s .first)) (changed e 1 (s .second)) (length (s .sum)) passes (nothing-asked _ _) new-fit from end (omega arith) inside)
 
-      pub row-same : (k : ℕ) → e .place ≤ k + tableFacts file .depth → k < e .place + reach file → getD row k 0 ≡ getD (newInputs file e s) k 0
+      pub row-same : (k : ℕ) → e .place ≤ k + tableFacts file .depth → k < e .place + renewedCount file → getD row k 0 ≡ getD (newInputs file e s) k 0
       row-same k near below =
           ap (λ (r : List ℕ). getD r k 0) is
           ∙ part-same Plus file (changed e 0 (s .first)) (changed e 1 (s .second)) (length (s .sum)) passes (nothing-asked _ _) new-fit from end (omega arith) inside k (omega arith) (λ h. far k (omega arith) (omega (arith, length-changed e 0 (s .first))))
 
       -- the digits that were found
       module _ (found : ℕ) (first-outside : found ≡ firstFailing (λ k. rowAllowed file row (e .place + k)) 0 (d + 1)) where
-        at : found ≡ firstFailing (λ k. rowAllowed file row (e .place + k)) 0 (reach file)
+        at : found ≡ firstFailing (λ k. rowAllowed file row (e .place + k)) 0 (renewedCount file)
         at = first-outside ∙ ap (λ (n : ℕ). firstFailing (λ k. rowAllowed file row (e .place + k)) 0 (n + 1)) deep
 
         pub outside-found : found ≤ d → refused author 27 (e .place + found) ≡ renewOutcome file e s
         outside-found h =
-            renew-refused file e s (e .place + found) (check-refused file row (newInputs file e s) (e .place) (reach file) row-same found at (omega arith))
+            renew-refused file e s (e .place + found) (check-refused file row (newInputs file e s) (e .place) (renewedCount file) row-same found at (omega arith))
 
-        pub none-outside : d < found → outputCheck file (newInputs file e s) (e .place) (reach file) ≡ none
-        none-outside h = check-kept file row (newInputs file e s) (e .place) (reach file) row-same found at (omega arith)
+        pub none-outside : d < found → outputCheck file (newInputs file e s) (e .place) (renewedCount file) ≡ none
+        none-outside h = check-kept file row (newInputs file e s) (e .place) (renewedCount file) row-same found at (omega arith)
 
-        pub digits-found : (t : List ℕ) → d < found → take (d + 1) (overwrite t 0 (rowPart file row (e .place) found)) ≡ rowPart file (newInputs file e s) (e .place) (reach file)
+        pub reached : d < found → rowReach file row (e .place) found ≡ rowReach file (newInputs file e s) (e .place) (renewedCount file)
+        reached h = reach-found file row (newInputs file e s) (e .place) (renewedCount file) row-same found at (omega arith)
+
+        pub digits-found : (t : List ℕ) → d < found → take (d + 1) (overwrite t 0 (rowPart file row (e .place) found)) ≡ rowPart file (newInputs file e s) (e .place) (renewedCount file)
         digits-found t h =
-            ap (λ (n : ℕ). take (n + 1) (overwrite t 0 (rowPart file row (e .place) found))) deep ∙ part-found file row (newInputs file e s) (e .place) (reach file) row-same found at t (omega arith)
+            ap (λ (n : ℕ). take (n + 1) (overwrite t 0 (rowPart file row (e .place) found))) deep ∙ part-found file row (newInputs file e s) (e .place) (renewedCount file) row-same found at t (omega arith)
 
         pub digits-room : (t : List ℕ) → d < length t → length (overwrite t 0 (rowPart file row (e .place) found)) ≡ length t
-        digits-room t h = part-room file row (newInputs file e s) (e .place) (reach file) row-same found at t (omega arith)
+        digits-room t h = part-room file row (newInputs file e s) (e .place) (renewedCount file) row-same found at t (omega arith)

@@ -37,21 +37,21 @@ use Rattle.adder_rules.specs.Add.{rowPart, outputCheck}
 use Rattle.adder_rules.proofs.Accepted.{row-inputs, accepted-passes, digits-kept}
 use Rattle.edit_rules.specs.declared.EditedFacts.{EditedFacts}
 use Rattle.edit_rules.specs.Count.{failing, differing}
-use Rattle.edit_rules.specs.Edit.{newSum, written, count, editOutcome, editState}
-use Rattle.edit_rules.specs.State.{newInputs, State, reach}
-use Rattle.edit_rules.specs.Follows.{Step}
+use Rattle.edit_rules.specs.Edit.{newSum, written, count, renewFacts, editOutcome, editState}
+use Rattle.edit_rules.specs.State.{newInputs, State, renewedCount}
+use Rattle.edit_rules.specs.Follows.{stepFacts, Step}
 use Rattle.edit_rules.proofs.Count.{failing-zero, failing-add}
 use Rattle.edit_rules.proofs.Renewed.{part-long, renew-given, new-fit, part-fits}
 use Rattle.edit_rules.proofs.Stages.{rowsFound, askedFound, edit-refused, edit-passed}
 use Rattle.edit_rules.proofs.Demand.{refused-lent}
 
 -- the sum with its part renewed
-module _ (file : List ℕ) (e : Change) (s : State) (fits : e .place + reach file ≤ length (s .sum)) where
+module _ (file : List ℕ) (e : Change) (s : State) (fits : e .place + renewedCount file ≤ length (s .sum)) where
   abbrev part : List ℕ
-  part = rowPart file (newInputs file e s) (e .place) (reach file)
+  part = rowPart file (newInputs file e s) (e .place) (renewedCount file)
 
-  long : length part ≡ reach file
-  long = part-long file (newInputs file e s) (e .place) (reach file)
+  long : length part ≡ renewedCount file
+  long = part-long file (newInputs file e s) (e .place) (renewedCount file)
 
   pub sum-long : length (newSum file e s) ≡ length (s .sum)
   unfolding newSum
@@ -61,7 +61,7 @@ module _ (file : List ℕ) (e : Change) (s : State) (fits : e .place + reach fil
   unfolding newSum
   sum-below j h = overwrite-before (s .sum) part (e .place) (omega (arith, long)) j h
 
-  sum-above : (j : ℕ) → e .place + reach file ≤ j → getD (newSum file e s) j 0 ≡ getD (s .sum) j 0
+  sum-above : (j : ℕ) → e .place + renewedCount file ≤ j → getD (newSum file e s) j 0 ≡ getD (s .sum) j 0
   unfolding newSum
   sum-above j h =
       let at : j ≡ e .place + length part + (j - (e .place + length part)) = omega (arith, long) in
@@ -71,30 +71,30 @@ module _ (file : List ℕ) (e : Change) (s : State) (fits : e .place + reach fil
   sum-elsewhere j out =
       elim (decLt j (e .place)) [
         | yes h ↦ sum-below j h
-        | no h ↦ elim (decLt j (e .place + reach file)) [ yes l ↦ absurd (out (omega arith) (omega arith)) | no l ↦ sum-above j (omega arith) ]
+        | no h ↦ elim (decLt j (e .place + renewedCount file)) [ yes l ↦ absurd (out (omega arith) (omega arith)) | no l ↦ sum-above j (omega arith) ]
       ]
 
   -- the count is the one over the whole row
-  pub count-whole : (m : ℕ) → e .place + reach file ≤ m → count file e s ≡ differing (s .sum) (newSum file e s) 0 m
+  pub count-whole : (m : ℕ) → e .place + renewedCount file ≤ m → count file e s ≡ differing (s .sum) (newSum file e s) 0 m
   unfolding count
   count-whole m h =
       let p = e .place in
-      let behind : ℕ = m - (p + reach file) in
+      let behind : ℕ = m - (p + renewedCount file) in
       let test : ℕ → Bool = λ k. eqb (getD (s .sum) k 0) (getD (newSum file e s) k 0) in
-      let all : m ≡ p + (reach file + behind) = omega arith in
+      let all : m ≡ p + (renewedCount file + behind) = omega arith in
       let below : failing test 0 p ≡ 0 = failing-zero test 0 p (λ k l u. eq-eqb _ _ (sym (sum-below k (omega arith)))) in
-      let above : failing test (p + reach file) behind ≡ 0 = failing-zero test (p + reach file) behind (λ k l u. eq-eqb _ _ (sym (sum-above k l))) in
-      let split : failing test 0 (p + (reach file + behind)) ≡ failing test 0 p + failing test (0 + p) (reach file + behind) = failing-add test 0 p (reach file + behind) in
-      let rest : failing test p (reach file + behind) ≡ failing test p (reach file) + failing test (p + reach file) behind = failing-add test p (reach file) behind in
-      sym (ap (failing test 0) all ∙ split ∙ ap (λ (k : ℕ). failing test 0 p + failing test k (reach file + behind)) (zero-add p) ∙ omega (arith, below, above, rest))
+      let above : failing test (p + renewedCount file) behind ≡ 0 = failing-zero test (p + renewedCount file) behind (λ k l u. eq-eqb _ _ (sym (sum-above k l))) in
+      let split : failing test 0 (p + (renewedCount file + behind)) ≡ failing test 0 p + failing test (0 + p) (renewedCount file + behind) = failing-add test 0 p (renewedCount file + behind) in
+      let rest : failing test p (renewedCount file + behind) ≡ failing test p (renewedCount file) + failing test (p + renewedCount file) behind = failing-add test p (renewedCount file) behind in
+      sym (ap (failing test 0) all ∙ split ∙ ap (λ (k : ℕ). failing test 0 p + failing test k (renewedCount file + behind)) (zero-add p) ∙ omega (arith, below, above, rest))
 
 module _ (file : List ℕ) (accepted : checkOutcome file ≡ facts (checkFacts file)) (e : Change) (s : State)
     (fit : RowsFit (s .first) (s .second) (length (s .sum)) (digitCount file) (tableFacts file .depth)) where
   abbrev Fits : Type 0
   Fits = EditFits (e .row) (e .place) (e .digit) (length (s .first)) (digitCount file)
 
-  abbrev wholeCount : ℕ
-  wholeCount = differing (s .sum) (editState file e s .sum) 0 (length (s .first) + tableFacts file .depth)
+  abbrev whole : EditedFacts
+  whole = stepFacts file (length (s .first)) e s (editState file e s)
 
   passes : tableCheck file .number ≡ 0
   passes = accepted-passes file accepted
@@ -106,27 +106,28 @@ module _ (file : List ℕ) (accepted : checkOutcome file ≡ facts (checkFacts f
   fitting z = edit-fits (e .row) (e .place) (e .digit) (length (s .first)) (digitCount file) z
 
   -- a taken edit: no digit is outside the alphabet
-  given : Fits → editOutcome file e s ≡ facts (record { count = count file e s })
+  given : Fits → editOutcome file e s ≡ facts (renewFacts file e s)
   given asked =
-      let kept : outputCheck file (newInputs file e s) (e .place) (reach file) ≡ none = digits-kept file accepted (newInputs file e s) (row-inputs Plus file (changed e 0 (s .first)) (changed e 1 (s .second)) (length (s .sum)) passes (nothing-asked _ _) (new-fit file e s passes fit asked)) (e .place) (reach file) in
+      let kept : outputCheck file (newInputs file e s) (e .place) (renewedCount file) ≡ none = digits-kept file accepted (newInputs file e s) (row-inputs Plus file (changed e 0 (s .first)) (changed e 1 (s .second)) (length (s .sum)) passes (nothing-asked _ _) (new-fit file e s passes fit asked)) (e .place) (renewedCount file) in
       let known : askedFound file e s .number ≡ 0 = no-number _ (edit-passes (e .row) (e .place) (e .digit) (length (s .first)) (digitCount file) asked) in
-      sym (edit-passed file e s passes rows-none known) ∙ sym (renew-given file e s (count file e s) refl kept)
+      sym (edit-passed file e s passes rows-none known) ∙ sym (renew-given file e s (renewFacts file e s) refl kept)
 
   pub taken-state : Fits → editState file e s ≡ written file e s
   unfolding editState
-  taken-state asked = sym (exit-written (editOutcome file e s) (record { count = count file e s }) s (written file e s) (sym (given asked)))
+  taken-state asked = sym (exit-written (editOutcome file e s) (renewFacts file e s) s (written file e s) (sym (given asked)))
 
-  count-given : Fits → count file e s ≡ wholeCount
-  count-given asked =
-      count-whole file e s (part-fits file e s passes fit asked) (length (s .first) + tableFacts file .depth) (omega (arith, asked .in-row))
-      ∙ ap (λ (t : State). differing (s .sum) (t .sum) 0 (length (s .first) + tableFacts file .depth)) (sym (taken-state asked))
+  facts-given : Fits → renewFacts file e s ≡ whole
+  facts-given asked =
+      let n : ℕ = length (s .first) in
+      (λ i. record { count = count-whole file e s (part-fits file e s passes fit asked) (n + tableFacts file .depth) (omega (arith, asked .in-row)) i; reach = renewFacts file e s .reach })
+      ∙ ap (stepFacts file n e s) (sym (taken-state asked))
 
-  -- 24 to 26, and else the count
-  answer-is : editOutcome file e s ≡ unless editor (askedFound file e s) (facts (record { count = wholeCount }))
+  -- 24 to 26, and else the facts
+  answer-is : editOutcome file e s ≡ unless editor (askedFound file e s) (facts whole)
   answer-is =
       elim (ℕ-discrete (askedFound file e s .number) 0) [
-        | yes z ↦ given (fitting z) ∙ (λ i. facts (record { count = count-given (fitting z) i })) ∙ sym (unless-none editor (askedFound file e s) (facts (record { count = wholeCount })) z)
-        | no some ↦ sym (edit-refused file e s passes rows-none (askedFound file e s) refl some) ∙ sym (unless-found editor (askedFound file e s) (facts (record { count = wholeCount })) some)
+        | yes z ↦ given (fitting z) ∙ ap facts (facts-given (fitting z)) ∙ sym (unless-none editor (askedFound file e s) (facts whole) z)
+        | no some ↦ sym (edit-refused file e s passes rows-none (askedFound file e s) refl some) ∙ sym (unless-found editor (askedFound file e s) (facts whole) some)
       ]
 
   -- any other leaves all
@@ -149,12 +150,9 @@ module _ (file : List ℕ) (accepted : checkOutcome file ≡ facts (checkFacts f
   step =
       record {
         answers = subst (Answers (stage editor (editRules (e .row) (e .place) (e .digit) (length (s .first)) (digitCount file)) ∷ []) whole) (sym answer-is) (told-answers _ whole _ (told-unless editor _ _ whole _ _ (edit-decided (e .row) (e .place) (e .digit) (length (s .first)) (digitCount file)) (λ _. told-end whole)));
-        taken = (λ is. fitting (unless-given editor (askedFound file e s) (facts whole) whole (sym answer-is ∙ is) .0), λ asked. given asked ∙ (λ i. facts (record { count = count-given asked i })));
+        taken = (λ is. fitting (unless-given editor (askedFound file e s) (facts whole) whole (sym answer-is ∙ is) .0), λ asked. given asked ∙ ap facts (facts-given asked));
         stored = λ asked. (ap (λ (t : State). t .first) (taken-state asked), ap (λ (t : State). t .second) (taken-state asked));
         elsewhere = λ j out. either-way (λ t. getD (t .sum) j 0 ≡ getD (s .sum) j 0) (λ asked. sum-elsewhere file e s (part-fits file e s passes fit asked) j out) refl;
         long = either-way (λ t. length (t .sum) ≡ length (s .sum)) (λ asked. sum-long file e s (part-fits file e s passes fit asked)) refl;
         refused-lent = λ g m p is. refused-lent file e s g m p is;
       }
-    where
-      whole : EditedFacts
-      whole = record { count = wholeCount }

@@ -10,7 +10,7 @@ use Rattle.row_rules.specs.declared.Change.{Change}
 use Rattle.row_rules.specs.Broken.{rowRules, editRules}
 use Rattle.adder_rules.specs.Sum.{digitCount}
 use Rattle.adder_rules.specs.Broken.{outputRules}
-use Rattle.edit_rules.specs.State.{newInputs, State, reach}
+use Rattle.edit_rules.specs.State.{newInputs, State, renewedCount}
 
 -- 1 to 13, 20 to 23, 24 to 26, and "in the edit over p to p + h": 27
 abbrev pub editStages : List ℕ → Change → State → List Stage
@@ -18,5 +18,5 @@ editStages file e s =
     stage author (tableRules file)
     ∷ stage rows (rowRules (s .first) (s .second) (length (s .sum)) (digitCount file) (tableFacts file .depth))
     ∷ stage editor (editRules (e .row) (e .place) (e .digit) (length (s .first)) (digitCount file))
-    ∷ stage author (outputRules file (newInputs file e s) (e .place) (reach file))
+    ∷ stage author (outputRules file (newInputs file e s) (e .place) (renewedCount file))
     ∷ []

@@ -11,28 +11,32 @@ use Rattle.reader_rules.specs.Check.{tableCheck}
 use Rattle.row_rules.specs.declared.Change.{Change}
 use Rattle.row_rules.specs.Changed.{changed}
 use Rattle.row_rules.specs.Check.{rowCheck, editCheck}
-use Rattle.adder_rules.specs.Sum.{digitCount}
+use Rattle.adder_rules.specs.Sum.{digitCount, rowReach}
 use Rattle.adder_rules.specs.Add.{rowPart, outputCheck}
 use Rattle.edit_rules.specs.declared.EditedFacts.{EditedFacts}
-use Rattle.edit_rules.specs.State.{State, state, reach, newInputs}
+use Rattle.edit_rules.specs.State.{State, state, renewedCount, newInputs}
 use Rattle.edit_rules.specs.Count.{differing}
 
 -- an edit is a row number, a place p and a new alphabet index
 module _ (file : List ℕ) (e : Change) (s : State) where
   -- "The digit is stored and sum places p to p + h become those of a whole addition of the new rows"
   unfoldable pub newSum : List ℕ
-  newSum = overwrite (s .sum) (e .place) (rowPart file (newInputs file e s) (e .place) (reach file))
+  newSum = overwrite (s .sum) (e .place) (rowPart file (newInputs file e s) (e .place) (renewedCount file))
 
   abbrev pub written : State
   written = state (changed e 0 (s .first)) (changed e 1 (s .second)) newSum
 
   -- "the count of sum bytes in p to p + h that differ from before"
   unfoldable pub count : ℕ
-  count = differing (s .sum) newSum (e .place) (reach file)
+  count = differing (s .sum) newSum (e .place) (renewedCount file)
 
-  -- 27 over p to p + h, then the count
+  -- the count, and the longest word looked up at places p − 1 to p + h, −1 left out
+  abbrev pub renewFacts : EditedFacts
+  renewFacts = record { count = count; reach = rowReach file (newInputs file e s) (e .place) (renewedCount file) }
+
+  -- 27 over p to p + h, then the facts
   unfoldable pub renewOutcome : Outcome EditedFacts
-  renewOutcome = unless author (outputCheck file (newInputs file e s) (e .place) (reach file)) (facts (record { count = count }))
+  renewOutcome = unless author (outputCheck file (newInputs file e s) (e .place) (renewedCount file)) (facts renewFacts)
 
   unfoldable pub renewState : State
   renewState = atExit renewOutcome s written

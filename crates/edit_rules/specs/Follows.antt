@@ -17,12 +17,12 @@ use Rattle.row_rules.specs.Broken.{editRules}
 use Rattle.row_rules.specs.Fit.{EditFits}
 use Rattle.ring.specs.declared.Operation.the-variants.{Plus}
 use Rattle.adder_rules.specs.Combined.{DigitsCombined}
-use Rattle.adder_rules.specs.Sum.{digitCount, placeCount, rowDigit}
+use Rattle.adder_rules.specs.Sum.{digitCount, placeCount, rowDigit, rowReach}
 use Rattle.adder_rules.specs.Input.{inputRow, rowIndex}
 use Rattle.adder_rules.specs.Calls.{addOutcome, addSum}
 use Rattle.edit_rules.specs.declared.EditedFacts.{EditedFacts}
 use Rattle.edit_rules.specs.Count.{differing}
-use Rattle.edit_rules.specs.State.{State}
+use Rattle.edit_rules.specs.State.{State, renewedCount}
 use Rattle.edit_rules.specs.Run.{run}
 
 -- two rows of n digits with the digits of the edits taken stored in turn. Taken are "exactly those with row number 0 or 1, p below n and an
@@ -45,7 +45,7 @@ pub record Follows (file : List ℕ) (s : State) (es : List Change) (now : State
   pub index : (j : ℕ) → j < placeCount file (s .first) → getD (now .sum) j 0 ≡ rowIndex file (inputRow Plus file (now .first) (now .second)) j
   pub digit : (j : ℕ) → j < placeCount file (s .first) → recordAt (alphabetPart file) (getD (now .sum) j 0) ≡ rowDigit file (inputRow Plus file (now .first) (now .second)) j
   -- which is what a whole addition writes
-  pub adds : addOutcome file (now .first) (now .second) (length (s .sum)) ≡ facts (record { places = placeCount file (s .first) })
+  pub adds : addOutcome file (now .first) (now .second) (length (s .sum)) ≡ facts (record { places = placeCount file (s .first); reach = rowReach file (inputRow Plus file (now .first) (now .second)) 0 (placeCount file (s .first)) })
   pub whole : now .sum ≡ addSum file (now .first) (now .second) (s .sum)
   -- the bytes beyond are the buffer's own
   pub further : (j : ℕ) → placeCount file (s .first) ≤ j → getD (now .sum) j 0 ≡ getD (s .sum) j 0
@@ -53,12 +53,17 @@ pub record Follows (file : List ℕ) (s : State) (es : List Change) (now : State
   -- the value of the sum row is the sum of the rows' values
   pub value-is : valueOf file (take (placeCount file (s .first)) (now .sum)) ≡ operationsOf file .sum (valueOf file (now .first)) (valueOf file (now .second))
 
+-- the number of sum digits that an edit of rows of n digits changed, over the whole row, and the longest word looked up in the rows after it
+-- at places p − 1 to p + h, −1 left out
+abbrev pub stepFacts : List ℕ → ℕ → Change → State → State → EditedFacts
+stepFacts file n e before after = record { count = differing (before .sum) (after .sum) 0 (n + tableFacts file .depth); reach = rowReach file (inputRow Plus file (after .first) (after .second)) (e .place) (renewedCount file) }
+
 -- one edit of rows of n digits: the buffers before and after it, and its answer
 pub record Step (file : List ℕ) (n : ℕ) (e : Change) (before after : State) (answer : Outcome EditedFacts) : Type 0 where
-  -- 24, 25, 26, the first that holds, and else the number of sum digits that it changed, over the whole row
-  pub answers : Answers (stage editor (editRules (e .row) (e .place) (e .digit) n (digitCount file)) ∷ []) (record { count = differing (before .sum) (after .sum) 0 (n + tableFacts file .depth) }) answer
+  -- 24, 25, 26, the first that holds, and else its facts
+  pub answers : Answers (stage editor (editRules (e .row) (e .place) (e .digit) n (digitCount file)) ∷ []) (stepFacts file n e before after) answer
   -- it is taken exactly so
-  pub taken : (answer ≡ facts (record { count = differing (before .sum) (after .sum) 0 (n + tableFacts file .depth) })) ↔ EditFits (e .row) (e .place) (e .digit) n (digitCount file)
+  pub taken : (answer ≡ facts (stepFacts file n e before after)) ↔ EditFits (e .row) (e .place) (e .digit) n (digitCount file)
   -- a taken edit changed nothing but its place in its row and sum places p to p + h
   pub stored : EditFits (e .row) (e .place) (e .digit) n (digitCount file) → (after .first ≡ changed e 0 (before .first)) × (after .second ≡ changed e 1 (before .second))
   pub elsewhere : (j : ℕ) → (e .place ≤ j → j ≤ e .place + tableFacts file .depth → ⊥) → getD (after .sum) j 0 ≡ getD (before .sum) j 0
@@ -66,8 +71,12 @@ pub record Step (file : List ℕ) (n : ℕ) (e : Change) (before after : State) 
   -- a refused edit changed nothing
   pub refused-lent : (g : Group) (m p : ℕ) → answer ≡ refused g m p → after ≡ before
 
+-- what stands for an answer that isn't there
+abbrev pub noFacts : EditedFacts
+noFacts = record { count = 0; reach = 0 }
+
 -- the list as a whole
 pub record ListFollows (file : List ℕ) (s : State) (es : List Change) : Type 0 where
   pub after : (k : ℕ) → k ≤ length es → Follows file s (take k es) (run file s (take k es) .buffers)
-  pub each : (k : ℕ) → k < length es → Step file (length (s .first)) (getD es k noChange) (run file s (take k es) .buffers) (run file s (take (k + 1) es) .buffers) (getD (run file s es .answers) k (facts (record { count = 0 })))
+  pub each : (k : ℕ) → k < length es → Step file (length (s .first)) (getD es k noChange) (run file s (take k es) .buffers) (run file s (take (k + 1) es) .buffers) (getD (run file s es .answers) k (facts noFacts))
   pub all-answered : length (run file s es .answers) ≡ length es

@@ -17,8 +17,8 @@ abbrev pub state : List ℕ → List ℕ → List ℕ → State
 state first second sum = record { first = first; second = second; sum = sum }
 
 -- how many places there are from p to p + h
-abbrev pub reach : List ℕ → ℕ
-reach file = tableFacts file .depth + 1
+abbrev pub renewedCount : List ℕ → ℕ
+renewedCount file = tableFacts file .depth + 1
 
 -- the input digits of "the new rows": those with the edit's digit stored
 abbrev pub newInputs : List ℕ → Change → State → List ℕ

@@ -1,4 +1,4 @@
--- Laws of a leaf's word, its weight and the depth, for any number and any bytes.
+-- Laws of a leaf's word, its length, its weight and the depth, for any number and any bytes.
 use mathlib.Core.Path.{_≡_, ap, _∙_}
 use mathlib.Core.List.{List, []}
 use Prim.Native.Nat.{ℕ, _+_, _-_, _<_, _≤_, max}
@@ -11,7 +11,7 @@ use Rattle.ring.specs.Element.{zeros}
 use Rattle.layout_rules.specs.Section.{degree}
 use Rattle.numeration.specs.LeafOf.{largest, depth}
 use Rattle.leaf_rules.specs.Leaf.{leafCount, wordStart, wordLength, wordEnd, weightOf, codeOf}
-use Rattle.leaf_rules.specs.Given.{wordGiven, weightGiven}
+use Rattle.leaf_rules.specs.Given.{wordGiven, lengthGiven, weightGiven}
 
 module _ (leaves words : List ℕ) (k : ℕ) where
   pub word-missing : leafCount leaves ≤ k → [] ≡ wordGiven leaves words k
@@ -38,6 +38,14 @@ module _ (leaves words : List ℕ) (k : ℕ) where
   word-digit h l i s = rw (← word-there h l) (getD-take (wordEnd leaves k - wordStart leaves k) _ i 0 (omega arith) ∙ getD-drop _ words i 0)
 
 module _ (leaves : List ℕ) (k : ℕ) where
+  pub length-there : k < leafCount leaves → wordLength leaves k ≡ lengthGiven leaves k
+  unfolding lengthGiven
+  length-there h = rw (lt-ltb _ _ h, lengthGiven)
+
+  pub length-missing : leafCount leaves ≤ k → 0 ≡ lengthGiven leaves k
+  unfolding lengthGiven
+  length-missing h = rw (le-ltb _ _ h, lengthGiven)
+
   pub weight-there : k < leafCount leaves → weightOf leaves k ≡ weightGiven leaves k
   unfolding weightGiven
   weight-there h = rw (lt-ltb _ _ h, weightGiven)

@@ -7,7 +7,7 @@ use lib.IntN.{ℤ}
 use lib.Dec.{ltb, leb}
 use Rattle.ring.specs.Element.{zeros}
 use Rattle.layout_rules.specs.Section.{degree}
-use Rattle.leaf_rules.specs.Leaf.{leafCount, wordStart, wordEnd, weightOf}
+use Rattle.leaf_rules.specs.Leaf.{leafCount, wordStart, wordLength, wordEnd, weightOf}
 
 -- "From the number, one helper gives back its word as that part of the table itself": for any number and any bytes, nothing where
 -- there is no such leaf or its record points outside section 4
@@ -17,6 +17,10 @@ wordGiven leaves words k =
       | true ↦ take (wordEnd leaves k - wordStart leaves k) (drop (wordStart leaves k) words)
       | false ↦ []
     ]
+
+-- "A leaf look-up is to report its word's length too" (document 02, job 7): 0 where there is no such leaf
+unfoldable pub lengthGiven : List ℕ → ℕ → ℕ
+lengthGiven leaves k = elim (ltb k (leafCount leaves)) [ true ↦ wordLength leaves k | false ↦ 0 ]
 
 -- "and another gives its weight": zero where there is no such leaf
 unfoldable pub weightGiven : List ℕ → ℕ → List ℤ

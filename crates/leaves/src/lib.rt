@@ -6,7 +6,7 @@ ghost use lib.ListN.{length};
 ghost use Rattle.ring.specs.Tests.{Within};
 ghost use Rattle.numeration.specs.LeafOf as depths;
 ghost use Rattle.leaf_rules.specs.Leaf.{leafCount, wordStart, wordLength, codeOf};
-ghost use Rattle.leaf_rules.specs.Given.{wordGiven, weightGiven};
+ghost use Rattle.leaf_rules.specs.Given.{wordGiven, lengthGiven, weightGiven};
 
 // The bytes of a leaf: offset and length of its word, then its weight.
 const LEAF: usize = 8;
@@ -47,6 +47,16 @@ pub fn word<'a>(leaves: &[u8], words: &'a [u8], leaf: usize) -> &'a [u8]
         return &words[0..0];
     }
     &words[start..end]
+}
+
+// The length of a leaf's word: 0 where there is no such leaf.
+pub fn length(leaves: &[u8], leaf: usize) -> usize
+    ensures { λ r. ⌜ r ≡ lengthGiven (now (leaves .entry)) leaf ⌝ }
+{
+    if leaf < leaf_count(leaves) {
+        return word_length(leaves, leaf);
+    }
+    0
 }
 
 // A leaf's weight: zero where there is no such leaf.

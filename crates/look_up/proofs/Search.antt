@@ -9,6 +9,8 @@ use Rattle.lists.proofs.Test.{clash}
 use Rattle.numeration.specs.Code.{Code, Lower, Precedes, Begins}
 use Rattle.numeration.proofs.Agreement.{lower-sound, lower-complete}
 use Rattle.numeration.proofs.Leaves.{precedes-all, ordered-separate, leafOf-unique}
+use Rattle.leaf_rules.specs.Leaf.{codeOf}
+use Rattle.leaf_rules.specs.Given.{lengthGiven}
 use Rattle.leaf_rules.specs.Window.{digits, Sorted, LookedUp}
 use Rattle.look_up.specs.Search.{above, nextLow, Between}
 
@@ -120,3 +122,7 @@ module _ {A : Type 0} (c : Code A) (window : List ℕ) where
         a-leaf = λ _. leaf;
         the-leaf = λ s w. sym (leafOf-unique c (ordered-separate c (s .ordered)) (digits window) k leaf b);
       }
+
+-- the leaf looked up, given back with its length
+pub with-length-found : (leaves words window : List ℕ) (leaf r size : ℕ) → LookedUp (codeOf leaves words) window leaf → r ≡ leaf → size ≡ lengthGiven leaves leaf → LookedUp (codeOf leaves words) window r × (size ≡ lengthGiven leaves r)
+with-length-found leaves words window leaf r size found same e = (subst (LookedUp (codeOf leaves words) window) (sym same) found, e ∙ ap (lengthGiven leaves) (sym same))

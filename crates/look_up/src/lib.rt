@@ -1,4 +1,4 @@
-// The look-up: the leaf whose word begins a window.
+// The look-up: the leaf whose word begins a window, and the length of that word.
 ghost use mathlib.Core.Path.{_≡_};
 ghost use Prim.Native.Nat.{_+_, _-_, _<_, _≤_};
 ghost use mathlib.Core.Bool.{true};
@@ -8,11 +8,18 @@ ghost use Rattle.lists.specs.Scan.{firstFailing};
 ghost use Rattle.numeration.specs.Code.{Begins};
 ghost use Rattle.numeration.specs.Prefix as prefixes;
 ghost use Rattle.leaf_rules.specs.Leaf.{leafCount, codeOf};
+ghost use Rattle.leaf_rules.specs.Given.{lengthGiven};
 ghost use Rattle.leaf_rules.specs.Window as windows;
 ghost use Rattle.look_up.specs.Search as searches;
 
 // The most digits of a word, and the digits of a window.
 const LONGEST: usize = 8;
+
+// What the look-up answers: the leaf's number, and its word's length.
+pub struct Found {
+    pub leaf: usize,
+    pub length: usize,
+}
 
 // The first of n places at which the bytes from a on differ from the other bytes from b on, or n.
 fn first_difference(bytes: &[u8], a: usize, other: &[u8], b: usize, n: usize) -> usize
@@ -95,11 +102,24 @@ fn search_part(leaves: &[u8], words: &[u8], window: &[u8; 8], from: usize, count
     low
 }
 
-// The number of the leaf whose word begins the window.
-pub fn look_up(leaves: &[u8], words: &[u8], window: [u8; 8]) -> usize
-    ensures { λ r. ⌜ windows.LookedUp (codeOf (now (leaves .entry)) (now (words .entry))) window r ⌝ }
+// A leaf with the length that its record gives its word.
+fn with_length(leaves: &[u8], leaf: usize) -> Found
+    ensures leaf { λ r. ⌜ r .leaf ≡ leaf ⌝ }
+    ensures length { λ r. ⌜ r .length ≡ lengthGiven (now (leaves .entry)) leaf ⌝ }
 {
-    search_part(leaves, words, &window, 0, leaves::leaf_count(leaves))
+    Found {
+        leaf,
+        length: leaves::length(leaves, leaf),
+    }
+}
+
+// The leaf whose word begins the window.
+pub fn look_up(leaves: &[u8], words: &[u8], window: [u8; 8]) -> Found
+    ensures leaf { λ r. ⌜ windows.LookedUp (codeOf (now (leaves .entry)) (now (words .entry))) window (r .leaf) ⌝ }
+    ensures length { λ r. ⌜ r .length ≡ lengthGiven (now (leaves .entry)) (r .leaf) ⌝ }
+{
+    let leaf = search_part(leaves, words, &window, 0, leaves::leaf_count(leaves));
+    with_length(leaves, leaf)
 }
 
 // Whether the leaf that begins the window must be among those from low up to high.
@@ -129,11 +149,13 @@ pub fn look_up_within(
     window: [u8; 8],
     low: usize,
     high: usize,
-) -> usize
-    ensures { λ r. ⌜ windows.LookedUp (codeOf (now (leaves .entry)) (now (words .entry))) window r ⌝ }
+) -> Found
+    ensures leaf { λ r. ⌜ windows.LookedUp (codeOf (now (leaves .entry)) (now (words .entry))) window (r .leaf) ⌝ }
+    ensures length { λ r. ⌜ r .length ≡ lengthGiven (now (leaves .entry)) (r .leaf) ⌝ }
 {
     if is_between(leaves, words, &window, low, high) {
-        return search_part(leaves, words, &window, low, high - low);
+        let leaf = search_part(leaves, words, &window, low, high - low);
+        return with_length(leaves, leaf);
     }
     look_up(leaves, words, window)
 }
@@ -149,12 +171,13 @@ fn begins(leaves: &[u8], words: &[u8], window: &[u8; 8], leaf: usize) -> bool
 }
 
 // The look-up with a guess: the search is only made where the guessed leaf doesn't begin the window.
-pub fn look_up_from(leaves: &[u8], words: &[u8], window: [u8; 8], guess: usize) -> usize
-    ensures { λ r. ⌜ windows.LookedUp (codeOf (now (leaves .entry)) (now (words .entry))) window r ⌝ }
+pub fn look_up_from(leaves: &[u8], words: &[u8], window: [u8; 8], guess: usize) -> Found
+    ensures leaf { λ r. ⌜ windows.LookedUp (codeOf (now (leaves .entry)) (now (words .entry))) window (r .leaf) ⌝ }
+    ensures length { λ r. ⌜ r .length ≡ lengthGiven (now (leaves .entry)) (r .leaf) ⌝ }
 {
     if guess < leaves::leaf_count(leaves) {
         if begins(leaves, words, &window, guess) {
-            return guess;
+            return with_length(leaves, guess);
         }
     }
     look_up(leaves, words, window)

@@ -22,6 +22,8 @@ use Rattle.digit_rules.specs.Record.{elementAt}
 use Rattle.numeration.specs.LeafOf.{agree, largest, begins, leafOf, depth}
 use Rattle.numeration.specs.Prefix.{lower, precedes}
 use Rattle.numeration.specs.Conversion.{window, outDigit, weightInto, weightAt, convert}
+use Rattle.numeration.specs.Reach.{lengthAt}
+use Rattle.numeration.specs.ReachOf.{lengthBelow, reachOf}
 use Rattle.numeration.specs.Laws.{convertRow}
 use Rattle.numeration.specs.Elements.{elements}
 use Rattle.numeration.specs.Pairs.{tail, pairDigit}
@@ -48,5 +50,5 @@ use Rattle.runner_rules.specs.Run.{after, runOutcome, runAll}
 use Rattle.marked.specs.Exercises.{answer, ternWithout, table as exercises, AllRight}
 
 pub all-right : AllRight exercises
-unfolding overwrite firstFailing every span baseTrace baseNorm expanding discriminant squareBelow perfectSquare plus negative minus scale timesOmega product unit same dot times columns matrixOf trace alternating without determinant judge _then_ inTurn unless sizeAllowed expectedStart pairAllowed directoryCheck lengthAllowed lengthCheck numberPlace numberCount numberAllowed limitCheckIn limitCheckOf limitCheck unsignedAt toSigned omegaOf betaOf baseMatrix discriminantAllowed expandingBase baseCheck recordAllowed alphabetCheck pairIndex pairListed pairsListed allPairsListed inputsAllowed inputCheck digitCheck operationCheck elementAt indexIn agree lower largest begins leafOf depth precedes window outDigit weightInto weightAt convert convertRow elements tail fits pairDigitAt pairString pairRow pairDigit pairPasses upperPasses lowestBadUpper expectedWordStart leafAllowed placeCheck wordIndexCheck orderCheck coverCheck zeroCheck leafCheck runEnd everyRun covered wordGiven weightGiven layoutCheck digitCheckOf leafCheckOf tableCheck partFacts tableFacts readOutcome pairCheckOf checkFacts checkOutcome inAlphabet badLower badUpper pairCheck badPair unsigned16 signed16 joined record4 leafRecords directory sections fileOf ternInputs ternWeight ternLeaves ternFile binInputs binWeight2 binWeight1 binLeavesOf binLeaves binFile changed lengthsAllowed indexAllowed indexCheck roomAllowed rowCheck oneRowCheck editCheck partRow indexAt inputRow rowPart outputCheck resultRow digitsOutcome askedOutcome resultOutcome atExit resultIn tally failing newSum count renewOutcome editOutcome editState editAll editAnswers run answer ternWithout exercises editList after runOutcome runAll
-all-right = (refl, (refl, (refl, (refl, (refl, (refl, (refl, (refl, (refl, (refl, (refl, (refl, (refl, (refl, tt))))))))))))))
+unfolding overwrite firstFailing every span baseTrace baseNorm expanding discriminant squareBelow perfectSquare plus negative minus scale timesOmega product unit same dot times columns matrixOf trace alternating without determinant judge _then_ inTurn unless sizeAllowed expectedStart pairAllowed directoryCheck lengthAllowed lengthCheck numberPlace numberCount numberAllowed limitCheckIn limitCheckOf limitCheck unsignedAt toSigned omegaOf betaOf baseMatrix discriminantAllowed expandingBase baseCheck recordAllowed alphabetCheck pairIndex pairListed pairsListed allPairsListed inputsAllowed inputCheck digitCheck operationCheck elementAt indexIn agree lower largest begins leafOf depth precedes window outDigit weightInto weightAt convert lengthAt lengthBelow reachOf convertRow elements tail fits pairDigitAt pairString pairRow pairDigit pairPasses upperPasses lowestBadUpper expectedWordStart leafAllowed placeCheck wordIndexCheck orderCheck coverCheck zeroCheck leafCheck runEnd everyRun covered wordGiven weightGiven layoutCheck digitCheckOf leafCheckOf tableCheck partFacts tableFacts readOutcome pairCheckOf checkFacts checkOutcome inAlphabet badLower badUpper pairCheck badPair unsigned16 signed16 joined record4 leafRecords directory sections fileOf ternInputs ternWeight ternLeaves ternFile binInputs binWeight2 binWeight1 binLeavesOf binLeaves binFile changed lengthsAllowed indexAllowed indexCheck roomAllowed rowCheck oneRowCheck editCheck partRow indexAt inputRow rowPart outputCheck resultRow digitsOutcome askedOutcome resultOutcome atExit resultIn tally failing newSum count renewOutcome editOutcome editState editAll editAnswers run answer ternWithout exercises editList after runOutcome runAll
+all-right = (refl, (refl, (refl, (refl, (refl, (refl, (refl, (refl, (refl, (refl, (refl, (refl, (refl, (refl, (refl, tt)))))))))))))))

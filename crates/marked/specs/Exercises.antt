@@ -81,18 +81,24 @@ table =
     ∷ record { exercise = expands (pos 0) (pos 2) (pos 0) (pos 1); expected = verdict true }
     ∷ record { exercise = expands (pos 0) (pos 2) (pos 1) (pos 1); expected = verdict false }
     -- M7 to M11, M8 after its addition: the index of a digit that isn't negative is its value. One byte more than n + h is lent; it stays.
-    ∷ record { exercise = adds ternFile (2 ∷ 2 ∷ []) (1 ∷ 2 ∷ []) (9 ∷ 9 ∷ 9 ∷ 9 ∷ []); expected = summed (facts (record { places = 3 })) (0 ∷ 2 ∷ 1 ∷ 9 ∷ []) }
+    ∷ record { exercise = adds ternFile (2 ∷ 2 ∷ []) (1 ∷ 2 ∷ []) (9 ∷ 9 ∷ 9 ∷ 9 ∷ []); expected = summed (facts (record { places = 3; reach = 1 })) (0 ∷ 2 ∷ 1 ∷ 9 ∷ []) }
     -- M8: −2 has index 4, −1 has index 3
-    ∷ record { exercise = runs ternFile (2 ∷ 2 ∷ []) (1 ∷ 2 ∷ []) (9 ∷ 9 ∷ 9 ∷ 9 ∷ []) (record { row = 0; place = 0; digit = 4 } ∷ []); expected = ran (state (4 ∷ 2 ∷ []) (1 ∷ 2 ∷ []) (3 ∷ 1 ∷ 1 ∷ 9 ∷ [])) (facts (record { count = 2 }) ∷ []) }
+    ∷ record { exercise = runs ternFile (2 ∷ 2 ∷ []) (1 ∷ 2 ∷ []) (9 ∷ 9 ∷ 9 ∷ 9 ∷ []) (record { row = 0; place = 0; digit = 4 } ∷ []); expected = ran (state (4 ∷ 2 ∷ []) (1 ∷ 2 ∷ []) (3 ∷ 1 ∷ 1 ∷ 9 ∷ [])) (facts (record { count = 2; reach = 1 }) ∷ []) }
     -- M7 and M8 by the runner, between an edit with row number 2 and one at place 5: three are asked for, a fourth has no digit
     ∷ record {
       exercise = lists ternFile (state (2 ∷ 2 ∷ []) (1 ∷ 2 ∷ []) (9 ∷ 9 ∷ 9 ∷ 9 ∷ [])) (2 ∷ 0 ∷ 1 ∷ 0 ∷ []) (0 ∷ 0 ∷ 5 ∷ 1 ∷ []) (0 ∷ 4 ∷ 1 ∷ []) (7 ∷ 7 ∷ 7 ∷ 7 ∷ []) (7 ∷ 7 ∷ 7 ∷ 7 ∷ []) (7 ∷ 7 ∷ 7 ∷ 7 ∷ []);
       expected = listed (facts (record { edits = 3 })) (state (4 ∷ 2 ∷ []) (1 ∷ 2 ∷ []) (3 ∷ 1 ∷ 1 ∷ 9 ∷ [])) (3 ∷ 0 ∷ 3 ∷ 7 ∷ []) (24 ∷ 0 ∷ 25 ∷ 7 ∷ []) (0 ∷ 2 ∷ 0 ∷ 7 ∷ []);
     }
-    ∷ record { exercise = adds binFile (1 ∷ 1 ∷ []) (1 ∷ 0 ∷ []) (9 ∷ 9 ∷ 9 ∷ 9 ∷ 9 ∷ []); expected = summed (facts (record { places = 4 })) (0 ∷ 0 ∷ 1 ∷ 0 ∷ 9 ∷ []) }
-    ∷ record { exercise = adds binFile (0 ∷ 1 ∷ []) (0 ∷ 0 ∷ []) (9 ∷ 9 ∷ 9 ∷ 9 ∷ 9 ∷ []); expected = summed (facts (record { places = 4 })) (0 ∷ 1 ∷ 0 ∷ 0 ∷ 9 ∷ []) }
-    ∷ record { exercise = adds ternFile [] [] (9 ∷ 9 ∷ []); expected = summed (facts (record { places = 1 })) (0 ∷ 9 ∷ []) }
-    ∷ record { exercise = adds binFile [] [] (9 ∷ 9 ∷ 9 ∷ []); expected = summed (facts (record { places = 2 })) (0 ∷ 0 ∷ 9 ∷ []) }
+    ∷ record { exercise = adds binFile (1 ∷ 1 ∷ []) (1 ∷ 0 ∷ []) (9 ∷ 9 ∷ 9 ∷ 9 ∷ 9 ∷ []); expected = summed (facts (record { places = 4; reach = 2 })) (0 ∷ 0 ∷ 1 ∷ 0 ∷ 9 ∷ []) }
+    ∷ record { exercise = adds binFile (0 ∷ 1 ∷ []) (0 ∷ 0 ∷ []) (9 ∷ 9 ∷ 9 ∷ 9 ∷ 9 ∷ []); expected = summed (facts (record { places = 4; reach = 2 })) (0 ∷ 1 ∷ 0 ∷ 0 ∷ 9 ∷ []) }
+    ∷ record { exercise = adds ternFile [] [] (9 ∷ 9 ∷ []); expected = summed (facts (record { places = 1; reach = 1 })) (0 ∷ 9 ∷ []) }
+    ∷ record { exercise = adds binFile [] [] (9 ∷ 9 ∷ 9 ∷ []); expected = summed (facts (record { places = 2; reach = 1 })) (0 ∷ 0 ∷ 9 ∷ []) }
+    -- the reach: in BIN the words of 1 and −1 have two digits, the others one. The edit at place 1 looks up place 0, where a 1 stands; that at
+    -- place 2 doesn't; that at place 0 has the 1 no more.
+    ∷ record {
+      exercise = runs binFile (1 ∷ 0 ∷ 0 ∷ []) (0 ∷ 1 ∷ 0 ∷ []) (9 ∷ 9 ∷ 9 ∷ 9 ∷ 9 ∷ []) (record { row = 0; place = 1; digit = 1 } ∷ record { row = 0; place = 2; digit = 0 } ∷ record { row = 0; place = 0; digit = 0 } ∷ []);
+      expected = ran (state (0 ∷ 1 ∷ 0 ∷ []) (0 ∷ 1 ∷ 0 ∷ []) (0 ∷ 0 ∷ 1 ∷ 0 ∷ 0 ∷ [])) (facts (record { count = 1; reach = 2 }) ∷ facts (record { count = 0; reach = 1 }) ∷ facts (record { count = 1; reach = 1 }) ∷ []);
+    }
     -- M12
     ∷ record { exercise = checks ternWithout; expected = outcome (refused author 14 2) }
     ∷ []

@@ -88,7 +88,8 @@ fn bad_lower(
     let count = leaves::leaf_count(leaves);
     let top = leaves::word(leaves, words, upper);
     let part = pair_digits::upper_part(base, inputs, leaves, words, upper);
-    let mut lower = look_up::look_up_from(leaves, words, tail_window(top), guess);
+    let lowest = look_up::look_up_from(leaves, words, tail_window(top), guess);
+    let mut lower = lowest.leaf;
     while lower < count {
         if !fit(top, leaves::word(leaves, words, lower)) {
             return Run {

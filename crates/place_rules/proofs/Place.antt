@@ -1,4 +1,4 @@
--- Laws of windows, weights and the digits that come out, for the functions that compute them.
+-- Laws of windows, the leaves that begin them, and the digits that come out, for the functions that compute them.
 use mathlib.Core.Path.{_≡_, refl, sym, ap, _∙_}
 use mathlib.Core.Bool.{true, false}
 use mathlib.Core.List.{List}
@@ -20,17 +20,16 @@ use Rattle.digit_rules.proofs.Index.{index-high, index-is}
 use Rattle.digit_rules.proofs.Formed.{pair-index-is}
 use Rattle.numeration.specs.Group.{Operations}
 use Rattle.numeration.specs.Code.{Code, Begins, HasLeaf}
-use Rattle.numeration.specs.LeafOf.{leafOf}
-use Rattle.numeration.specs.Conversion.{window, outDigit, weightInto, weightAt, convert}
+use Rattle.numeration.specs.Conversion.{window, outDigit, leafInto, weightInto, weightAt, convert}
 use Rattle.numeration.proofs.Leaves.{leafOf-ext, leafOf-unique, ordered-separate, depth-reached}
 use Rattle.numeration.proofs.Windows.{window-by-place}
-use Rattle.leaf_rules.specs.Leaf.{leafCount, codeOf}
-use Rattle.leaf_rules.specs.Given.{weightGiven}
+use Rattle.leaf_rules.specs.Leaf.{leafCount, wordLength, weightOf, codeOf}
+use Rattle.leaf_rules.specs.Given.{lengthGiven, weightGiven}
 use Rattle.leaf_rules.specs.Window.{digits, LookedUp}
-use Rattle.leaf_rules.proofs.Leaf.{weight-there}
+use Rattle.leaf_rules.proofs.Leaf.{length-there, weight-there}
 use Rattle.table_rules.specs.Pairs.{inAlphabet}
 use Rattle.place_rules.specs.Place.{inputAt, alphabetIndex, digitAt, indexAt, digitAllowed}
-use Rattle.place_rules.specs.Helpers.{Begun}
+use Rattle.place_rules.specs.Helpers.{Begun, IsLeaf}
 
 -- an input index is at most the count of input digits
 pub pair-index-high : (op : Operation) (alphabet inputs : List ℕ) (i j : ℕ) → pairIndex op alphabet inputs i j ≤ elementCount inputs
@@ -60,15 +59,18 @@ window-inside row j k h =
     place : (i : ℕ) → i + suc k ≡ j → j - k - 1 ≡ i
     place i e = omega arith
 
--- the leaf that the look-up finds in the first eight digits has the weight into the place
-pub weight-found : (leaves words row : List ℕ) → Begun leaves words row → (j r : ℕ) → LookedUp (codeOf leaves words) (span (window row j) 0 8) r → weightGiven leaves r ≡ weightInto (codeOf leaves words) row j
-unfolding weightInto
-weight-found leaves words row is j r found =
+-- the leaf that the look-up finds in the first eight digits, and its length
+pub leaf-found : (leaves words row : List ℕ) → Begun leaves words row → (j r size : ℕ) → LookedUp (codeOf leaves words) (span (window row j) 0 8) r → size ≡ lengthGiven leaves r → IsLeaf leaves words row j r size
+leaf-found leaves words row is j r size found length =
     let (k, h, b) = is .begun j in
     let leaf : HasLeaf c (digits eight) = (k, h, λ i l. b i l ∙ sym (same i (omega (arith, is .sorted .short k h)))) in
     let (deep, d, e) = depth-reached c (omega arith) in
-    let at : r ≡ leafOf c (window row j) = found .the-leaf (is .sorted) leaf ∙ leafOf-ext c (digits eight) (window row j) (λ i l. same i (omega (arith, is .sorted .short deep d))) in
-    sym (weight-there leaves r (found .a-leaf (omega arith))) ∙ ap (c .weight) at
+    let listed = found .a-leaf (omega arith) in
+    record {
+      is-leaf = found .the-leaf (is .sorted) leaf ∙ leafOf-ext c (digits eight) (window row j) (λ i l. same i (omega (arith, is .sorted .short deep d)));
+      is-size = length ∙ sym (length-there leaves r listed);
+      listed = listed;
+    }
   where
     c : Code (List ℤ)
     c = codeOf leaves words
@@ -105,9 +107,17 @@ pub window-first : (row : List ℕ) (j : ℕ) → getD row j 0 ≡ window row (j
 unfolding window
 window-first row j = rw (add-one j, window)
 
--- a leaf that begins the window has the weight into the place
-pub weight-begun : (leaves words row : List ℕ) → Begun leaves words row → (j k : ℕ) → k < leafCount leaves → Begins (codeOf leaves words) k (window row j) → weightGiven leaves k ≡ weightInto (codeOf leaves words) row j
-unfolding weightInto
-weight-begun leaves words row is j k h b =
+-- a leaf that begins the window is the one
+pub leaf-begun : (leaves words row : List ℕ) → Begun leaves words row → (j k size : ℕ) → k < leafCount leaves → Begins (codeOf leaves words) k (window row j) → size ≡ wordLength leaves k → IsLeaf leaves words row j k size
+leaf-begun leaves words row is j k size h b length =
     let c = codeOf leaves words in
-    sym (weight-there leaves k h) ∙ ap (c .weight) (sym (leafOf-unique c (ordered-separate c (is .sorted .ordered)) (window row j) k h b))
+    record { is-leaf = sym (leafOf-unique c (ordered-separate c (is .sorted .ordered)) (window row j) k h b); is-size = length; listed = h }
+
+-- it gives the place its weight from below, and its length counts for the reach
+module _ (leaves words row : List ℕ) (j k size : ℕ) (is : IsLeaf leaves words row j k size) where
+  pub leaf-weight : weightGiven leaves k ≡ weightInto (codeOf leaves words) row j
+  unfolding weightInto
+  leaf-weight = sym (weight-there leaves k (is .listed)) ∙ ap (weightOf leaves) (is .is-leaf)
+
+  pub leaf-size : size ≡ codeOf leaves words .size (leafInto (codeOf leaves words) row j)
+  leaf-size = is .is-size ∙ ap (wordLength leaves) (is .is-leaf)

@@ -1,19 +1,28 @@
-// The weight that a place gets from below: the window of input indexes below it, and the leaf that begins the window.
+// The leaf that gives a place its weight from below: the window of input indexes below the place, and the leaf that begins it, with its
+// word's length.
 ghost use mathlib.Core.Path.{_≡_};
 ghost use mathlib.Core.Bool.{true};
-ghost use Prim.Native.Nat.{_+_, _<_};
+ghost use Prim.Native.Nat.{_+_, _<_, _≤_, max};
 ghost use Rattle.lists.specs.Span.{span};
-ghost use Rattle.ring.specs.Tests.{Within};
 ghost use Rattle.numeration.specs.Code.{Begins};
-ghost use Rattle.numeration.specs.Conversion.{window, weightInto};
-ghost use Rattle.leaf_rules.specs.Leaf.{leafCount, codeOf};
-ghost use Rattle.leaf_rules.specs.Given.{weightGiven};
-ghost use Rattle.place_rules.specs.Helpers.{Begun};
+ghost use Rattle.numeration.specs.Conversion.{window};
+ghost use Rattle.leaf_rules.specs.Leaf.{leafCount, wordLength, codeOf};
+ghost use Rattle.place_rules.specs.Helpers.{Begun, IsLeaf, Counted};
+use look_up::Found;
 
 // The slots that leaves are kept in by the windows they begin, and one more than the first digits of windows.
 pub const WINDOWS: usize = 256;
 
 pub const STARTS: usize = 257;
+
+// More than any leaf's number: a slot that holds none.
+pub const NO_LEAF: u16 = 65535;
+
+// A leaf, and the reach with its word counted.
+pub struct Tried {
+    pub leaf: usize,
+    pub reach: usize,
+}
 
 // Digit k of the window below a place; 0 outside the row.
 fn digit_below(row: &[u8], place: usize, k: usize) -> u8
@@ -41,16 +50,12 @@ fn window_below(row: &[u8], place: usize) -> [u8; 8]
     ]
 }
 
-// The weight that a place gets from below.
-pub fn weight_into(leaves: &[u8], words: &[u8], row: &[u8], place: usize) -> [i64; 2]
+// The leaf that begins the window below a place.
+pub fn leaf_into(leaves: &[u8], words: &[u8], row: &[u8], place: usize) -> Found
     requires { ⌜ Begun (now leaves) (now words) (now row) ⌝ }
-    ensures weight { λ r. ⌜ r ≡ weightInto (codeOf (now (leaves .entry)) (now (words .entry))) (now (row .entry)) place ⌝ }
-    ensures within { λ r. ⌜ Within 32768 r ⌝ }
+    ensures { λ r. ⌜ IsLeaf (now (leaves .entry)) (now (words .entry)) (now (row .entry)) place (r .leaf) (r .length) ⌝ }
 {
-    leaves::weight(
-        leaves,
-        look_up::look_up(leaves, words, window_below(row, place)),
-    )
+    look_up::look_up(leaves, words, window_below(row, place))
 }
 
 // Whether a leaf's word begins the window below a place, of which the first digit is given.
@@ -80,8 +85,8 @@ fn begins_below(
     true
 }
 
-// The leaf that begins the window below a place: the guessed one where it does, else by a search of the leaves from one up to another, or of
-// all where that doesn't help.
+// The leaf that begins the window below a place: the guessed one where it does, whose word is counted in the reach already, else by a search
+// of the leaves from one up to another, or of all where that doesn't help.
 fn leaf_below(
     leaves: &[u8],
     words: &[u8],
@@ -91,23 +96,31 @@ fn leaf_below(
     guess: u16,
     low: u16,
     high: u16,
-) -> usize
-    requires { ⌜ Begun (now leaves) (now words) (now row) × (first ≡ window (now row) place 0) ⌝ }
-    ensures { λ r. ⌜ weightGiven (now (leaves .entry)) r ≡ weightInto (codeOf (now (leaves .entry)) (now (words .entry))) (now (row .entry)) place ⌝ }
+    reach: usize,
+) -> Tried
+    requires { ⌜ Begun (now leaves) (now words) (now row) × (first ≡ window (now row) place 0)
+        × (guess < leafCount (now leaves) → wordLength (now leaves) guess ≤ reach) ⌝ }
+    ensures leaf { λ r. ⌜ IsLeaf (now (leaves .entry)) (now (words .entry)) (now (row .entry)) place (r .leaf)
+        (wordLength (now (leaves .entry)) (r .leaf)) ⌝ }
+    ensures reach { λ r. ⌜ r .reach ≡ max reach (wordLength (now (leaves .entry)) (r .leaf)) ⌝ }
 {
     let leaf = guess as usize;
     if leaf < leaves::leaf_count(leaves) {
         if begins_below(leaves, words, row, place, first, leaf) {
-            return leaf;
+            return Tried { leaf, reach };
         }
     }
-    look_up::look_up_within(
+    let below = look_up::look_up_within(
         leaves,
         words,
         window_below(row, place),
         low as usize,
         high as usize,
-    )
+    );
+    Tried {
+        leaf: below.leaf,
+        reach: octets::greatest(reach, below.length),
+    }
 }
 
 // The slot of the window below a place: by its first digit where no word has more, else by the first two.
@@ -121,9 +134,9 @@ fn window_slot(row: &[u8], place: usize, first: u8, single: bool) -> usize
     slot % WINDOWS
 }
 
-// The weight that a place gets from below. The leaf that was found last for a window of the same slot is tried before the search, which is
-// among the leaves with the window's first digit.
-pub fn weight_tried(
+// The leaf that begins the window below a place. The one that was found last for a window of the same slot is tried before the search,
+// which is among the leaves with the window's first digit.
+pub fn leaf_tried(
     leaves: &[u8],
     words: &[u8],
     row: &[u8],
@@ -132,14 +145,18 @@ pub fn weight_tried(
     single: bool,
     starts: &[u16; STARTS],
     found: &mut [u16; WINDOWS],
-) -> [i64; 2]
-    requires { ⌜ Begun (now leaves) (now words) (now row) × (first ≡ window (now row) place 0) ⌝ }
-    ensures weight { λ r. ⌜ r ≡ weightInto (codeOf (now (leaves .entry)) (now (words .entry))) (now (row .entry)) place ⌝ }
-    ensures within { λ r. ⌜ Within 32768 r ⌝ }
+    reach: usize,
+) -> Tried
+    requires window { ⌜ Begun (now leaves) (now words) (now row) × (first ≡ window (now row) place 0) ⌝ }
+    requires found { ⌜ (leafCount (now leaves) < 65536) × Counted (now leaves) (now found) reach ⌝ }
+    ensures leaf { λ r. ⌜ IsLeaf (now (leaves .entry)) (now (words .entry)) (now (row .entry)) place (r .leaf)
+        (wordLength (now (leaves .entry)) (r .leaf)) ⌝ }
+    ensures reach { λ r. ⌜ r .reach ≡ max reach (wordLength (now (leaves .entry)) (r .leaf)) ⌝ }
+    ensures found { λ r. ⌜ Counted (now (leaves .entry)) (now (found .exit)) (r .reach) ⌝ }
 {
     let slot = window_slot(row, place, first, single);
     let digit = octets::wide(first);
-    let leaf = leaf_below(
+    let below = leaf_below(
         leaves,
         words,
         row,
@@ -148,9 +165,10 @@ pub fn weight_tried(
         found[slot],
         starts[digit],
         starts[digit + 1],
+        reach,
     );
-    found[slot] = (leaf % 65536) as u16;
-    leaves::weight(leaves, leaf)
+    found[slot] = below.leaf as u16;
+    below
 }
 
 // For each first digit below a count the leaf that begins a window of it and zeros, which is the first with that digit, and behind them
@@ -162,8 +180,8 @@ pub fn first_leaves(leaves: &[u8], words: &[u8], inputs: usize) -> [u16; STARTS]
     }
     let mut digit = 0;
     while digit < inputs {
-        let leaf = look_up::look_up(leaves, words, [digit as u8, 0, 0, 0, 0, 0, 0, 0]);
-        starts[digit] = (leaf % 65536) as u16;
+        let lowest = look_up::look_up(leaves, words, [digit as u8, 0, 0, 0, 0, 0, 0, 0]);
+        starts[digit] = (lowest.leaf % 65536) as u16;
         digit += 1;
     }
     starts[inputs] = (leaves::leaf_count(leaves) % 65536) as u16;

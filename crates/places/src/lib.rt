@@ -11,6 +11,8 @@ ghost use Rattle.digit_rules.specs.Record.{recordAt, elementCount};
 ghost use Rattle.numeration.specs.Code.{Inputs};
 ghost use Rattle.numeration.specs.Conversion.{outDigit};
 ghost use Rattle.numeration.specs.Elements.{elements};
+ghost use Rattle.numeration.specs.ReachOf.{reachOf};
+ghost use Rattle.leaf_rules.specs.Leaf.{leafCount, codeOf};
 ghost use Rattle.place_rules.specs.Place.{alphabetIndex, indexAt, digitAllowed};
 ghost use Rattle.place_rules.specs.Helpers.{Begun};
 ghost use Rattle.places.specs.Helpers.{Firsts};
@@ -75,8 +77,22 @@ fn digits_ahead(count: usize, single: bool, inputs: usize) -> usize {
     inputs
 }
 
+// How many digits were written, and the longest word that was looked up for them.
+pub struct Written {
+    pub count: usize,
+    pub reach: usize,
+}
+
+// The word looked up below the first place counts, but for the one below place 0.
+fn reach_below(from: usize, length: usize) -> usize
+    ensures zero { λ r. ⌜ (from ≡ 0 → r ≡ 0) ⌝ }
+    ensures above { λ r. ⌜ (0 < from → r ≡ length) ⌝ }
+{
+    if from == 0 { 0 } else { length }
+}
+
 // Writes the alphabet indexes of the digits at the places from `from` on, up to the first digit that isn't in the alphabet, at most
-// `count` of them; how many.
+// `count` of them.
 pub fn convert(
     base: [[i64; 2]; 2],
     alphabet: &[u8],
@@ -87,28 +103,31 @@ pub fn convert(
     from: usize,
     count: usize,
     out: &mut [u8],
-) -> usize
+) -> Written
     requires { ⌜ RowsWithin (2 ^ 24) base × (elementCount (now alphabet) ≤ 256) × (0 < elementCount (now inputs))
         × Inputs (elementCount (now inputs)) (now row) × Begun (now leaves) (now words) (now row) × (from + count < 65536)
-        × (count ≤ length (now out)) ⌝ }
+        × (count ≤ length (now out)) × (leafCount (now leaves) < 65536) ⌝ }
     ensures count { λ r. ⌜ (let allowed = digitAllowed (elements degree base) (now (alphabet .entry)) (now (inputs .entry))
         (now (leaves .entry)) (now (words .entry)) (now (row .entry)) in
-        r ≡ firstFailing (λ k. allowed (from + k)) 0 count) ⌝ }
+        r .count ≡ firstFailing (λ k. allowed (from + k)) 0 count) ⌝ }
+    ensures reach { λ r. ⌜ r .reach ≡ reachOf (codeOf (now (leaves .entry)) (now (words .entry))) (now (row .entry)) from (r .count) ⌝ }
     ensures buffer { λ r. ⌜ (let index = indexAt (elements degree base) (now (alphabet .entry)) (now (inputs .entry))
         (now (leaves .entry)) (now (words .entry)) (now (row .entry)) in
-        now (out .exit) ≡ overwrite (now (out .entry)) 0 (span (λ k. index (from + k)) 0 r)) ⌝ }
+        now (out .exit) ≡ overwrite (now (out .entry)) 0 (span (λ k. index (from + k)) 0 (r .count))) ⌝ }
 {
     let size = layout::record_count(alphabet, 1);
     let single = words.len() <= leaves::leaf_count(leaves);
     let ahead = digits_ahead(count, single, layout::record_count(inputs, 2));
     let starts = place_weights::first_leaves(leaves, words, ahead);
-    let mut found = [0u16; place_weights::WINDOWS];
+    let mut found = [place_weights::NO_LEAF; place_weights::WINDOWS];
     let mut slots = [0u8; DIGITS];
-    let mut below = place_weights::weight_into(leaves, words, row, from);
+    let lowest = place_weights::leaf_into(leaves, words, row, from);
+    let mut below = leaves::weight(leaves, lowest.leaf);
+    let mut reach = reach_below(from, lowest.length);
     let mut k = 0;
     while k < count {
         let first = octets::byte_at(row, from + k);
-        let own = place_weights::weight_tried(
+        let upper = place_weights::leaf_tried(
             leaves,
             words,
             row,
@@ -117,15 +136,18 @@ pub fn convert(
             single,
             &starts,
             &mut found,
+            reach,
         );
+        let own = leaves::weight(leaves, upper.leaf);
         let input = first as usize;
         let index = out_index(base, alphabet, inputs, input, below, own, &mut slots);
         if size <= index {
-            return k;
+            return Written { count: k, reach };
         }
         out[k] = index as u8;
         below = own;
+        reach = upper.reach;
         k += 1;
     }
-    k
+    Written { count: k, reach }
 }

@@ -1,6 +1,6 @@
 -- The stage of rules 9 to 13 finds nothing exactly where leaves and words are as document 01 asks; what its readers then know: a
 -- complete prefix code, its depth, and that the look-up finds the one leaf.
-use mathlib.Core.Path.{_≡_, sym, _∙_}
+use mathlib.Core.Path.{_≡_, sym, ap, _∙_}
 use mathlib.Core.List.{List}
 use Prim.Native.Nat.{ℕ, suc, _+_, _-_, _<_, _≤_}
 use native.Mathlib.Omega.{arith}
@@ -15,7 +15,9 @@ use Rattle.numeration.specs.Prefix.{Separate, OrderedCode, PrefixCode}
 use Rattle.numeration.proofs.Leaves.{ordered-separate, leafOf-unique, leafOf-ext, size-depth, depth-reached, prefix-code, getD-inputs}
 use Rattle.leaf_rules.specs.Leaf.{leafCount, wordStart, wordLength, codeOf}
 use Rattle.prefix_rules.specs.Check.{leafAllowed, placeCheck, wordIndexAllowed, wordIndexCheck, orderAllowed, orderCheck, coverCheck, zeroCheck, leafCheck}
+use Rattle.leaf_rules.specs.Given.{lengthGiven}
 use Rattle.leaf_rules.specs.Window.{digits, LookedUp}
+use Rattle.leaf_rules.proofs.Leaf.{length-there}
 use Rattle.prefix_rules.specs.Broken.{Broken12}
 use Rattle.prefix_rules.specs.Formed.{OneLeaf, LeavesFormed}
 use Rattle.prefix_rules.proofs.Place.{Placed, leaf-says, leaf-refuted, follows-expected}
@@ -88,7 +90,10 @@ module _ (leaves words : List ℕ) (m : ℕ) (input : 0 < m) where
         let (k, l, e) = depth-reached (codeOf leaves words) (complete-prefix-code .some-leaf) in
         ((k, l, e), size-depth (codeOf leaves words), omega (arith, is .some k l), omega (arith, is .short k l))
 
-    -- the look-up's answer on a window of input indexes is the leaf of every string that starts so
-    pub look-up-is : (window : List ℕ) (r : ℕ) → Inputs m window → LookedUp (codeOf leaves words) window r → (w : ℕ → ℕ) → Agree (digits window) w 8 → (r < leafCount leaves) × (r ≡ leafOf (codeOf leaves words) w)
+    -- the look-up's answer on a window of input indexes is the leaf of every string that starts so, and its word's length
+    pub look-up-is : (window : List ℕ) (r : ℕ) → Inputs m window → LookedUp (codeOf leaves words) window r → (w : ℕ → ℕ) → Agree (digits window) w 8
+        → (r < leafCount leaves) × (r ≡ leafOf (codeOf leaves words) w) × (lengthGiven leaves r ≡ codeOf leaves words .size (leafOf (codeOf leaves words) w))
     look-up-is window r inputs found w same =
-        (found .a-leaf (complete-prefix-code .some-leaf), found .the-leaf (record { short = is .short; ordered = is .ordered }) (complete-prefix-code .complete (digits window) (getD-inputs m window input inputs)) ∙ leafOf-ext (codeOf leaves words) (digits window) w (λ i h. same i (omega (arith, depth-is .3))))
+        let listed : r < leafCount leaves = found .a-leaf (complete-prefix-code .some-leaf) in
+        let the-leaf : r ≡ leafOf (codeOf leaves words) w = found .the-leaf (record { short = is .short; ordered = is .ordered }) (complete-prefix-code .complete (digits window) (getD-inputs m window input inputs)) ∙ leafOf-ext (codeOf leaves words) (digits window) w (λ i h. same i (omega (arith, depth-is .3))) in
+        (listed, the-leaf, sym (length-there leaves r listed) ∙ ap (wordLength leaves) the-leaf)

@@ -12,6 +12,7 @@ use Rattle.numeration.specs.Code.{Agree, Inputs}
 use Rattle.numeration.specs.LeafOf.{leafOf}
 use Rattle.numeration.specs.Prefix.{OrderedCode, PrefixCode}
 use Rattle.leaf_rules.specs.Leaf.{leafCount, wordLength, weightOf}
+use Rattle.leaf_rules.specs.Given.{lengthGiven}
 use Rattle.leaf_rules.specs.Window.{digits, LookedUp}
 use Rattle.reader_rules.specs.declared.Part.{Part}
 use Rattle.reader_rules.specs.Table.{basePart, alphabetPart, inputPart, leafPart, wordPart, operationsOf, inputCount, leavesIn}
@@ -52,6 +53,6 @@ pub record Ready (file : List ℕ) : Type 0 where
   pub leaf-count : (1 ≤ leafCount (leafPart file)) × (leafCount (leafPart file) ≤ 4000)
   -- the base section as its readers ask for it
   pub base : BasePart (basePart file)
-  -- the look-up's answer on a window of input indexes is the one leaf of every string that starts so
+  -- the look-up's answer on a window of input indexes is the one leaf of every string that starts so, and its word's length
   pub look-up : (window : List ℕ) (r : ℕ) → Inputs (inputCount file) window → LookedUp (leavesIn file) window r → (w : ℕ → ℕ) → Agree (digits window) w 8
-      → (r < leafCount (leafPart file)) × (r ≡ leafOf (leavesIn file) w)
+      → (r < leafCount (leafPart file)) × (r ≡ leafOf (leavesIn file) w) × (lengthGiven (leafPart file) r ≡ leavesIn file .size (leafOf (leavesIn file) w))

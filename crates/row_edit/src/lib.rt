@@ -102,13 +102,16 @@ pub fn edit_rows(
     let row = adder::inputs_of(Operation::Plus, table, change, first, second, from, end);
     let mut digits = [0u8; 9];
     let found = adder::digits_of(table, &row, place, depth + 1, &mut digits);
-    if found <= depth {
+    if found.count <= depth {
         return Edited::Refused(Fault::Author {
             number: 27,
-            place: place + found,
+            place: place + found.count,
         });
     }
     store(change, first, second);
     let count = renew(&mut sum[place..place + depth + 1], &digits[..depth + 1]);
-    Edited::Count(EditedFacts { count })
+    Edited::Count(EditedFacts {
+        count,
+        reach: found.reach,
+    })
 }

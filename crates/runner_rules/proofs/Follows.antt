@@ -15,7 +15,7 @@ use Rattle.table_rules.specs.declared.Facts.{Facts}
 use Rattle.table_rules.specs.Check.{checkFacts, checkOutcome}
 use Rattle.table_rules.proofs.Demand.{demand-1}
 use Rattle.adder_rules.specs.declared.AddedFacts.{AddedFacts}
-use Rattle.adder_rules.specs.Sum.{placeCount}
+use Rattle.adder_rules.specs.Sum.{resultFacts}
 use Rattle.adder_rules.specs.Calls.{addOutcome}
 use Rattle.ring.specs.declared.Operation.the-variants.{Plus}
 use Rattle.adder_rules.proofs.Demand.{demand-1 as add-demand-1}
@@ -68,7 +68,7 @@ module _ (file : List ℕ) (s : State) (es : List Change) (whose numbers values 
   accepted : (f : Facts) → checkOutcome file ≡ facts f → checkOutcome file ≡ facts (checkFacts file)
   accepted f is = is ∙ ap facts (demand-1 file .only-facts f is)
 
-  added : (f : AddedFacts) → addition ≡ facts f → addition ≡ facts (record { places = placeCount file (s .first) })
+  added : (f : AddedFacts) → addition ≡ facts f → addition ≡ facts (resultFacts Plus file (s .first) (s .second))
   added f is = is ∙ ap facts (add-demand-1 Plus file (s .first) (s .second) (length (s .sum)) .only-facts f is)
 
   started : (f : RanFacts) → outcome ≡ facts f → (f .edits ≡ length es) × Started file s es whose numbers values

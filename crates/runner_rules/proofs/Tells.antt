@@ -6,6 +6,7 @@ use native.Mathlib.Omega.{arith}
 use lib.ListN.{getD, List·getD-map}
 use Rattle.faults.specs.Outcome.{Outcome, facts, refused, author, rows, editor}
 use Rattle.edit_rules.specs.declared.EditedFacts.{EditedFacts}
+use Rattle.edit_rules.specs.Follows.{noFacts}
 use Rattle.runner_rules.specs.declared.Told.{Told}
 use Rattle.faults.proofs.Outcome.{group-number, some-group}
 use Rattle.runner_rules.specs.Told.{toldOf, groupsOf, numbersOf, valuesOf}
@@ -19,14 +20,18 @@ tells o = record { count = λ f is. same is; author-fault = λ n p is. same is; 
     same is = (λ i. toldOf (is i) .whose, λ i. toldOf (is i) .number, λ i. toldOf (is i) .value)
 
 -- entry k of the three lists of numbers tells answer k
-pub tells-at : (answers : List (Outcome EditedFacts)) (k : ℕ) → Tells (getD answers k (facts (record { count = 0 }))) (getD (groupsOf answers) k 0) (getD (numbersOf answers) k 0) (getD (valuesOf answers) k 0)
+pub tells-at : (answers : List (Outcome EditedFacts)) (k : ℕ) → Tells (getD answers k (facts noFacts)) (getD (groupsOf answers) k 0) (getD (numbersOf answers) k 0) (getD (valuesOf answers) k 0)
 tells-at answers k =
-    let d : Outcome EditedFacts = facts (record { count = 0 }) in
+    let d : Outcome EditedFacts = facts noFacts in
     rw (List·getD-map (λ o. toldOf o .whose) answers k d, List·getD-map (λ o. toldOf o .number) answers k d, List·getD-map (λ o. toldOf o .value) answers k d) (tells (getD answers k d))
 
--- two answers with the same numbers are the same
-pub told-apart : (a b : Outcome EditedFacts) → toldOf a ≡ toldOf b → a ≡ b
-told-apart (facts f) (facts k) e = λ i. facts (record { count = e i .value })
+-- two answers with the same numbers are the same, but for the reach, which isn't told
+abbrev untold : Outcome EditedFacts → ℕ → Outcome EditedFacts
+untold (facts f) reach = facts (record { count = f .count; reach = reach })
+untold (refused g n p) reach = refused g n p
+
+pub told-apart : (a b : Outcome EditedFacts) → toldOf a ≡ toldOf b → (reach : ℕ) → untold a reach ≡ untold b reach
+told-apart (facts f) (facts k) e = λ reach i. facts (record { count = e i .value; reach = reach })
 told-apart (facts f) (refused g n p) e = absurd (omega (arith, some-group g, ap (λ (t : Told). t .whose) e))
 told-apart (refused g n p) (facts f) e = absurd (omega (arith, some-group g, ap (λ (t : Told). t .whose) e))
-told-apart (refused g n p) (refused h m q) e = λ i. refused (group-number g h (ap (λ (t : Told). t .whose) e) i) (e i .number) (e i .value)
+told-apart (refused g n p) (refused h m q) e = λ reach i. refused (group-number g h (ap (λ (t : Told). t .whose) e) i) (e i .number) (e i .value)

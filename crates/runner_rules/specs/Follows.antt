@@ -8,17 +8,18 @@ use Rattle.lists.specs.Overwrite.{overwrite}
 use Rattle.faults.specs.Outcome.{Group, Outcome, facts, refused, author, rows, editor}
 use Rattle.row_rules.specs.declared.Change.{Change}
 use Rattle.table_rules.specs.Check.{checkFacts, checkOutcome}
-use Rattle.adder_rules.specs.Sum.{placeCount}
+use Rattle.ring.specs.declared.Operation.the-variants.{Plus}
+use Rattle.adder_rules.specs.Sum.{resultFacts}
 use Rattle.adder_rules.specs.Calls.{addOutcome}
 use Rattle.edit_rules.specs.declared.EditedFacts.{EditedFacts}
 use Rattle.edit_rules.specs.State.{State}
 use Rattle.edit_rules.specs.Run.{run}
-use Rattle.edit_rules.specs.Follows.{ListFollows}
+use Rattle.edit_rules.specs.Follows.{ListFollows, noFacts}
 use Rattle.runner_rules.specs.declared.RanFacts.{RanFacts}
 use Rattle.runner_rules.specs.Run.{runOutcome, runAll}
 use Rattle.runner_rules.specs.Told.{groupsOf, numbersOf, valuesOf}
 
--- three numbers tell an edit's answer: 0, 0 and the count, or 1 author, 2 rows, 3 editor with the fault's number and place
+-- three numbers tell an edit's answer: 0, 0 and the count, whatever the reach, or 1 author, 2 rows, 3 editor with the fault's number and place
 pub record Tells (answer : Outcome EditedFacts) (whose number value : ℕ) : Type 0 where
   pub count : (f : EditedFacts) → answer ≡ facts f → (whose ≡ 0) × (number ≡ 0) × (value ≡ f .count)
   pub author-fault : (n p : ℕ) → answer ≡ refused author n p → (whose ≡ 1) × (number ≡ n) × (value ≡ p)
@@ -34,11 +35,11 @@ module _ (file : List ℕ) (s : State) (es : List Change) where
   -- a run that starts: the check accepts the file, the addition isn't refused, and demand 3 holds of the buffers and the answers
   pub record Started (whose numbers values : List ℕ) : Type 0 where
     pub accepted : checkOutcome file ≡ facts (checkFacts file)
-    pub adds : addOutcome file (s .first) (s .second) (length (s .sum)) ≡ facts (record { places = placeCount file (s .first) })
+    pub adds : addOutcome file (s .first) (s .second) (length (s .sum)) ≡ facts (resultFacts Plus file (s .first) (s .second))
     pub follows : ListFollows file s es
     pub buffers : runAll file s es .buffers ≡ run file s es .buffers
     -- entry k of the slices tells answer k, and the entries beyond are the slices' own
-    pub told : (k : ℕ) → k < length es → Tells (getD (run file s es .answers) k (facts (record { count = 0 }))) (getD (toldIn groupsOf whose) k 0) (getD (toldIn numbersOf numbers) k 0) (getD (toldIn valuesOf values) k 0)
+    pub told : (k : ℕ) → k < length es → Tells (getD (run file s es .answers) k (facts noFacts)) (getD (toldIn groupsOf whose) k 0) (getD (toldIn numbersOf numbers) k 0) (getD (toldIn valuesOf values) k 0)
     pub further : (k : ℕ) → length es ≤ k → (getD (toldIn groupsOf whose) k 0 ≡ getD whose k 0) × (getD (toldIn numbersOf numbers) k 0 ≡ getD numbers k 0) × (getD (toldIn valuesOf values) k 0 ≡ getD values k 0)
 
   -- every run starts or is refused: by the check, or by the addition where the check accepts; then nothing is written

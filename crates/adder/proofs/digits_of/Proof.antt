@@ -1,6 +1,6 @@
 -- The sections handed on, with what a table that passes 1 to 13 gives to conversion.
 use mathlib.Core.Path.{sym, ap, subst, _∙_}
-use Prim.Native.Nat.{_+_}
+use Prim.Native.Nat.{_+_, _<_}
 use native.Mathlib.Omega.{arith}
 use lib.Dec.{lit<}
 use Rattle.lists.specs.Overwrite.{overwrite}
@@ -8,6 +8,8 @@ use Rattle.lists.specs.Scan.{firstFailing}
 use Rattle.lists.specs.Span.{span}
 use Rattle.layout_rules.specs.Section.{degree}
 use Rattle.numeration.specs.Elements.{elements}
+use Rattle.numeration.specs.ReachOf.{reachOf}
+use Rattle.leaf_rules.specs.Leaf.{leafCount, codeOf}
 use Rattle.digit_rules.specs.BaseMatrix.{baseMatrix}
 use Rattle.digit_rules.specs.Digits.{BasePart}
 use Rattle.place_rules.specs.Place.{indexAt, digitAllowed}
@@ -47,7 +49,8 @@ convert-requires c κs =
     let digits = few-digits file given _ (c .before .before .before .before .section2 .ensures) in
     let inputs = c .before .before .before .section3 .ensures in
     let begun = windows-begun file given _ _ row (c .before .before .section4 .ensures) (c .before .section5 .ensures) all in
-    (small, omega (arith, digits), few-inputs file given _ inputs .0, inputs-in file given _ row inputs all, begun, s .pre .1 .1 .0, s .pre .1 .1 .1)
+    let few : leafCount (c .before .before .section4 .result .now) < 65536 = omega (arith, ap leafCount (c .before .before .section4 .ensures), ready-passed file given .leaf-count .1) in
+    (small, omega (arith, digits), few-inputs file given _ inputs .0, inputs-in file given _ row inputs all, begun, s .pre .1 .1 .0, s .pre .1 .1 .1, few)
 
 same-length : tie.Need-same-length
 same-length c = search needs
@@ -63,7 +66,10 @@ returns c =
     let words = c .before .before .before .before .section5 .ensures in
     let done = c .before .before .convert in (
       done .ensures .0 ∙ (λ i. firstFailing (λ k. digitAllowed (elements degree (base i)) (alphabet i) (inputs i) (leaves i) (words i) (a .row .now) (a .from + k)) 0 (a .count)),
-      done .ensures .1 ∙ (λ i. overwrite (a .out .now) 0 (span (λ k. indexAt (elements degree (base i)) (alphabet i) (inputs i) (leaves i) (words i) (a .row .now) (a .from + k)) 0 (done .result))),
+      (
+        done .ensures .1 .0 ∙ (λ i. reachOf (codeOf (leaves i) (words i)) (a .row .now) (a .from) (done .result .count)),
+        done .ensures .1 .1 ∙ (λ i. overwrite (a .out .now) 0 (span (λ k. indexAt (elements degree (base i)) (alphabet i) (inputs i) (leaves i) (words i) (a .row .now) (a .from + k)) 0 (done .result .count))),
+      ),
     )
 
 pub digits-of-spec : {M : Type 1} → statement M

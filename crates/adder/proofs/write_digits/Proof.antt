@@ -37,7 +37,7 @@ long c =
     let a = s .args in
     let row = c .before .before .before .inputs-of .result in
     let d = c .digits-of in
-    ap length (d .ensures .1) ∙ digits-room (a .operation) (a .table .now) (a .first .now) (a .second .now) row (held (c .before .before .before) .1) (a .places) (s .pre .1 .1 .1) (d .result) (d .ensures .0) (replicate 264 0) (omega (arith, length-replicate {A = ℕ} 264 0, s .pre .1 .1 .1, room s)) ∙ length-replicate {A = ℕ} 264 0
+    ap length (d .ensures .1 .1) ∙ digits-room (a .operation) (a .table .now) (a .first .now) (a .second .now) row (held (c .before .before .before) .1) (a .places) (s .pre .1 .1 .1) (d .result .count) (d .ensures .0) (replicate 264 0) (omega (arith, length-replicate {A = ℕ} 264 0, s .pre .1 .1 .1, room s)) ∙ length-replicate {A = ℕ} 264 0
 
 no-change-requires : tie.Need-no-change-requires
 no-change-requires c κs = search needs
@@ -66,27 +66,27 @@ digits-of-requires c κs =
 
 returns : tie.Need-returns
 returns c =
-    let s = c .before .before .before .before .before .before .before .before .before .before .before in
+    let s = c .before .before .before .before .before .before .before .before .before .before .before .before in
     let a = s .args in
-    let d = c .before .before .digits-of in
-    let row = c .before .before .before .before .before .inputs-of .result in
-    let is = digits-refused (a .operation) (a .table .now) (a .first .now) (a .second .now) row (held (c .before .before .before .before .before) .1) (a .places) (s .pre .1 .1 .1) (d .result) (d .ensures .0) (c .if1 .taken) in
-    (is, exit-lent (digitsOutcome (a .operation) (a .table .now) (a .first .now) (a .second .now)) author 27 (d .result) (a .out .now) (overwrite (a .out .now) 0 (resultRow (a .operation) (a .table .now) (a .first .now) (a .second .now))) is)
+    let d = c .before .before .before .digits-of in
+    let row = c .before .before .before .before .before .before .inputs-of .result in
+    let is = digits-refused (a .operation) (a .table .now) (a .first .now) (a .second .now) row (held (c .before .before .before .before .before .before) .1) (a .places) (s .pre .1 .1 .1) (d .result .count) (d .ensures .0) (c .if1 .taken) in
+    (is, exit-lent (digitsOutcome (a .operation) (a .table .now) (a .first .now) (a .second .now)) author 27 (d .result .count) (a .out .now) (overwrite (a .out .now) 0 (resultRow (a .operation) (a .table .now) (a .first .now) (a .second .now))) is)
 
 array-share-prefix-digits : tie.Need-array-share-prefix-digits
 array-share-prefix-digits c =
-    let s = c .before .before .before .before .before .before .before .before .before .before .before .before in
-    omega (arith, long (c .before .before .before), s .pre .1 .1 .1, room s)
+    let s = c .before .before .before .before .before .before .before .before .before .before .before .before .before in
+    omega (arith, long (c .before .before .before .before), s .pre .1 .1 .1, room s)
 
 slice-aggregate-put : tie.Need-slice-aggregate-put
 slice-aggregate-put c =
-    let s = c .before .before .before .before .before .before .before .before .before .before .before .before .before in
-    sym (length-take-le (s .args .places) (c .before .before .before .before .digits-of .last .1 .1 .1 .1 .0) (omega (arith, long (c .before .before .before .before), s .pre .1 .1 .1, room s)))
+    let s = c .before .before .before .before .before .before .before .before .before .before .before .before .before .before in
+    sym (length-take-le (s .args .places) (c .before .before .before .before .before .digits-of .last .1 .1 .1 .1 .0) (omega (arith, long (c .before .before .before .before .before), s .pre .1 .1 .1, room s)))
 
 put-requires : tie.Need-put-requires
 put-requires c κs =
-    let s = c .before .before .before .before .before .before .before .before .before .before .before .before .before in
-    let taken = length-take-le (s .args .places) (c .before .before .before .before .digits-of .last .1 .1 .1 .1 .0) (omega (arith, long (c .before .before .before .before), s .pre .1 .1 .1, room s)) in
+    let s = c .before .before .before .before .before .before .before .before .before .before .before .before .before .before in
+    let taken = length-take-le (s .args .places) (c .before .before .before .before .before .digits-of .last .1 .1 .1 .1 .0) (omega (arith, long (c .before .before .before .before .before), s .pre .1 .1 .1, room s)) in
     omega (arith, taken, s .pre .1 .1 .1, s .pre .1 .0 .room)
 
 same-length : tie.Need-same-length
@@ -94,18 +94,18 @@ same-length c = search needs
 
 returns-2 : tie.Need-returns-2
 returns-2 c =
-    let s = c .before .before .before .before .before .before .before .before .before .before .before .before .before .before .before .before in
+    let s = c .before .before .before .before .before .before .before .before .before .before .before .before .before .before .before .before .before in
     let a = s .args in
-    let d = c .before .before .before .before .before .before .before .digits-of in
-    let inputs = c .before .before .before .before .before .before .before .before .before .before .inputs-of .result in
-    let row = held (c .before .before .before .before .before .before .before .before .before .before) .1 in
+    let d = c .before .before .before .before .before .before .before .before .digits-of in
+    let inputs = c .before .before .before .before .before .before .before .before .before .before .before .inputs-of .result in
+    let row = held (c .before .before .before .before .before .before .before .before .before .before .before) .1 in
     let none = c .before .before .before .before .before .if1 .left in
-    let is = digits-given (a .operation) (a .table .now) (a .first .now) (a .second .now) inputs row (a .places) (s .pre .1 .1 .1) (d .result) (d .ensures .0) none in
-    let found = digits-found (a .operation) (a .table .now) (a .first .now) (a .second .now) inputs row (a .places) (s .pre .1 .1 .1) (d .result) (d .ensures .0) (replicate 264 0) none in
-    let bytes = ap (take (a .places)) (d .ensures .1) ∙ found in
+    let is = digits-given (a .operation) (a .table .now) (a .first .now) (a .second .now) inputs row (a .places) (s .pre .1 .1 .1) (d .result .count) (d .ensures .0) (d .result .reach) (d .ensures .1 .0) none in
+    let found = digits-found (a .operation) (a .table .now) (a .first .now) (a .second .now) inputs row (a .places) (s .pre .1 .1 .1) (d .result .count) (d .ensures .0) (replicate 264 0) none in
+    let bytes = ap (take (a .places)) (d .ensures .1 .1) ∙ found in
     let outcome = digitsOutcome (a .operation) (a .table .now) (a .first .now) (a .second .now) in
     let written = overwrite (a .out .now) 0 (resultRow (a .operation) (a .table .now) (a .first .now) (a .second .now)) in
-    (is, c .before .before .put .ensures .1 ∙ ap (overwrite (a .out .now) 0) bytes ∙ exit-written outcome (record { places = a .places }) (a .out .now) written is)
+    (is, c .before .before .put .ensures .1 ∙ ap (overwrite (a .out .now) 0) bytes ∙ exit-written outcome (record { places = a .places; reach = d .result .reach }) (a .out .now) written is)
 
 pub write-digits-spec : {M : Type 1} → statement M
 write-digits-spec =

@@ -1,37 +1,26 @@
--- The three words, as they were stored.
+-- The word that says whose fault it is goes on as it was given.
 use mir.ValLaws.{toZ-ofZ}
 use mir.Syntax.{w64}
+use mathlib.Core.List.{[], _∷_}
 use mathlib.Core.Path.{refl, ap, _∙_}
-use Rattle.lists.proofs.Cons.{cons≡}
+use lib.IntN.{ℤ}
 use Rattle.lists.specs.Overwrite.{overwrite}
-use Rattle.answer_rules.proofs.Bits.{kept}
+use Rattle.answer_rules.specs.Word.{wordOf}
 use borrow.Author.Needs.{needs}
 use Rattle.answer_words.proofs.put_fault.Statement.{statement}
 use Rattle.answer_words.proofs.put_fault.Tie as tie
 
-word-requires : tie.Need-word-requires
-word-requires c κs = search needs
-
-word-requires-2 : tie.Need-word-requires-2
-word-requires-2 c κs = search needs
-
-slice-aggregate-put : tie.Need-slice-aggregate-put
-slice-aggregate-put c = search needs
-
-put-requires : tie.Need-put-requires
-put-requires c κs = search needs
+put-three-requires : tie.Need-put-three-requires
+put-three-requires c κs = search needs
 
 same-length : tie.Need-same-length
 same-length c = search needs
 
 returns : tie.Need-returns
 returns c =
-    let a = c .before .before .before .before .before .before .args in
-    let s = c .before .before .before .before in
-    let t = c .before .before .before in
-    (refl, c .before .put .ensures ∙ ap (overwrite (a .answer .now) 0) (cons≡ (toZ-ofZ w64 (a .whose) (c .before .before .before .before .before .before .fits .whose)) (cons≡ (kept (s .word .result) (a .number) (s .word .ok) (s .word .ensures)) (cons≡ (kept (t .word2 .result) (a .place) (t .word2 .ok) (t .word2 .ensures)) refl))))
+    let s = c .before .before .before in
+    let a = s .args in
+    (refl, c .before .put-three .ensures ∙ ap (λ (whose : ℤ). overwrite (a .answer .now) 0 (whose ∷ wordOf (a .number) ∷ wordOf (a .place) ∷ [])) (toZ-ofZ w64 (a .whose) (s .fits .whose)))
 
 pub put-fault-spec : {M : Type 1} → statement M
-put-fault-spec =
-    tie.close
-    (tie.spec word-requires word-requires-2 slice-aggregate-put put-requires same-length returns)
+put-fault-spec = tie.close (tie.spec put-three-requires same-length returns)

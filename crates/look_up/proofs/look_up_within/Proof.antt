@@ -1,4 +1,5 @@
 -- The part is searched where it must have the leaf, else all leaves are.
+use Rattle.look_up.proofs.Search.{with-length-found}
 use Rattle.look_up.specs.Search.{Between}
 use Rattle.leaf_rules.specs.Leaf.{codeOf}
 use native.Mathlib.Omega.{arith}
@@ -8,30 +9,29 @@ use borrow.Author.Needs.{needs}
 use Rattle.look_up.proofs.look_up_within.Statement.{statement}
 use Rattle.look_up.proofs.look_up_within.Tie as tie
 
--- src/lib.rt:214:8
 is-between-requires : tie.Need-is-between-requires
 is-between-requires c κs = search needs
 
--- src/lib.rt:215:57
 sub-search-part : tie.Need-sub-search-part
 sub-search-part c = omega (arith, c .before .before .is-between .ensures (c .before .if1 .taken) .rising)
 
--- src/lib.rt:215:9
 search-part-requires : tie.Need-search-part-requires
 search-part-requires c κs =
     let at = c .before .before .is-between .ensures (c .before .if1 .taken) in
     let all : c .before .before .before .before .before .before .args .high ≡ c .before .before .before .before .before .before .args .low + (c .before .before .before .before .before .before .args .high - c .before .before .before .before .before .before .args .low) = omega (arith, at .rising) in
     subst (Between (codeOf (c .before .before .before .before .before .before .args .leaves .now) (c .before .before .before .before .before .before .args .words .now)) _ (c .before .before .before .before .before .before .args .low)) all at
 
--- src/lib.rt:215:9
-returns : tie.Need-returns
-returns c = search needs
+with-length-requires : tie.Need-with-length-requires
+with-length-requires c κs = search needs
 
--- src/lib.rt:217:5
+returns : tie.Need-returns
+returns c =
+    let a = c .before .before .before .before .before .before .before .before .args in
+    with-length-found (a .leaves .now) (a .words .now) _ _ _ _ (c .before .search-part .ensures) (c .with-length .ensures .0) (c .with-length .ensures .1)
+
 look-up-requires : tie.Need-look-up-requires
 look-up-requires c κs = search needs
 
--- src/lib.rt:211:1
 returns-2 : tie.Need-returns-2
 returns-2 c = search needs
 
@@ -42,6 +42,7 @@ look-up-within-spec =
     is-between-requires
     sub-search-part
     search-part-requires
+    with-length-requires
     returns
     look-up-requires
     returns-2)

@@ -94,7 +94,7 @@ loop-holds c =
     let m = elementCount (s .args .inputs .now) in
     let u = s .args .upper in
     let window = c .before .tail-window .ensures ∙ ap (λ w. span (λ i. getD w i 0) 1 8) (c .before .before .before .word .ensures) in
-    let lowest = lowest-found leaves words m (s .pre .0 .1) (well s) u (s .pre .1 .0) (c .look-up-from .result) (subst (λ w. LookedUp (codeOf leaves words) w (c .look-up-from .result)) window (c .look-up-from .ensures)) in
+    let lowest = lowest-found leaves words m (s .pre .0 .1) (well s) u (s .pre .1 .0) (c .look-up-from .result .leaf) (subst (λ w. LookedUp (codeOf leaves words) w (c .look-up-from .result .leaf)) window (c .look-up-from .ensures .0)) in
     (omega (arith, lowest), λ matrix own. subst (λ (l : ℕ). (j : ℕ) → j < l → pairPasses (elements degree matrix) (recordAt (s .args .inputs .now)) (codeOf leaves words) (inAlphabet (s .args .alphabet .now)) u j ≡ true) (sym lowest) (upto-lowest leaves words m (s .pre .0 .1) (well s) u (s .pre .1 .0) matrix (s .args .inputs .now) (inAlphabet (s .args .alphabet .now))))
 
 word-requires-2 : tie.Need-word-requires-2 Inv-loop μ-loop

@@ -11,63 +11,48 @@ Inv-loop leaves words inputs starts₀ digit₀ starts digit = digit ≤ inputs
 abbrev μ-loop : tie.MeasureT-loop
 μ-loop leaves words inputs starts₀ digit₀ starts digit = inputs - digit
 
--- src/lib.rt:196:9
 returns : tie.Need-returns Inv-loop μ-loop
 returns c = tt
 
--- src/lib.rt:199:5
 loop-holds : tie.Need-loop-holds Inv-loop μ-loop
 loop-holds c = omega arith
 
--- src/lib.rt:200:52
 cast-t9 : tie.Need-cast-t9 Inv-loop μ-loop
 cast-t9 c = omega (arith, c .before .before .if1 .left)
 
--- src/lib.rt:200:13
 look-up-requires : tie.Need-look-up-requires Inv-loop μ-loop
 look-up-requires c κs = tt
 
--- src/lib.rt:201:25
 cast-starts : tie.Need-cast-starts Inv-loop μ-loop
 cast-starts c = search needs
 
--- src/lib.rt:201:9
 mul-starts : tie.Need-mul-starts Inv-loop μ-loop
 mul-starts c = search needs
 
--- src/lib.rt:201:9
 array-write-starts : tie.Need-array-write-starts Inv-loop μ-loop
-array-write-starts c = omega (arith, c .before .before .before .if1 .left)
+array-write-starts c = omega (arith, c .before .before .before .before .if1 .left)
 
--- src/lib.rt:202:9
 add-digit : tie.Need-add-digit Inv-loop μ-loop
-add-digit c = omega (arith, c .before .before .before .if1 .left)
+add-digit c = omega (arith, c .before .before .before .before .if1 .left)
 
--- src/lib.rt:199:5
 loop-less : tie.Need-loop-less Inv-loop μ-loop
 loop-less c = omega arith
 
--- src/lib.rt:199:5
 loop-again : tie.Need-loop-again Inv-loop μ-loop
 loop-again c = omega arith
 
--- src/lib.rt:204:23
 leaf-count-requires : tie.Need-leaf-count-requires Inv-loop μ-loop
 leaf-count-requires c κs = tt
 
--- src/lib.rt:204:22
 cast-starts-2 : tie.Need-cast-starts-2 Inv-loop μ-loop
 cast-starts-2 c = search needs
 
--- src/lib.rt:204:5
 mul-starts-2 : tie.Need-mul-starts-2 Inv-loop μ-loop
 mul-starts-2 c = search needs
 
--- src/lib.rt:204:5
 array-write-starts-2 : tie.Need-array-write-starts-2 Inv-loop μ-loop
 array-write-starts-2 c = omega (arith, c .before .before .before .if1 .left)
 
--- src/lib.rt:192:1
 returns-2 : tie.Need-returns-2 Inv-loop μ-loop
 returns-2 c = tt
 

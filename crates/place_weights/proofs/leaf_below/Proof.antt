@@ -1,46 +1,46 @@
--- The guessed leaf where it begins the window, else the one that the search finds: either has the weight into the place.
-use Rattle.place_rules.proofs.Place.{weight-begun, weight-found}
+-- The guessed leaf where it begins the window, which is counted already, else the one that the search finds.
+use Rattle.place_rules.proofs.Place.{leaf-begun, leaf-found}
 use Rattle.leaf_rules.specs.Window.{LookedUp}
-use Rattle.leaf_rules.specs.Leaf.{codeOf}
-use mathlib.Core.Path.{subst}
+use Rattle.leaf_rules.specs.Leaf.{leafCount, codeOf}
+use Prim.Native.Nat.{_<_, max}
+use mathlib.Core.Path.{refl, ap, subst, _∙_}
 use native.Mathlib.Omega.{arith}
 use borrow.Author.Needs.{needs}
 use Rattle.place_weights.proofs.leaf_below.Statement.{statement}
 use Rattle.place_weights.proofs.leaf_below.Tie as tie
 
--- src/lib.rt:158:15
 leaf-count-requires : tie.Need-leaf-count-requires
 leaf-count-requires c κs = search needs
 
--- src/lib.rt:159:12
 begins-below-requires : tie.Need-begins-below-requires
 begins-below-requires c κs = search needs
 
--- src/lib.rt:160:13
 returns : tie.Need-returns
 returns c =
-    let a = c .before .before .before .before .before .before .before .args in
-    let pre = c .before .before .before .before .before .before .before .pre in
-    weight-begun (a .leaves .now) (a .words .now) (a .row .now) (pre .0) (a .place) (a .guess) (omega (arith, c .before .before .before .leaf-count .ensures, c .before .before .if1 .taken))
-    (c .before .begins-below .ensures (c .if2 .taken))
+    let s = c .before .before .before .before .before .before .before in
+    let a = s .args in
+    let listed : a .guess < leafCount (a .leaves .now) = omega (arith, c .before .before .before .leaf-count .ensures, c .before .before .if1 .taken) in
+    (leaf-begun (a .leaves .now) (a .words .now) (a .row .now) (s .pre .0) (a .place) (a .guess) _ listed (c .before .begins-below .ensures (c .if2 .taken)) refl, omega (arith, s .pre .2 listed))
 
--- src/lib.rt:166:9
 window-below-requires : tie.Need-window-below-requires
 window-below-requires c κs = search needs
 
--- src/lib.rt:163:5
 look-up-within-requires : tie.Need-look-up-within-requires
 look-up-within-requires c κs = search needs
 
--- src/lib.rt:144:1
+greatest-requires : tie.Need-greatest-requires
+greatest-requires c κs = search needs
+
 returns-2 : tie.Need-returns-2
 returns-2 c =
-    let a = c .before .before .before .before .before .before .before .args in
+    let s = c .before .before .before .before .before .before .before .before in
+    let a = s .args in
     let leaves = a .leaves .now in
     let words = a .words .now in
-    let pre = c .before .before .before .before .before .before .before .pre in
-    weight-found leaves words (a .row .now) (pre .0) (a .place) (c .look-up-within .result)
-    (subst (λ w. LookedUp (codeOf leaves words) w (c .look-up-within .result)) (c .before .window-below .ensures) (c .look-up-within .ensures))
+    let found = c .before .look-up-within in
+    let is = leaf-found leaves words (a .row .now) (s .pre .0) (a .place) (found .result .leaf) (found .result .length)
+    (subst (λ w. LookedUp (codeOf leaves words) w (found .result .leaf)) (c .before .before .window-below .ensures) (found .ensures .0)) (found .ensures .1) in
+    (record { is-leaf = is .is-leaf; is-size = refl; listed = is .listed }, c .greatest .ensures ∙ ap (max (a .reach)) (is .is-size))
 
 pub leaf-below-spec : {M : Type 1} → statement M
 leaf-below-spec =
@@ -51,4 +51,5 @@ leaf-below-spec =
     returns
     window-below-requires
     look-up-within-requires
+    greatest-requires
     returns-2)

@@ -1,10 +1,15 @@
--- Each turn writes the index of one digit and hands its weight on to the next place.
+-- Each turn writes the index of one digit, counts the length of the word looked up for it, and hands its weight on to the next place.
 use Rattle.places.proofs.Tried.{firsts-none}
-use Rattle.place_rules.proofs.Place.{window-first, index-from}
+use Rattle.place_rules.proofs.Place.{window-first, index-from, leaf-weight, leaf-size}
 use Rattle.places.proofs.Loop.{Converted, converted-start, converted-next, converted-here, converted-end}
 use Rattle.place_rules.specs.Place.{indexAt}
+use Rattle.place_rules.specs.Helpers.{Counted}
+use Rattle.place_rules.proofs.Counted.{counted-none}
 use Rattle.places.specs.Helpers.{Firsts}
+use Rattle.leaf_rules.specs.Leaf.{codeOf}
+use Rattle.numeration.specs.Conversion.{weightInto}
 use Rattle.numeration.proofs.Leaves.{getD-inputs}
+use Rattle.numeration.proofs.Reach.{reach-none}
 use Rattle.numeration.specs.Elements.{elements}
 use Rattle.digit_rules.specs.Record.{elementCount}
 use Rattle.layout_rules.specs.Section.{degree}
@@ -17,23 +22,30 @@ use Rattle.places.proofs.convert.Statement.{statement}
 use Rattle.places.proofs.convert.Tie as tie
 
 abbrev Inv-loop : tie.InvT-loop
-Inv-loop base alphabet inputs leaves words row from count out₀ size single ahead starts found₀ slots₀ below₀ k₀ out found slots below k =
-    Converted (elements degree base) alphabet inputs leaves words row from count out₀ out below k × Firsts alphabet slots
+Inv-loop base alphabet inputs leaves words row from count out₀ size single ahead starts found₀ slots₀ below₀ reach₀ k₀ out found slots below reach k =
+    Converted (elements degree base) alphabet inputs leaves words row from count out₀ out below reach k × Firsts alphabet slots × Counted leaves found reach
 
 abbrev μ-loop : tie.MeasureT-loop
-μ-loop base alphabet inputs leaves words row from count out₀ size single ahead starts found₀ slots₀ below₀ k₀ out found slots below k = count - k
+μ-loop base alphabet inputs leaves words row from count out₀ size single ahead starts found₀ slots₀ below₀ reach₀ k₀ out found slots below reach k = count - k
+
+-- the weight of this place
+own : (c : tie.After-weight2 Inv-loop μ-loop) →
+    (let a = c .before .before .before .before .before .before .before .before .before .before .before .before .before .before .before .before .before .before .before .before .before .args in
+    c .weight2 .result ≡ weightInto (codeOf (a .leaves .now) (a .words .now)) (a .row .now) (a .from + c .before .before .before .before .before .before .loop .k + 1))
+own c =
+    let a = c .before .before .before .before .before .before .before .before .before .before .before .before .before .before .before .before .before .before .before .before .before .args in
+    c .weight2 .ensures .0 ∙ leaf-weight (a .leaves .now) (a .words .now) (a .row .now) _ _ _ (c .before .leaf-tried .ensures .0)
 
 -- the digit at this place
 at : (c : tie.After-out-index Inv-loop μ-loop) →
-    (let a = c .before .before .before .before .before .before .before .before .before .before .before .before .before .before .before .before .before .before .before .before .args in
+    (let a = c .before .before .before .before .before .before .before .before .before .before .before .before .before .before .before .before .before .before .before .before .before .before .before .args in
     c .out-index .result ≡ indexAt (elements degree (a .base)) (a .alphabet .now) (a .inputs .now) (a .leaves .now) (a .words .now) (a .row .now)
-    (a .from + c .before .before .before .before .before .before .before .loop .k))
+    (a .from + c .before .before .before .before .before .before .before .before .loop .k))
 at c =
-    let a = c .before .before .before .before .before .before .before .before .before .before .before .before .before .before .before .before .before .before .before .before .args in
-    let loop = c .before .before .before .before .before .before .before .loop in
-    let byte-at = c .before .before .before .before .before .byte-at in
-    let weight-tried = c .before .before .weight-tried in
-    index-from (elements degree (a .base)) (a .alphabet .now) (a .inputs .now) (a .leaves .now) (a .words .now) (a .row .now) (a .from + loop .k) (byte-at .result) (c .out-index .result) (loop .below) (weight-tried .result) (byte-at .ensures) (loop .inv .0 .weight) (weight-tried .ensures .0) (c .out-index .ensures .0)
+    let a = c .before .before .before .before .before .before .before .before .before .before .before .before .before .before .before .before .before .before .before .before .before .before .before .args in
+    let loop = c .before .before .before .before .before .before .before .before .loop in
+    let byte-at = c .before .before .before .before .before .before .byte-at in
+    index-from (elements degree (a .base)) (a .alphabet .now) (a .inputs .now) (a .leaves .now) (a .words .now) (a .row .now) (a .from + loop .k) (byte-at .result) (c .out-index .result) (loop .below) (c .before .before .weight2 .result) (byte-at .ensures) (loop .inv .0 .weight) (own (c .before .before)) (c .out-index .ensures .0)
 
 record-count-requires : tie.Need-record-count-requires Inv-loop μ-loop
 record-count-requires c κs = lit< tt
@@ -50,91 +62,105 @@ digits-ahead-requires c κs = tt
 first-leaves-requires : tie.Need-first-leaves-requires Inv-loop μ-loop
 first-leaves-requires c κs = tt
 
-weight-into-requires : tie.Need-weight-into-requires Inv-loop μ-loop
-weight-into-requires c κs = c .before .before .before .before .before .before .before .before .before .before .before .pre .4
+leaf-into-requires : tie.Need-leaf-into-requires Inv-loop μ-loop
+leaf-into-requires c κs = c .before .before .before .before .before .before .before .before .before .before .before .pre .4
+
+weight-requires : tie.Need-weight-requires Inv-loop μ-loop
+weight-requires c κs = tt
+
+reach-below-requires : tie.Need-reach-below-requires Inv-loop μ-loop
+reach-below-requires c κs = tt
 
 loop-holds : tie.Need-loop-holds Inv-loop μ-loop
 loop-holds c =
-    let a = c .before .before .before .before .before .before .before .before .before .before .before .before .args in
-    (converted-start (elements degree (a .base)) (a .alphabet .now) (a .inputs .now) (a .leaves .now) (a .words .now) (a .row .now) (a .from) (a .count) (a .out .now) (c .weight-into .result) (c .weight-into .ensures .0) (c .weight-into .ensures .1), firsts-none (a .alphabet .now) 256)
+    let a = c .before .before .before .before .before .before .before .before .before .before .before .before .before .before .args in
+    let leaves = a .leaves .now in
+    let words = a .words .now in
+    let row = a .row .now in
+    let weight = c .before .weight in
+    let lowest = c .before .before .leaf-into .ensures in
+    let reach = c .reach-below in
+    let below = reach-none (codeOf leaves words) row (a .from) (reach .result) (reach .ensures .0) (λ some. reach .ensures .1 some ∙ leaf-size leaves words row _ _ _ lowest) in
+    (converted-start (elements degree (a .base)) (a .alphabet .now) (a .inputs .now) leaves words row (a .from) (a .count) (a .out .now) (weight .result) (reach .result) (weight .ensures .0 ∙ leaf-weight leaves words row _ _ _ lowest) (weight .ensures .1) below, firsts-none (a .alphabet .now) 256, counted-none leaves 65535 (reach .result) (omega (arith, c .before .before .before .before .before .before .before .before .before .before .before .before .before .before .pre .7)))
 
 add-byte-at : tie.Need-add-byte-at Inv-loop μ-loop
-add-byte-at c = omega (arith, c .before .before .before .before .before .before .before .before .before .before .before .before .before .before .pre .5)
+add-byte-at c = omega (arith, c .before .before .before .before .before .before .before .before .before .before .before .before .before .before .before .before .pre .5)
 
 byte-at-requires : tie.Need-byte-at-requires Inv-loop μ-loop
 byte-at-requires c κs = tt
 
-add-weight-tried : tie.Need-add-weight-tried Inv-loop μ-loop
-add-weight-tried c = omega (arith, c .before .before .before .before .before .before .before .before .before .before .before .before .before .before .before .pre .5)
+add-leaf-tried : tie.Need-add-leaf-tried Inv-loop μ-loop
+add-leaf-tried c = omega (arith, c .before .before .before .before .before .before .before .before .before .before .before .before .before .before .before .before .before .pre .5)
 
-add-weight-tried-2 : tie.Need-add-weight-tried-2 Inv-loop μ-loop
-add-weight-tried-2 c = omega (arith, c .before .before .before .before .before .before .before .before .before .before .before .before .before .before .before .pre .5)
+add-leaf-tried-2 : tie.Need-add-leaf-tried-2 Inv-loop μ-loop
+add-leaf-tried-2 c = omega (arith, c .before .before .before .before .before .before .before .before .before .before .before .before .before .before .before .before .before .pre .5)
 
-weight-tried-requires : tie.Need-weight-tried-requires Inv-loop μ-loop
-weight-tried-requires c κs =
-    let a = c .before .before .before .before .before .before .before .before .before .before .before .before .before .before .before .before .before .args in
-    let pre = c .before .before .before .before .before .before .before .before .before .before .before .before .before .before .before .before .before .pre in
+leaf-tried-requires : tie.Need-leaf-tried-requires Inv-loop μ-loop
+leaf-tried-requires c κs =
+    let s = c .before .before .before .before .before .before .before .before .before .before .before .before .before .before .before .before .before .before .before in
     let loop = c .before .before .before .before .loop in
-    (pre .4, c .before .before .byte-at .ensures ∙ window-first (a .row .now) (a .from + loop .k))
+    ((s .pre .4, c .before .before .byte-at .ensures ∙ window-first (s .args .row .now) (s .args .from + loop .k)), (s .pre .7, loop .inv .2))
+
+weight-requires-2 : tie.Need-weight-requires-2 Inv-loop μ-loop
+weight-requires-2 c κs = tt
 
 cast-input : tie.Need-cast-input Inv-loop μ-loop
 cast-input c = search needs
 
 out-index-requires : tie.Need-out-index-requires Inv-loop μ-loop
 out-index-requires c κs =
-    let a = c .before .before .before .before .before .before .before .before .before .before .before .before .before .before .before .before .before .before .before .args in
-    let pre = c .before .before .before .before .before .before .before .before .before .before .before .before .before .before .before .before .before .before .before .pre in
-    let loop = c .before .before .before .before .before .before .loop in
-    let byte-at = c .before .before .before .before .byte-at in (
+    let a = c .before .before .before .before .before .before .before .before .before .before .before .before .before .before .before .before .before .before .before .before .before .before .args in
+    let pre = c .before .before .before .before .before .before .before .before .before .before .before .before .before .before .before .before .before .before .before .before .before .before .pre in
+    let loop = c .before .before .before .before .before .before .before .loop in
+    let byte-at = c .before .before .before .before .before .byte-at in (
       (
         pre .0,
         subst (λ (n : ℕ). n < elementCount (a .inputs .now)) (sym (byte-at .ensures)) (getD-inputs (elementCount (a .inputs .now)) (a .row .now) (pre .2) (pre .3) (a .from + loop .k)),
         loop .inv .0 .small,
-        c .before .weight-tried .ensures .1,
+        c .before .weight2 .ensures .1,
       ),
       (pre .1, loop .inv .1),
     )
 
 same-length : tie.Need-same-length Inv-loop μ-loop
-same-length c = c .before .before .before .before .before .before .before .before .loop .inv .0 .long
+same-length c = c .before .before .before .before .before .before .before .before .before .loop .inv .0 .long
 
 returns : tie.Need-returns Inv-loop μ-loop
 returns c =
-    let a = c .before .before .before .before .before .before .before .before .before .before .before .before .before .before .before .before .before .before .before .before .before .args in
-    let record-count = c .before .before .before .before .before .before .before .before .before .before .before .before .before .before .record-count in
-    let loop = c .before .before .before .before .before .before .before .before .loop in
-    let loop-test = c .before .before .before .before .before .before .before .loop-test in
-    converted-here (elements degree (a .base)) (a .alphabet .now) (a .inputs .now) (a .leaves .now) (a .words .now) (a .row .now) (a .from) (a .count) (a .out .now) (loop .out) (loop .below) (loop .k) (loop .inv .0) (c .before .out-index .result) (loop-test .taken) (at (c .before)) (subst (λ (n : ℕ). n ≤ c .before .out-index .result) (record-count .ensures) (c .if1 .taken))
+    let a = c .before .before .before .before .before .before .before .before .before .before .before .before .before .before .before .before .before .before .before .before .before .before .before .before .args in
+    let loop = c .before .before .before .before .before .before .before .before .before .loop in
+    converted-here (elements degree (a .base)) (a .alphabet .now) (a .inputs .now) (a .leaves .now) (a .words .now) (a .row .now) (a .from) (a .count) (a .out .now) (loop .out) (loop .below) (loop .reach) (loop .k) (loop .inv .0) (c .before .out-index .result) (c .before .before .before .before .before .before .before .before .loop-test .taken) (at (c .before)) (subst (λ (n : ℕ). n ≤ c .before .out-index .result) (c .before .before .before .before .before .before .before .before .before .before .before .before .before .before .before .before .before .record-count .ensures) (c .if1 .taken))
 
 cast-out : tie.Need-cast-out Inv-loop μ-loop
 cast-out c =
-    let a = c .before .before .before .before .before .before .before .before .before .before .before .before .before .before .before .before .before .before .before .before .before .args in
-    let pre = c .before .before .before .before .before .before .before .before .before .before .before .before .before .before .before .before .before .before .before .before .before .pre in
-    let record-count = c .before .before .before .before .before .before .before .before .before .before .before .before .before .before .record-count in
-    let size : record-count .result ≡ elementCount (a .alphabet .now) = record-count .ensures in
-    omega (arith, pre .1, c .if1 .left)
+    let record-count = c .before .before .before .before .before .before .before .before .before .before .before .before .before .before .before .before .before .record-count in
+    let size : record-count .result ≡ elementCount (c .before .before .before .before .before .before .before .before .before .before .before .before .before .before .before .before .before .before .before .before .before .before .before .before .args .alphabet .now) = record-count .ensures in
+    omega (arith, c .before .before .before .before .before .before .before .before .before .before .before .before .before .before .before .before .before .before .before .before .before .before .before .before .pre .1, c .if1 .left)
 
 slice-write-out : tie.Need-slice-write-out Inv-loop μ-loop
-slice-write-out c = omega (arith, c .before .before .before .before .before .before .before .before .before .before .before .before .before .before .before .before .before .before .before .before .before .pre .6, c .before .before .before .before .before .before .before .before .loop .inv .0 .long)
+slice-write-out c = omega (arith, c .before .before .before .before .before .before .before .before .before .before .before .before .before .before .before .before .before .before .before .before .before .before .before .before .pre .6, c .before .before .before .before .before .before .before .before .before .loop .inv .0 .long)
 
 add-k : tie.Need-add-k Inv-loop μ-loop
-add-k c = omega (arith, c .before .before .before .before .before .before .before .before .before .before .before .before .before .before .before .before .before .before .before .before .before .pre .5)
+add-k c = omega (arith, c .before .before .before .before .before .before .before .before .before .before .before .before .before .before .before .before .before .before .before .before .before .before .before .before .pre .5)
 
 loop-less : tie.Need-loop-less Inv-loop μ-loop
 loop-less c = omega arith
 
 loop-again : tie.Need-loop-again Inv-loop μ-loop
 loop-again c =
-    let a = c .before .before .before .before .before .before .before .before .before .before .before .before .before .before .before .before .before .before .before .before .before .args in
-    let pre = c .before .before .before .before .before .before .before .before .before .before .before .before .before .before .before .before .before .before .before .before .before .pre in
-    let record-count = c .before .before .before .before .before .before .before .before .before .before .before .before .before .before .record-count in
-    let loop = c .before .before .before .before .before .before .before .before .loop in
-    let loop-test = c .before .before .before .before .before .before .before .loop-test in
-    let weight-tried = c .before .before .before .weight-tried in (
-      converted-next (elements degree (a .base)) (a .alphabet .now) (a .inputs .now) (a .leaves .now) (a .words .now) (a .row .now) (a .from) (a .count) (a .out .now) (loop .out)
-          (loop .below) (loop .k) (loop .inv .0) (weight-tried .result) (c .before .out-index .result) (loop-test .taken) (pre .6) (at (c .before))
-          (subst (λ (n : ℕ). c .before .out-index .result < n) (record-count .ensures) (c .if1 .left)) (weight-tried .ensures .0) (weight-tried .ensures .1),
-      c .before .out-index .ensures .1,
+    let a = c .before .before .before .before .before .before .before .before .before .before .before .before .before .before .before .before .before .before .before .before .before .before .before .before .args in
+    let leaves = a .leaves .now in
+    let words = a .words .now in
+    let row = a .row .now in
+    let loop = c .before .before .before .before .before .before .before .before .before .loop in
+    let out-index = c .before .out-index in
+    let leaf-tried = c .before .before .before .before .leaf-tried in
+    let weight = c .before .before .before .weight2 in (
+      converted-next (elements degree (a .base)) (a .alphabet .now) (a .inputs .now) leaves words row (a .from) (a .count) (a .out .now) (loop .out) (loop .below) (loop .reach) (loop .k)
+          (loop .inv .0) (weight .result) (out-index .result) _ (leaf-tried .result .reach) (c .before .before .before .before .before .before .before .before .loop-test .taken) (c .before .before .before .before .before .before .before .before .before .before .before .before .before .before .before .before .before .before .before .before .before .before .before .before .pre .6) (at (c .before))
+          (subst (λ (n : ℕ). out-index .result < n) (c .before .before .before .before .before .before .before .before .before .before .before .before .before .before .before .before .before .record-count .ensures) (c .if1 .left)) (own (c .before .before .before)) (weight .ensures .1) (leaf-size leaves words row _ _ _ (leaf-tried .ensures .0)) (leaf-tried .ensures .1 .0),
+      out-index .ensures .1,
+      leaf-tried .ensures .1 .1,
     )
 
 same-length-2 : tie.Need-same-length-2 Inv-loop μ-loop
@@ -142,8 +168,9 @@ same-length-2 c = c .before .loop .inv .0 .long
 
 returns-2 : tie.Need-returns-2 Inv-loop μ-loop
 returns-2 c =
-    let a = c .before .before .before .before .before .before .before .before .before .before .before .before .before .before .args in
-    converted-end (elements degree (a .base)) (a .alphabet .now) (a .inputs .now) (a .leaves .now) (a .words .now) (a .row .now) (a .from) (a .count) (a .out .now) (c .before .loop .out) (c .before .loop .below) (c .before .loop .k) (c .before .loop .inv .0) (c .loop-test .left)
+    let a = c .before .before .before .before .before .before .before .before .before .before .before .before .before .before .before .before .args in
+    let loop = c .before .loop in
+    converted-end (elements degree (a .base)) (a .alphabet .now) (a .inputs .now) (a .leaves .now) (a .words .now) (a .row .now) (a .from) (a .count) (a .out .now) (loop .out) (loop .below) (loop .reach) (loop .k) (loop .inv .0) (c .loop-test .left)
 
 pub convert-spec : {M : Type 1} → statement M
 convert-spec =
@@ -156,13 +183,16 @@ convert-spec =
     record-count-requires-2
     digits-ahead-requires
     first-leaves-requires
-    weight-into-requires
+    leaf-into-requires
+    weight-requires
+    reach-below-requires
     loop-holds
     add-byte-at
     byte-at-requires
-    add-weight-tried
-    add-weight-tried-2
-    weight-tried-requires
+    add-leaf-tried
+    add-leaf-tried-2
+    leaf-tried-requires
+    weight-requires-2
     cast-input
     out-index-requires
     same-length

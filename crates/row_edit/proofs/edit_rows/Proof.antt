@@ -7,8 +7,8 @@ use lib.ListN.{length, take, length-replicate}
 use lib.Seq.{length-take-le}
 use Rattle.faults.specs.Outcome.{author}
 use Rattle.adder_rules.specs.Add.{rowPart}
-use Rattle.edit_rules.specs.State.{State, state, newInputs, reach}
-use Rattle.edit_rules.proofs.Renewed.{renew-given, renew-lent, renew-written, lent-long, sum-renewed, count-is, shallow, part-fits, bytes-asked, row-inputs, outside-found, none-outside, digits-found, digits-room}
+use Rattle.edit_rules.specs.State.{State, state, newInputs, renewedCount}
+use Rattle.edit_rules.proofs.Renewed.{renew-given, renew-lent, renew-written, lent-long, sum-renewed, count-is, shallow, part-fits, bytes-asked, row-inputs, outside-found, none-outside, reached, digits-found, digits-room}
 use borrow.Author.Needs.{needs}
 use Rattle.row_edit.proofs.edit_rows.Statement.{statement}
 use Rattle.row_edit.proofs.edit_rows.Tie as tie
@@ -32,11 +32,11 @@ long c =
     let part-start = c .before .before .before .before .before .before .before .part-start in
     let part-end = c .before .before .before .before .before .before .part-end in
     let inputs-of = c .before .before .before .inputs-of in
-    ap length (c .digits-of .ensures .1) ∙ digits-room (a .table .now) (a .change) (lent s) (pre .0) (pre .1 .0) (pre .1 .1 .0)
-    (part-start .result) (part-end .result) (a .depth) (pre .1 .1 .1) (part-start .ensures) (part-end .ensures .0) (part-end .ensures .1 .0) (part-end .ensures .1 .1) (inputs-of .result) (inputs-of .ensures) (c .digits-of .result) (c .digits-of .ensures .0) (replicate 9 0) (omega (arith, length-replicate {A = ℕ} 9 0, few s))
+    ap length (c .digits-of .ensures .1 .1) ∙ digits-room (a .table .now) (a .change) (lent s) (pre .0) (pre .1 .0) (pre .1 .1 .0)
+    (part-start .result) (part-end .result) (a .depth) (pre .1 .1 .1) (part-start .ensures) (part-end .ensures .0) (part-end .ensures .1 .0) (part-end .ensures .1 .1) (inputs-of .result) (inputs-of .ensures) (c .digits-of .result .count) (c .digits-of .ensures .0) (replicate 9 0) (omega (arith, length-replicate {A = ℕ} 9 0, few s))
     ∙ length-replicate {A = ℕ} 9 0
 
-found : (c : tie.After-digits-of) → (let s = c .before .before .before .before .before .before .before .before .before .before .before .before in let a = s .args in a .depth < c .digits-of .result → take (a .depth + 1) (c .digits-of .last .1 .1 .1 .1 .0) ≡ rowPart (a .table .now) (newInputs (a .table .now) (a .change) (lent s)) (a .change .place) (reach (a .table .now)))
+found : (c : tie.After-digits-of) → (let s = c .before .before .before .before .before .before .before .before .before .before .before .before in let a = s .args in a .depth < c .digits-of .result .count → take (a .depth + 1) (c .digits-of .last .1 .1 .1 .1 .0) ≡ rowPart (a .table .now) (newInputs (a .table .now) (a .change) (lent s)) (a .change .place) (renewedCount (a .table .now)))
 found c h =
     let s = c .before .before .before .before .before .before .before .before .before .before .before .before in
     let a = s .args in
@@ -44,8 +44,8 @@ found c h =
     let part-start = c .before .before .before .before .before .before .before .part-start in
     let part-end = c .before .before .before .before .before .before .part-end in
     let inputs-of = c .before .before .before .inputs-of in
-    ap (take (a .depth + 1)) (c .digits-of .ensures .1) ∙ digits-found (a .table .now) (a .change) (lent s) (pre .0) (pre .1 .0) (pre .1 .1 .0)
-    (part-start .result) (part-end .result) (a .depth) (pre .1 .1 .1) (part-start .ensures) (part-end .ensures .0) (part-end .ensures .1 .0) (part-end .ensures .1 .1) (inputs-of .result) (inputs-of .ensures) (c .digits-of .result) (c .digits-of .ensures .0) (replicate 9 0) h
+    ap (take (a .depth + 1)) (c .digits-of .ensures .1 .1) ∙ digits-found (a .table .now) (a .change) (lent s) (pre .0) (pre .1 .0) (pre .1 .1 .0)
+    (part-start .result) (part-end .result) (a .depth) (pre .1 .1 .1) (part-start .ensures) (part-end .ensures .0) (part-end .ensures .1 .0) (part-end .ensures .1 .1) (inputs-of .result) (inputs-of .ensures) (c .digits-of .result .count) (c .digits-of .ensures .0) (replicate 9 0) h
 
 part-start-requires : tie.Need-part-start-requires
 part-start-requires c κs = search needs
@@ -100,25 +100,25 @@ same-length-2 c = search needs
 
 returns : tie.Need-returns
 returns c =
-    let s = c .before .before .before .before .before .before .before .before .before .before .before .before .before .before in
+    let s = c .before .before .before .before .before .before .before .before .before .before .before .before .before .before .before .before in
     let a = s .args in
     let pre = s .pre in
-    let part-start = c .before .before .before .before .before .before .before .before .before .part-start in
-    let part-end = c .before .before .before .before .before .before .before .before .part-end in
-    let inputs-of = c .before .before .before .before .before .inputs-of in
-    let digits-of = c .before .before .digits-of in
+    let part-start = c .before .before .before .before .before .before .before .before .before .before .before .part-start in
+    let part-end = c .before .before .before .before .before .before .before .before .before .before .part-end in
+    let inputs-of = c .before .before .before .before .before .before .before .inputs-of in
+    let digits-of = c .before .before .before .before .digits-of in
     let is = outside-found (a .table .now) (a .change) (lent s) (pre .0) (pre .1 .0) (pre .1 .1 .0)
-    (part-start .result) (part-end .result) (a .depth) (pre .1 .1 .1) (part-start .ensures) (part-end .ensures .0) (part-end .ensures .1 .0) (part-end .ensures .1 .1) (inputs-of .result) (inputs-of .ensures) (digits-of .result) (digits-of .ensures .0) (c .if1 .taken) in
-    (is, renew-lent (a .table .now) (a .change) (lent s) author 27 (a .change .place + digits-of .result) is)
+    (part-start .result) (part-end .result) (a .depth) (pre .1 .1 .1) (part-start .ensures) (part-end .ensures .0) (part-end .ensures .1 .0) (part-end .ensures .1 .1) (inputs-of .result) (inputs-of .ensures) (digits-of .result .count) (digits-of .ensures .0) (c .before .if1 .taken) in
+    (is, renew-lent (a .table .now) (a .change) (lent s) author 27 (a .change .place + digits-of .result .count) is)
 
 store-requires : tie.Need-store-requires
 store-requires c κs = search needs
 
 add-renew : tie.Need-add-renew
-add-renew c = search needs
+add-renew c = let s = c .before .before .before .before .before .before .before .before .before .before .before .before .before .before .before .before .before .before .before .before .before .before in omega (arith, few s, s .pre .1 .1 .0 .in-row, s .pre .1 .0 .short)
 
 add-renew-2 : tie.Need-add-renew-2
-add-renew-2 c = search needs
+add-renew-2 c = let s = c .before .before .before .before .before .before .before .before .before .before .before .before .before .before .before .before .before .before .before .before .before .before in omega (arith, few s, s .pre .1 .1 .0 .in-row, s .pre .1 .0 .short)
 
 sub-renew : tie.Need-sub-renew
 sub-renew c = search needs
@@ -127,33 +127,36 @@ part-renew-start : tie.Need-part-renew-start
 part-renew-start c = search needs
 
 part-renew-end : tie.Need-part-renew-end
-part-renew-end c = search needs
+part-renew-end c =
+    let s = c .before .before .before .before .before .before .before .before .before .before .before .before .before .before .before .before .before .before .before .before .before .before in
+    let pre = s .pre in
+    omega (arith, pre .1 .1 .1, part-fits (s .args .table .now) (s .args .change) (lent s) (pre .0) (pre .1 .0) (pre .1 .1 .0))
 
 add-digits : tie.Need-add-digits
 add-digits c = search needs
 
 array-share-prefix-digits : tie.Need-array-share-prefix-digits
 array-share-prefix-digits c =
-    let s = c .before .before .before .before .before .before .before .before .before .before .before .before .before .before .before .before .before .before .before .before .before .before in
+    let s = c .before .before .before .before .before .before .before .before .before .before .before .before .before .before .before .before .before .before .before .before .before .before .before in
     let pre = s .pre in
-    omega (arith, long (c .before .before .before .before .before .before .before .before .before .before), few s)
+    omega (arith, long (c .before .before .before .before .before .before .before .before .before .before .before), few s)
 
 slice-aggregate-renew : tie.Need-slice-aggregate-renew
 slice-aggregate-renew c =
-    let s = c .before .before .before .before .before .before .before .before .before .before .before .before .before .before .before .before .before .before .before .before .before .before .before in
+    let s = c .before .before .before .before .before .before .before .before .before .before .before .before .before .before .before .before .before .before .before .before .before .before .before .before in
     let a = s .args in
     let pre = s .pre in
-    sym (length-take-le (a .depth + 1) (c .before .before .before .before .before .before .before .before .before .before .before .digits-of .last .1 .1 .1 .1 .0) (omega (arith, long (c .before .before .before .before .before .before .before .before .before .before .before), few s)))
+    sym (length-take-le (a .depth + 1) (c .before .before .before .before .before .before .before .before .before .before .before .before .digits-of .last .1 .1 .1 .1 .0) (omega (arith, long (c .before .before .before .before .before .before .before .before .before .before .before .before), few s)))
 
 renew-requires : tie.Need-renew-requires
 renew-requires c κs =
-    let s = c .before .before .before .before .before .before .before .before .before .before .before .before .before .before .before .before .before .before .before .before .before .before .before in
+    let s = c .before .before .before .before .before .before .before .before .before .before .before .before .before .before .before .before .before .before .before .before .before .before .before .before in
     let a = s .args in
     let pre = s .pre in
     omega (
       arith,
       pre .1 .1 .1,
-      length-take-le (a .depth + 1) (c .before .before .before .before .before .before .before .before .before .before .before .digits-of .last .1 .1 .1 .1 .0) (omega (arith, long (c .before .before .before .before .before .before .before .before .before .before .before), few s)),
+      length-take-le (a .depth + 1) (c .before .before .before .before .before .before .before .before .before .before .before .before .digits-of .last .1 .1 .1 .1 .0) (omega (arith, long (c .before .before .before .before .before .before .before .before .before .before .before .before), few s)),
       lent-long (a .table .now) (a .change) (lent s)
           (part-fits (a .table .now) (a .change) (lent s) (pre .0) (pre .1 .0) (pre .1 .1 .0)) (a .depth) (pre .1 .1 .1),
     )
@@ -169,26 +172,29 @@ same-length-5 c = search needs
 
 returns-2 : tie.Need-returns-2
 returns-2 c =
-    let s = c .before .before .before .before .before .before .before .before .before .before .before .before .before .before .before .before .before .before .before .before .before .before .before .before .before .before in
+    let s = c .before .before .before .before .before .before .before .before .before .before .before .before .before .before .before .before .before .before .before .before .before .before .before .before .before .before .before in
     let a = s .args in
     let pre = s .pre in
-    let part-start = c .before .before .before .before .before .before .before .before .before .before .before .before .before .before .before .before .before .before .before .before .before .part-start in
-    let part-end = c .before .before .before .before .before .before .before .before .before .before .before .before .before .before .before .before .before .before .before .before .part-end in
-    let inputs-of = c .before .before .before .before .before .before .before .before .before .before .before .before .before .before .before .before .before .inputs-of in
-    let digits-of = c .before .before .before .before .before .before .before .before .before .before .before .before .before .before .digits-of in
+    let part-start = c .before .before .before .before .before .before .before .before .before .before .before .before .before .before .before .before .before .before .before .before .before .before .part-start in
+    let part-end = c .before .before .before .before .before .before .before .before .before .before .before .before .before .before .before .before .before .before .before .before .before .part-end in
+    let inputs-of = c .before .before .before .before .before .before .before .before .before .before .before .before .before .before .before .before .before .before .inputs-of in
+    let digits-of = c .before .before .before .before .before .before .before .before .before .before .before .before .before .before .before .digits-of in
     let if1 = c .before .before .before .before .before .before .before .before .before .before .before .before .if1 in
     let store = c .before .before .before .before .before .before .before .before .before .store in
     let renew = c .before .before .renew in
     let file = a .table .now in
     let fits = part-fits file (a .change) (lent s) (pre .0) (pre .1 .0) (pre .1 .1 .0) in
-    let digits = found (c .before .before .before .before .before .before .before .before .before .before .before .before .before .before) (if1 .left) in
+    let digits = found (c .before .before .before .before .before .before .before .before .before .before .before .before .before .before .before) (if1 .left) in
     let none = none-outside file (a .change) (lent s) (pre .0) (pre .1 .0) (pre .1 .1 .0)
     (part-start .result) (part-end .result) (a .depth) (pre .1 .1 .1) (part-start .ensures) (part-end .ensures .0) (part-end .ensures .1 .0) (part-end .ensures .1 .1)
-    (inputs-of .result) (inputs-of .ensures) (digits-of .result) (digits-of .ensures .0) (if1 .left) in
+    (inputs-of .result) (inputs-of .ensures) (digits-of .result .count) (digits-of .ensures .0) (if1 .left) in
     let count = renew .ensures .0 ∙ count-is file (a .change) (lent s) fits (a .depth) (pre .1 .1 .1) _ digits in
-    let is = renew-given file (a .change) (lent s) (renew .result) count none in
+    let reach = digits-of .ensures .1 .0 ∙ reached file (a .change) (lent s) (pre .0) (pre .1 .0) (pre .1 .1 .0)
+    (part-start .result) (part-end .result) (a .depth) (pre .1 .1 .1) (part-start .ensures) (part-end .ensures .0) (part-end .ensures .1 .0) (part-end .ensures .1 .1)
+    (inputs-of .result) (inputs-of .ensures) (digits-of .result .count) (digits-of .ensures .0) (if1 .left) in
+    let is = renew-given file (a .change) (lent s) _ (λ i. record { count = count i; reach = reach i }) none in
     let sum = sum-renewed file (a .change) (lent s) fits (a .depth) (pre .1 .1 .1) (renew .last .0) (renew .ensures .1 ∙ digits) in
-    (is, (λ i. state (store .ensures .0 i) (store .ensures .1 i) (sum i)) ∙ renew-written file (a .change) (lent s) (record { count = renew .result }) is)
+    (is, (λ i. state (store .ensures .0 i) (store .ensures .1 i) (sum i)) ∙ renew-written file (a .change) (lent s) _ is)
 
 pub edit-rows-spec : {M : Type 1} → statement M
 edit-rows-spec =

@@ -1,71 +1,62 @@
--- The weight of a leaf that begins the window is the weight into the place.
-use mathlib.Core.Path.{_∙_}
+-- What is tried and what is kept changes nothing of the leaf found.
+use Rattle.place_rules.proofs.Counted.{counted-more}
+use native.Mathlib.Omega.{arith}
 use borrow.Author.Needs.{needs}
-use Rattle.place_weights.proofs.weight_tried.Statement.{statement}
-use Rattle.place_weights.proofs.weight_tried.Tie as tie
+use Rattle.place_weights.proofs.leaf_tried.Statement.{statement}
+use Rattle.place_weights.proofs.leaf_tried.Tie as tie
 
--- src/lib.rt:198:9
 window-slot-requires : tie.Need-window-slot-requires
 window-slot-requires c κs = search needs
 
--- src/lib.rt:199:9
 wide-requires : tie.Need-wide-requires
 wide-requires c κs = search needs
 
--- src/lib.rt:206:9
 mul-leaf-below : tie.Need-mul-leaf-below
 mul-leaf-below c = search needs
 
--- src/lib.rt:206:9
 element-copy-out-leaf-below : tie.Need-element-copy-out-leaf-below
 element-copy-out-leaf-below c = search needs
 
--- src/lib.rt:207:9
 mul-leaf-below-2 : tie.Need-mul-leaf-below-2
 mul-leaf-below-2 c = search needs
 
--- src/lib.rt:207:9
 element-copy-out-leaf-below-2 : tie.Need-element-copy-out-leaf-below-2
 element-copy-out-leaf-below-2 c = search needs
 
--- src/lib.rt:208:16
 add-leaf-below : tie.Need-add-leaf-below
 add-leaf-below c = search needs
 
--- src/lib.rt:208:9
 mul-leaf-below-3 : tie.Need-mul-leaf-below-3
 mul-leaf-below-3 c = search needs
 
--- src/lib.rt:208:9
 element-copy-out-leaf-below-3 : tie.Need-element-copy-out-leaf-below-3
 element-copy-out-leaf-below-3 c = search needs
 
--- src/lib.rt:200:9
 leaf-below-requires : tie.Need-leaf-below-requires
-leaf-below-requires c κs = search needs
+leaf-below-requires c κs =
+    let s = c .before .before .before .before .before .before .before .before in
+    let window-slot = c .before .before .before .before .window-slot in
+    (s .pre .0 .0, s .pre .0 .1, s .pre .1 .1 .counted (window-slot .result) (window-slot .ensures))
 
--- src/lib.rt:210:19
 cast-found : tie.Need-cast-found
-cast-found c = search needs
+cast-found c = omega (arith, c .before .leaf-below .ensures .0 .listed, c .before .before .before .before .before .before .before .before .before .before .pre .1 .0)
 
--- src/lib.rt:210:5
 mul-found : tie.Need-mul-found
 mul-found c = search needs
 
--- src/lib.rt:210:5
 element-write-found : tie.Need-element-write-found
 element-write-found c = search needs
 
--- src/lib.rt:211:5
-weight-requires : tie.Need-weight-requires
-weight-requires c κs = search needs
-
--- src/lib.rt:185:1
 returns : tie.Need-returns
-returns c = (c .weight .ensures .0 ∙ c .before .leaf-below .ensures, c .weight .ensures .1)
+returns c =
+    let s = c .before .before .before .before .before .before .before .before .before .before in
+    let a = s .args in
+    let below = c .before .leaf-below in
+    let slot = c .before .before .before .before .before .before .window-slot .result in
+    (below .ensures .0, (below .ensures .1, counted-more (a .leaves .now) (a .found .now) (a .reach) slot (below .result .leaf) (below .result .reach) (s .pre .1 .1) (below .ensures .1)))
 
-pub weight-tried-spec : {M : Type 1} → statement M
-weight-tried-spec =
+pub leaf-tried-spec : {M : Type 1} → statement M
+leaf-tried-spec =
     tie.close
     (tie.spec
     window-slot-requires
@@ -81,5 +72,4 @@ weight-tried-spec =
     cast-found
     mul-found
     element-write-found
-    weight-requires
     returns)
