@@ -4,7 +4,7 @@ ghost use lib.ListN.{length};
 use crate::output;
 use crate::tables;
 
-// `LABEL sum K SUM`, or the fault and SUM: the whole buffer as the call left it.
+// `LABEL sum K reach R SUM`, or the fault and SUM: the whole buffer as the call left it.
 pub fn summed(label: &[u8], table: &[u8], first: &[u8], second: &[u8], sum: &mut [u8])
     requires { ⌜ length (now sum) ≤ 260 ⌝ }
 {

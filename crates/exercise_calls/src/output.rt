@@ -90,26 +90,32 @@ pub fn checked(label: &[u8], answer: Checked) {
     word(b"\n");
 }
 
-// ` sum K`, or the fault.
+// A word, a count and the reach.
+fn reached(name: &[u8], n: usize, reach: usize) {
+    item(name, n);
+    item(b" reach ", reach);
+}
+
+// ` sum K reach R`, or the fault.
 pub fn added(answer: Added) {
     match answer {
-        Added::Sum(facts) => item(b" sum ", facts.places),
+        Added::Sum(facts) => reached(b" sum ", facts.places, facts.reach),
         Added::Refused(fault) => refused(fault),
     }
 }
 
-// ` difference K`, or the fault.
+// ` difference K reach R`, or the fault.
 pub fn subtracted(answer: Subtracted) {
     match answer {
-        Subtracted::Difference(facts) => item(b" difference ", facts.places),
+        Subtracted::Difference(facts) => reached(b" difference ", facts.places, facts.reach),
         Subtracted::Refused(fault) => refused(fault),
     }
 }
 
-// ` changed K`, or the fault.
+// ` changed K reach R`, or the fault.
 pub fn edited(answer: Edited) {
     match answer {
-        Edited::Count(facts) => item(b" changed ", facts.count),
+        Edited::Count(facts) => reached(b" changed ", facts.count, facts.reach),
         Edited::Refused(fault) => refused(fault),
     }
 }

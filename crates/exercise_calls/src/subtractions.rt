@@ -5,7 +5,7 @@ use crate::additions;
 use crate::output;
 use crate::tables;
 
-// `LABEL difference K DIFFERENCE`, or the fault and the whole buffer as the call left it.
+// `LABEL difference K reach R DIFFERENCE`, or the fault and the whole buffer as the call left it.
 fn subtracted(label: &[u8], table: &[u8], first: &[u8], second: &[u8], difference: &mut [u8])
     requires { ⌜ length (now difference) ≤ 260 ⌝ }
 {

@@ -36,7 +36,10 @@ const BIN_EDITS: [[usize; 3]; 6] = [
     [0, 0, 1],
 ];
 
-// `LABEL changed K FIRST SECOND SUM`, or the fault and the buffers: each whole, as the call left it. No line feed.
+// The word below the edited place is the longest, then no long word is looked up, then it is gone.
+const REACH_EDITS: [[usize; 3]; 3] = [[0, 1, 1], [0, 2, 0], [0, 0, 0]];
+
+// `LABEL changed K reach R FIRST SECOND SUM`, or the fault and the buffers: each whole, as the call left it. No line feed.
 fn changed(
     label: &[u8],
     table: &[u8],
@@ -158,6 +161,22 @@ pub fn bin_list() {
         &mut sum,
         &mut whole,
         &BIN_EDITS,
+    );
+}
+
+pub fn reach_list() {
+    let mut first = [1u8, 0, 0];
+    let mut second = [0u8, 1, 0];
+    let mut sum = [9u8; 5];
+    let mut whole = [8u8; 5];
+    listed(
+        b"reach",
+        &carried::bin(),
+        &mut first,
+        &mut second,
+        &mut sum,
+        &mut whole,
+        &REACH_EDITS,
     );
 }
 

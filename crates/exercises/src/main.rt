@@ -40,6 +40,7 @@ fn edited_rows() {
     changes::damaged_edit();
     changes::tern_list();
     changes::bin_list();
+    changes::reach_list();
     changes::longest_rows();
     changes::longer_rows();
     lists::runs();

@@ -4,6 +4,7 @@ ghost use lib.ListN.{length};
 use crate::input;
 use crate::input::Read;
 use crate::output;
+use reader_rules::Reading;
 
 // The calls on rows but for addition.
 const EDIT: u8 = 3;
@@ -97,6 +98,31 @@ pub fn value() -> bool {
         return false;
     };
     output::valued(value_call::value(&table[..t], &row[..r]))
+}
+
+// The look-up of a window in a table that passes 1 to 13. No other table comes with it; there the run ends.
+fn leaf_line(table: &[u8], window: [u8; 8]) -> bool {
+    let answer = reader::read(table);
+    let Reading::Facts(_) = answer else {
+        return false;
+    };
+    let leaves = reader::section(table, 3);
+    let words = reader::section(table, 4);
+    output::looked_up(look_up::look_up(leaves, words, window))
+}
+
+// 19: the table, the eight bytes of the window.
+pub fn look_up() -> bool {
+    let mut table = [0u8; 70000];
+    let read = input::buffer(&mut table);
+    let Read::Got(n) = read else {
+        return false;
+    };
+    let mut window = [0u8; 8];
+    if !input::filled(&mut window) {
+        return false;
+    }
+    leaf_line(&table[..n], window)
 }
 
 // 5: the parts of the first element, then those of the second.

@@ -5,6 +5,7 @@ ghost use lib.ListN.{length};
 use adder::Added;
 use adder::Subtracted;
 use faults::Fault;
+use look_up::Found;
 use midpoint::Element;
 use row_edit::Edited;
 use table::Checked;
@@ -80,19 +81,20 @@ fn with_rows(out: &mut [u8], end: usize, first: &[u8], second: &[u8], sum: &[u8]
     line(out, last)
 }
 
-// A word and a count, at the start of a line.
-fn put_count(out: &mut [u8], word: &[u8], n: usize) -> usize
-    requires { ⌜ length (now word) + 20 ≤ length (now out) ⌝ }
+// A word and a count at the start of a line, then another word and count.
+fn put_counts(out: &mut [u8], word: &[u8], n: usize, next: &[u8], m: usize) -> usize
+    requires { ⌜ length (now word) + length (now next) + 40 ≤ length (now out) ⌝ }
 {
-    text::put_item(out, 0, word, n)
+    let end = text::put_item(out, 0, word, n);
+    text::put_item(out, end, next, m)
 }
 
-// A word, a count and a whole buffer.
-fn counted(word: &[u8], n: usize, buffer: &[u8]) -> bool
+// A word, a count, the reach and a whole buffer.
+fn counted(word: &[u8], n: usize, reach: usize, buffer: &[u8]) -> bool
     requires { ⌜ (length (now word) ≤ 20) × (length (now buffer) ≤ 1000) ⌝ }
 {
     let mut out = [0u8; 2200];
-    let end = put_count(&mut out, word, n);
+    let end = put_counts(&mut out, word, n, b" reach ", reach);
     with_buffer(&mut out, end, buffer)
 }
 
@@ -105,34 +107,34 @@ fn refused(fault: Fault, buffer: &[u8]) -> bool
     with_buffer(&mut out, end, buffer)
 }
 
-// `sum K SUM`, or the fault and SUM.
+// `sum K reach R SUM`, or the fault and SUM.
 pub fn added(answer: Added, sum: &[u8]) -> bool
     requires { ⌜ length (now sum) ≤ 1000 ⌝ }
 {
     match answer {
-        Added::Sum(facts) => counted(b"sum ", facts.places, sum),
+        Added::Sum(facts) => counted(b"sum ", facts.places, facts.reach, sum),
         Added::Refused(fault) => refused(fault, sum),
     }
 }
 
-// `difference K SUM`, or the fault and SUM.
+// `difference K reach R SUM`, or the fault and SUM.
 pub fn subtracted(answer: Subtracted, sum: &[u8]) -> bool
     requires { ⌜ length (now sum) ≤ 1000 ⌝ }
 {
     match answer {
-        Subtracted::Difference(facts) => counted(b"difference ", facts.places, sum),
+        Subtracted::Difference(facts) => counted(b"difference ", facts.places, facts.reach, sum),
         Subtracted::Refused(fault) => refused(fault, sum),
     }
 }
 
-// `changed C FIRST SECOND SUM`, or the fault and the three buffers.
+// `changed C reach R FIRST SECOND SUM`, or the fault and the three buffers.
 pub fn edited(answer: Edited, first: &[u8], second: &[u8], sum: &[u8]) -> bool
     requires { ⌜ (length (now first) ≤ 600) × (length (now second) ≤ 600) × (length (now sum) ≤ 1000) ⌝ }
 {
     let mut out = [0u8; 4600];
     match answer {
         Edited::Count(facts) => {
-            let end = put_count(&mut out, b"changed ", facts.count);
+            let end = put_counts(&mut out, b"changed ", facts.count, b" reach ", facts.reach);
             with_rows(&mut out, end, first, second, sum)
         }
         Edited::Refused(fault) => {
@@ -140,6 +142,13 @@ pub fn edited(answer: Edited, first: &[u8], second: &[u8], sum: &[u8]) -> bool
             with_rows(&mut out, end, first, second, sum)
         }
     }
+}
+
+// `leaf K length N`
+pub fn looked_up(found: Found) -> bool {
+    let mut out = [0u8; 128];
+    let end = put_counts(&mut out, b"leaf ", found.leaf, b" length ", found.length);
+    line(&mut out, end)
 }
 
 // A word and then the two parts of an element.
