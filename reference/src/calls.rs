@@ -2,6 +2,7 @@
 
 use crate::answer::{author, editor, rows, Answer, Fault};
 use crate::element::{Element, Operation};
+use crate::reach::{self, LeafFacts, Window};
 use crate::table::{self, Table, LONGEST_WORD};
 
 /// The longest row that rule 20 lets pass.
@@ -13,6 +14,20 @@ pub struct TableFacts {
     pub depth: usize,
     pub leaves: usize,
     pub digits: usize,
+}
+
+/// The facts of addition and subtraction: the digits written, and the reach (job 7).
+#[derive(Clone, Copy, Debug, PartialEq, Eq)]
+pub struct RowFacts {
+    pub written: usize,
+    pub reach: usize,
+}
+
+/// The facts of the edit: the count of sum bytes that changed, and the reach (job 7).
+#[derive(Clone, Copy, Debug, PartialEq, Eq)]
+pub struct EditFacts {
+    pub changed: usize,
+    pub reach: usize,
 }
 
 /// The table check: rules 1 to 14.
@@ -29,13 +44,23 @@ pub fn check(file: &[u8]) -> Answer<TableFacts> {
     judge().into()
 }
 
-/// Addition: writes the sum row of n + h digits and says its length. A refused call writes nothing.
-pub fn add(file: &[u8], first: &[u8], second: &[u8], sum: &mut [u8]) -> Answer<usize> {
+/// The leaf look-up. Of files that aren't past 1 to 13, and of windows that no word begins, the papers say nothing: none.
+pub fn look_up(file: &[u8], window: &Window) -> Option<LeafFacts> {
+    reach::look_up(&table::read(file).ok()?, window)
+}
+
+/// Addition: writes the sum row of n + h digits and says its length and the reach. A refused call writes nothing.
+pub fn add(file: &[u8], first: &[u8], second: &[u8], sum: &mut [u8]) -> Answer<RowFacts> {
     combine(Operation::Sum, file, first, second, sum)
 }
 
 /// Subtraction (job 2): the same with the first row's digits minus the second's.
-pub fn subtract(file: &[u8], first: &[u8], second: &[u8], difference: &mut [u8]) -> Answer<usize> {
+pub fn subtract(
+    file: &[u8],
+    first: &[u8],
+    second: &[u8],
+    difference: &mut [u8],
+) -> Answer<RowFacts> {
     combine(Operation::Difference, file, first, second, difference)
 }
 
@@ -46,7 +71,7 @@ fn combine(
     first: &[u8],
     second: &[u8],
     out: &mut [u8],
-) -> Answer<usize> {
+) -> Answer<RowFacts> {
     let convert = || {
         let table = table::read(file)?;
         check_rows(&table, first, second, out.len())?;
@@ -54,16 +79,21 @@ fn combine(
             table.check_differences()?;
         }
         let places = 0..first.len() + table.depth;
-        converted_row(operation, &table, first, second, places)
+        let digits = converted_row(operation, &table, first, second, places)?;
+        let inputs = reach::inputs(operation, &table, first, second);
+        let looked_up = reach::places_of_rows(&table, first.len());
+        Ok((digits, reach::reach(&table, &inputs, looked_up)))
     };
-    let written = convert().map(|digits| {
-        out[..digits.len()].copy_from_slice(&digits);
-        digits.len()
+    let taken = convert().map(|(digits, reach)| {
+        let written = digits.len();
+        out[..written].copy_from_slice(&digits);
+        RowFacts { written, reach }
     });
-    written.into()
+    taken.into()
 }
 
-/// The digit edit: stores a digit and renews the sum places p to p + h; says how many of these bytes changed.
+/// The digit edit: stores a digit and renews the sum places p to p + h; says how many of these bytes changed, and the reach in the rows
+/// as edited.
 pub fn edit(
     file: &[u8],
     first: &mut [u8],
@@ -72,7 +102,7 @@ pub fn edit(
     row: u64,
     place: u64,
     digit: u64,
-) -> Answer<usize> {
+) -> Answer<EditFacts> {
     let judge = || {
         let table = table::read(file)?;
         check_rows(&table, first, second, sum.len())?;
@@ -85,15 +115,18 @@ pub fn edit(
         edited[row as usize][place] = digit;
         let places = place..place + table.depth + 1;
         let digits = converted_row(Operation::Sum, &table, &edited[0], &edited[1], places)?;
-        Ok((edited, place, digits))
+        let inputs = reach::inputs(Operation::Sum, &table, &edited[0], &edited[1]);
+        let looked_up = reach::places_of_edit(&table, place);
+        let reach = reach::reach(&table, &inputs, looked_up);
+        Ok((edited, place, digits, reach))
     };
-    let taken = judge().map(|(edited, place, digits)| {
+    let taken = judge().map(|(edited, place, digits, reach)| {
         first.copy_from_slice(&edited[0]);
         second.copy_from_slice(&edited[1]);
         let renewed = &mut sum[place..place + digits.len()];
         let changed = renewed.iter().zip(&digits).filter(|(x, y)| x != y).count();
         renewed.copy_from_slice(&digits);
-        changed
+        EditFacts { changed, reach }
     });
     taken.into()
 }
@@ -102,7 +135,8 @@ pub fn edit(
 pub type Asked = (u64, u64, u64);
 
 /// A list of edits: the check, then the addition, then each edit, with an answer for each. Where the check or the addition refuses,
-/// nothing is written. After a taken edit the whole sum row is computed anew, and the count is of all its bytes that changed.
+/// nothing is written. After a taken edit the whole sum row is computed anew, and the count is of all its bytes that changed. The
+/// answers are the counts alone, without a reach.
 pub fn run(
     file: &[u8],
     first: &mut [u8],

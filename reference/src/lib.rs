@@ -1,9 +1,9 @@
 //! An independent implementation of document 01: the table check, addition, the digit edit, lists of edits, the value of a row and the midpoint;
-//! and of subtraction, with input digits beyond the sums, which job 2 of document 02 adds.
+//! and of what jobs of document 02 add: subtraction, with input digits beyond the sums (job 2), and the reach (job 7).
 //!
 //! It exists to be compared with the proved library, so it shares nothing with it. It was written from the papers alone, and where
 //! there was a choice it takes the way that is easiest to believe and not the fastest: words in a hash map, sums in a set, rule 12 by
-//! counting strings, rule 14 by trying every two leaves, each weight looked up from scratch.
+//! counting strings, rule 14 by trying every two leaves, each weight looked up from scratch, the reach by a search of its own.
 #![forbid(unsafe_code)]
 
 pub mod answer;
@@ -11,10 +11,13 @@ pub mod calls;
 pub mod carried;
 pub mod element;
 pub mod file;
+pub mod reach;
 pub mod table;
 
 pub use answer::{Answer, Fault, Group};
-pub use calls::{add, check, edit, midpoint, run, subtract, value, Asked, TableFacts};
+pub use calls::{add, check, edit, look_up, midpoint, run, subtract, value};
+pub use calls::{Asked, EditFacts, RowFacts, TableFacts};
 pub use carried::{bin, tern};
 pub use element::{Base, Element, Operation};
 pub use file::{assemble, Parts};
+pub use reach::{LeafFacts, Window};

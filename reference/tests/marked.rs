@@ -1,6 +1,8 @@
 //! The marked exercises M7 to M12 and the limits that the paper names beside them.
 
-use reference::{add, bin, check, edit, run, tern, Answer, Fault, Group, TableFacts};
+use reference::{
+    add, bin, check, edit, run, tern, Answer, EditFacts, Fault, Group, RowFacts, TableFacts,
+};
 
 /// Alphabet indexes of digits given as values.
 fn row(alphabet: &[i8], digits: &[i8]) -> Vec<u8> {
@@ -11,8 +13,14 @@ fn row(alphabet: &[i8], digits: &[i8]) -> Vec<u8> {
 const TERN_DIGITS: [i8; 5] = [0, 1, 2, -1, -2];
 const BIN_DIGITS: [i8; 3] = [0, 1, -1];
 
-/// A sum that must come out, in a buffer of just its length.
-fn adds(table: &[u8], alphabet: &[i8], first: &[i8], second: &[i8], expected: &[i8]) {
+/// A sum that must come out with its reach, in a buffer of just its length.
+fn adds(
+    table: &[u8],
+    alphabet: &[i8],
+    first: &[i8],
+    second: &[i8],
+    (expected, reach): (&[i8], usize),
+) {
     let mut sum = vec![99; expected.len()];
     let answer = add(
         table,
@@ -20,17 +28,18 @@ fn adds(table: &[u8], alphabet: &[i8], first: &[i8], second: &[i8], expected: &[
         &row(alphabet, second),
         &mut sum,
     );
-    assert_eq!(answer, Answer::Facts(expected.len()));
+    let written = expected.len();
+    assert_eq!(answer, Answer::Facts(RowFacts { written, reach }));
     assert_eq!(sum, row(alphabet, expected));
 }
 
 #[test]
 fn sums_of_the_marked_table() {
-    adds(&tern(), &TERN_DIGITS, &[2, 2], &[1, 2], &[0, 2, 1]);
-    adds(&bin(), &BIN_DIGITS, &[1, 1], &[1, 0], &[0, 0, 1, 0]);
-    adds(&bin(), &BIN_DIGITS, &[0, 1], &[0, 0], &[0, 1, 0, 0]);
-    adds(&tern(), &TERN_DIGITS, &[], &[], &[0]);
-    adds(&bin(), &BIN_DIGITS, &[], &[], &[0, 0]);
+    adds(&tern(), &TERN_DIGITS, &[2, 2], &[1, 2], (&[0, 2, 1], 1));
+    adds(&bin(), &BIN_DIGITS, &[1, 1], &[1, 0], (&[0, 0, 1, 0], 2));
+    adds(&bin(), &BIN_DIGITS, &[0, 1], &[0, 0], (&[0, 1, 0, 0], 2));
+    adds(&tern(), &TERN_DIGITS, &[], &[], (&[0], 1));
+    adds(&bin(), &BIN_DIGITS, &[], &[], (&[0, 0], 1));
 }
 
 #[test]
@@ -39,7 +48,11 @@ fn edit_of_the_marked_table() {
     let mut second = row(&TERN_DIGITS, &[1, 2]);
     let mut sum = row(&TERN_DIGITS, &[0, 2, 1]);
     let answer = edit(&tern(), &mut first, &mut second, &mut sum, 0, 0, 4);
-    assert_eq!(answer, Answer::Facts(2));
+    let facts = EditFacts {
+        changed: 2,
+        reach: 1,
+    };
+    assert_eq!(answer, Answer::Facts(facts));
     assert_eq!(first, row(&TERN_DIGITS, &[-2, 2]));
     assert_eq!(sum, row(&TERN_DIGITS, &[-1, 1, 1]));
 }

@@ -51,6 +51,7 @@ fn every_kind_of_line_is_stored() {
         "midpoint",
         "table",
         "difference",
+        "leaf",
     ];
     for head in heads {
         let kept = expected.lines().any(|line| line.starts_with(head));

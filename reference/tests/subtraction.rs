@@ -1,6 +1,8 @@
 //! Subtraction and input digits beyond the sums (job 2).
 
-use reference::{add, bin, check, subtract, tern, Answer, Fault, Group, Parts, TableFacts};
+use reference::{
+    add, bin, check, subtract, tern, Answer, Fault, Group, Parts, RowFacts, TableFacts,
+};
 
 const TERN_DIGITS: [i8; 5] = [0, 1, 2, -1, -2];
 const BIN_DIGITS: [i8; 3] = [0, 1, -1];
@@ -19,12 +21,20 @@ fn refused<F>(group: Group, number: u8, place: usize) -> Answer<F> {
     })
 }
 
+/// What addition and subtraction say but for the reach, which tests/reach.rs looks at.
+fn written(answer: Answer<RowFacts>) -> Answer<usize> {
+    match answer {
+        Answer::Facts(facts) => Answer::Facts(facts.written),
+        Answer::Fault(fault) => Answer::Fault(fault),
+    }
+}
+
 /// A difference that must come out, in a buffer with a byte more, which is kept.
 fn takes(table: &[u8], alphabet: &[i8], first: &[i8], second: &[i8], expected: &[i8]) {
     let mut difference = vec![99; expected.len() + 1];
     let (first, second) = (row(alphabet, first), row(alphabet, second));
     let answer = subtract(table, &first, &second, &mut difference);
-    assert_eq!(answer, Answer::Facts(expected.len()));
+    assert_eq!(written(answer), Answer::Facts(expected.len()));
     assert_eq!(difference[..expected.len()], row(alphabet, expected));
     assert_eq!(difference[expected.len()], 99);
 }
@@ -85,7 +95,8 @@ fn a_further_digit_may_break_rule_14_only() {
     let mut sums = [vec![99; 3], vec![99; 3]];
     let (first, second) = (row(&TERN_DIGITS, &[2, 2]), row(&TERN_DIGITS, &[1, 2]));
     for (sum, table) in sums.iter_mut().zip([file, tern()]) {
-        assert_eq!(add(&table, &first, &second, sum), Answer::Facts(3));
+        let answer = add(&table, &first, &second, sum);
+        assert_eq!(written(answer), Answer::Facts(3));
     }
     assert_eq!(sums[0], sums[1]);
 }
@@ -93,7 +104,12 @@ fn a_further_digit_may_break_rule_14_only() {
 /// The answer to a subtraction of rows of zeros.
 fn subtracted(parts: &Parts, first: usize, second: usize, room: usize) -> Answer<usize> {
     let (first, second) = (vec![0; first], vec![0; second]);
-    subtract(&parts.write(), &first, &second, &mut vec![0; room])
+    written(subtract(
+        &parts.write(),
+        &first,
+        &second,
+        &mut vec![0; room],
+    ))
 }
 
 #[test]
@@ -148,6 +164,7 @@ fn rule_42_comes_after_the_rows_and_before_27() {
 fn addition_never_says_42() {
     let positive = plain(&[0, 1], &[0, 1, 2]).write();
     let mut sum = [7; 3];
-    assert_eq!(add(&positive, &[0, 1], &[1, 0], &mut sum), Answer::Facts(3));
+    let answer = add(&positive, &[0, 1], &[1, 0], &mut sum);
+    assert_eq!(written(answer), Answer::Facts(3));
     assert_eq!(sum, [1, 1, 0]);
 }

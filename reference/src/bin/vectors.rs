@@ -3,7 +3,7 @@
 
 use std::io::{self, Read, Write};
 
-use reference::{Answer, Element};
+use reference::{Answer, EditFacts, Element, LeafFacts, RowFacts};
 
 fn main() -> io::Result<()> {
     let mut bytes = Vec::new();
@@ -72,6 +72,7 @@ fn next_line(run: &mut Reader) -> Option<String> {
         6 => Some(format!("table {}", hexadecimal(&reference::tern()))),
         7 => Some(format!("table {}", hexadecimal(&reference::bin()))),
         8 => row_line(run, "difference", reference::subtract),
+        19 => look_up_line(run),
         _ => None,
     }
 }
@@ -86,13 +87,15 @@ fn check_line(file: &[u8]) -> String {
 }
 
 /// Addition or subtraction: both are lent a table, two rows and a buffer.
-type RowCall = fn(&[u8], &[u8], &[u8], &mut [u8]) -> Answer<usize>;
+type RowCall = fn(&[u8], &[u8], &[u8], &mut [u8]) -> Answer<RowFacts>;
 
 fn row_line(run: &mut Reader, name: &str, call: RowCall) -> Option<String> {
     let (table, first, second) = (run.buffer()?, run.buffer()?, run.buffer()?);
     let mut out = run.buffer()?;
     let answer = call(&table, &first, &second, &mut out);
-    let head = or_fault(answer, |written| format!("{name} {written}"));
+    let head = or_fault(answer, |RowFacts { written, reach }| {
+        format!("{name} {written} reach {reach}")
+    });
     Some(format!("{head} {}", hexadecimal(&out)))
 }
 
@@ -101,9 +104,18 @@ fn edit_line(run: &mut Reader) -> Option<String> {
     let mut sum = run.buffer()?;
     let (row, place, digit) = (run.number()?, run.number()?, run.number()?);
     let answer = reference::edit(&table, &mut first, &mut second, &mut sum, row, place, digit);
-    let head = or_fault(answer, |changed| format!("changed {changed}"));
+    let head = or_fault(answer, |EditFacts { changed, reach }| {
+        format!("changed {changed} reach {reach}")
+    });
     let buffers = [first, second, sum].map(|buffer| hexadecimal(&buffer));
     Some(format!("{head} {}", buffers.join(" ")))
+}
+
+/// The look-up has no line for other tables and windows than those that it is for; the run breaks off there.
+fn look_up_line(run: &mut Reader) -> Option<String> {
+    let (table, window) = (run.buffer()?, run.take()?);
+    let LeafFacts { leaf, length } = reference::look_up(&table, &window)?;
+    Some(format!("leaf {leaf} length {length}"))
 }
 
 fn or_fault<F>(answer: Answer<F>, facts: impl FnOnce(F) -> String) -> String {
