@@ -1,11 +1,12 @@
 //! The cases: which tables, rows, buffers and numbers are tried.
 
-use reference::{Answer, Element, Parts};
+use reference::{Answer, Element, Operation, Parts};
 
-use crate::codes::{self, MOST_LEAVES};
+use crate::codes::{self, depth, MOST_LEAVES};
 use crate::damage::{self, Draft};
 use crate::interface::{Call, Lent};
 use crate::kinds::Kind;
+use crate::needles;
 use crate::pairs;
 use crate::random::Random;
 use crate::search;
@@ -84,22 +85,13 @@ impl Pool {
     }
 }
 
-/// The longest word's length.
-fn depth(parts: &Parts) -> usize {
-    parts
-        .leaves
-        .iter()
-        .map(|(word, _)| word.len())
-        .max()
-        .unwrap_or(0)
-}
-
 /// Runs one case.
 pub fn run(pool: &Pool, comparison: &mut Comparison, random: &mut Random) {
     match random.below(100) {
         0..=16 => list_of_edits(pool, comparison, random),
         17..=24 => runs(pool, comparison, random),
-        25..=44 => damaged(pool, comparison, 1, random),
+        25..=28 => needle(pool, comparison, random),
+        29..=44 => damaged(pool, comparison, 1, random),
         45..=54 => damaged(pool, comparison, 2, random),
         55..=62 => flipped(pool, comparison, random),
         63..=65 => cut(pool, comparison, random),
@@ -192,6 +184,52 @@ fn runs(pool: &Pool, comparison: &mut Comparison, random: &mut Random) {
     }
 }
 
+/// Rows with a long word at one place only, often just above them; both operations, and edits about that place, each of the same rows.
+fn needle(pool: &Pool, comparison: &mut Comparison, random: &mut Random) {
+    let parts = needles::table(&pool.tables, random);
+    let length = random.below(2 * depth(&parts) + 6);
+    let place = match random.one_in(4) {
+        true => length,
+        false => random.below(length + 2),
+    };
+    let operations = [Operation::Sum, Operation::Sum, Operation::Difference];
+    let operation = random.pick(&operations);
+    let [first, second] = needles::rows(&parts, operation, length, place, random);
+    let lent = Lent {
+        table: parts.write(),
+        first,
+        second,
+        sum: random.bytes(length + depth(&parts)),
+        answer: answer_array(random),
+        ..Lent::default()
+    };
+    for call in [Call::Add, Call::Subtract] {
+        comparison.call(call, &mut lent.clone());
+    }
+    for call in edits_about(place, &parts, &lent, random) {
+        comparison.call(call, &mut lent.clone());
+    }
+}
+
+/// Edits that look up a place as their lowest or highest, that just don't look it up, or that change it; and ones at the bottom. Most
+/// store the digit that is there already, so that a long word stays where it is.
+fn edits_about(place: usize, parts: &Parts, lent: &Lent, random: &mut Random) -> Vec<Call> {
+    let depth = depth(parts);
+    let under = [place.checked_sub(depth), place.checked_sub(depth + 1)];
+    let near = [0, 1, place, place + 1, place + 2];
+    let places = near.into_iter().chain(under.into_iter().flatten());
+    let edit = |place: usize| Call::Edit {
+        row: 0,
+        place: place as u64,
+        digit: match random.one_in(3) {
+            true => random.below(parts.alphabet.len()) as u64,
+            false => lent.first[place].into(),
+        },
+    };
+    let in_rows = places.filter(|place| *place < lent.first.len());
+    in_rows.map(edit).collect()
+}
+
 /// The numbers of some edits and slices for their answers, which hold anything; mostly all six have one entry for each edit.
 fn ask(parts: &Parts, lent: &mut Lent, random: &mut Random) {
     let most = match random.below(20) {
@@ -251,13 +289,7 @@ fn random_edit(parts: &Parts, length: usize, random: &mut Random) -> Call {
 /// Rows of a random length with a sum buffer that is mostly long enough, and a whole answer array.
 fn lend(parts: &Parts, table: Vec<u8>, random: &mut Random) -> Lent {
     let length = row_length(random);
-    let depth = parts
-        .leaves
-        .iter()
-        .map(|(word, _)| word.len())
-        .max()
-        .unwrap_or(0);
-    let whole = length + depth;
+    let whole = length + depth(parts);
     let sum = match random.below(12) {
         0 => whole.saturating_sub(1),
         1 => random.below(whole + 1),

@@ -10,6 +10,12 @@ use crate::search::{self, System};
 pub const MOST_LEAVES: usize = 4_000;
 pub const LONGEST_WORD: usize = 8;
 
+/// The longest word's length.
+pub fn depth(parts: &Parts) -> usize {
+    let lengths = parts.leaves.iter().map(|(word, _)| word.len());
+    lengths.max().unwrap_or(0)
+}
+
 /// Replaces leaves by all their one-digit extensions until no more fit below the limit. Each extension keeps the weight, so the
 /// conversion is the same, and an accepted table stays accepted.
 pub fn refine(parts: &mut Parts, most_leaves: usize, random: &mut Random) {

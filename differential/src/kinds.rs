@@ -1,5 +1,7 @@
-//! Kinds of cases that a refusal number alone doesn't tell apart: those of subtraction and of input digits beyond the sums (job 2), and
-//! those of midpoints at the half (job 6).
+//! Kinds of cases that a refusal number alone doesn't tell apart: those of subtraction and of input digits beyond the sums (job 2),
+//! those of midpoints at the half (job 6), and those of the reach (job 7).
+
+mod reach;
 
 use crate::further::{self, Digits};
 use crate::interface::{Call, Lent};
@@ -43,10 +45,35 @@ pub enum Kind {
     /// A half below zero, and one whose sum doesn't fit into 32 bits.
     HalfBelowZero,
     HalfOfWideSum,
+    /// A reach under the depth.
+    AddReachesLess,
+    SubtractReachesLess,
+    EditReachesLess,
+    /// Addition or subtraction whose longest words stand above the rows only; the same where they aren't leaf 0's.
+    LongestAbove,
+    LongestAboveNotZeros,
+    /// Addition or subtraction with the longest word at place 0 only.
+    LongestAtPlace0,
+    /// Empty rows where leaf 0 has more than one digit.
+    LongZerosWithoutRows,
+    /// Subtraction with another reach than addition of the same rows.
+    ReachOfDifferences,
+    /// An edit with the longest word at p − 1 only, also at p = 1; at p + h only; above the rows only.
+    LongestBelowEdit,
+    LongestBelowEditAt1,
+    LongestAtTopOfEdit,
+    LongestAboveInEdit,
+    /// An edit with a longer word just beside its places: at −1 where p = 0, at p − 2, at p + h + 1.
+    LongerBelowZero,
+    LongerBelowEdit,
+    LongerAboveEdit,
+    /// An edit that reaches further than it would in the rows before it, and one that reaches less far.
+    ReachGained,
+    ReachLost,
 }
 
 impl Kind {
-    pub const ALL: [Kind; 22] = [
+    pub const ALL: [Kind; 39] = [
         Kind::Subtracted,
         Kind::SubtractedByFurther,
         Kind::UnlistedFromZero,
@@ -69,11 +96,38 @@ impl Kind {
         Kind::HalfDown,
         Kind::HalfBelowZero,
         Kind::HalfOfWideSum,
+        Kind::AddReachesLess,
+        Kind::SubtractReachesLess,
+        Kind::EditReachesLess,
+        Kind::LongestAbove,
+        Kind::LongestAboveNotZeros,
+        Kind::LongestAtPlace0,
+        Kind::LongZerosWithoutRows,
+        Kind::ReachOfDifferences,
+        Kind::LongestBelowEdit,
+        Kind::LongestBelowEditAt1,
+        Kind::LongestAtTopOfEdit,
+        Kind::LongestAboveInEdit,
+        Kind::LongerBelowZero,
+        Kind::LongerBelowEdit,
+        Kind::LongerAboveEdit,
+        Kind::ReachGained,
+        Kind::ReachLost,
     ];
 }
 
-/// The kinds that a call met, from its outcome and the buffers that it left.
-pub fn met(call: &Call, outcome: Outcome, lent: &Lent) -> Vec<Kind> {
+/// The kinds that a call met, from its outcome and the buffers that it was lent and left.
+pub fn met(call: &Call, outcome: Outcome, before: &Lent, lent: &Lent) -> Vec<Kind> {
+    let mut kinds = of_digits(call, outcome, lent);
+    let reaches = matches!(call, Call::Add | Call::Subtract | Call::Edit { .. });
+    if reaches && outcome == Outcome::Facts {
+        kinds.extend(holding(reach::met(call, before, lent)));
+    }
+    kinds
+}
+
+/// The kinds of subtraction, input digits and midpoints.
+fn of_digits(call: &Call, outcome: Outcome, lent: &Lent) -> Vec<Kind> {
     if let (Call::Midpoint { x, y }, Outcome::Facts) = (call, outcome) {
         return holding(half(x.0, y.0));
     }

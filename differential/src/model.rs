@@ -1,6 +1,6 @@
 //! The reference behind the C interface: what every call has to return and to leave in the lent buffers.
 
-use reference::{Answer, Group};
+use reference::{Answer, EditFacts, Group, RowFacts};
 
 use crate::interface::{Call, Calls, Lent, ANSWER_WORDS, FACTS, FAULT, TOO_SHORT};
 
@@ -29,7 +29,7 @@ fn write_carried(table: &[u8], out: &mut [u8]) -> u64 {
     }
 }
 
-/// The reference's answer, its facts in document 01's order.
+/// The reference's answer, its facts in document 01's order and the reach of job 7 behind them.
 fn answer(call: &Call, lent: &mut Lent) -> Answer<Vec<i64>> {
     let asked = lent.asked();
     let Lent {
@@ -43,15 +43,17 @@ fn answer(call: &Call, lent: &mut Lent) -> Answer<Vec<i64>> {
         ..
     } = lent;
     let one = |number: usize| vec![number as i64];
+    let of_rows = |RowFacts { written, reach }| vec![written as i64, reach as i64];
+    let of_edit = |EditFacts { changed, reach }| vec![changed as i64, reach as i64];
     match *call {
         Call::Check => facts(reference::check(table), |f| {
             vec![f.depth as i64, f.leaves as i64, f.digits as i64]
         }),
-        Call::Add => facts(reference::add(table, first, second, sum), one),
-        Call::Subtract => facts(reference::subtract(table, first, second, sum), one),
+        Call::Add => facts(reference::add(table, first, second, sum), of_rows),
+        Call::Subtract => facts(reference::subtract(table, first, second, sum), of_rows),
         Call::Edit { row, place, digit } => {
             let edited = reference::edit(table, first, second, sum, row, place, digit);
-            facts(edited, one)
+            facts(edited, of_edit)
         }
         Call::Run => {
             let ran = reference::run(table, first, second, sum, &asked);

@@ -59,13 +59,13 @@ impl<'a> Comparison<'a> {
             FAULT => Outcome::Fault(lent.answer[1]),
             _ => Outcome::TooShort,
         };
-        self.count(&call, outcome, lent);
+        self.count(&call, outcome, &before, lent);
         outcome
     }
 
-    fn count(&mut self, call: &Call, outcome: Outcome, lent: &Lent) {
+    fn count(&mut self, call: &Call, outcome: Outcome, before: &Lent, lent: &Lent) {
         *self.counts.entry((call.name(), outcome)).or_default() += 1;
-        for kind in kinds::met(call, outcome, lent) {
+        for kind in kinds::met(call, outcome, before, lent) {
             self.count_kind(kind);
         }
         match call {

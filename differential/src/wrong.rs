@@ -1,6 +1,7 @@
 //! Implementations with one mistake each, to see that the comparison finds it.
 
 mod midpoint;
+mod reach;
 mod subtraction;
 
 use std::cell::Cell;
@@ -90,6 +91,13 @@ pub enum Mistake {
     MissingSumFirst,
     /// Rule 14 looks at the leaves of sums only.
     PairsOfSumsOnly,
+    /// The reach of a call is told by another rule.
+    Reach(&'static str, reach::Told),
+    /// A refused call writes a word for its reach.
+    FaultTellsReach(&'static str),
+    /// The runner tells its addition's reach in word 2, or its edits' in the place of their counts.
+    RunTellsReach,
+    RunCountsReach,
     /// The place of one refusal number is one too high in subtraction.
     SubtractPlaceOff(i64),
     /// The place of one refusal number is one too high.
@@ -131,6 +139,7 @@ pub fn mistakes() -> Vec<Mistake> {
     ];
     all.extend(midpoint::mistakes());
     all.extend(subtraction::mistakes());
+    all.extend(reach::mistakes());
     all.extend(NUMBERS.map(PlaceOff));
     all.extend(NUMBERS.map(NumberOff));
     all
@@ -165,6 +174,7 @@ impl Calls for Wrong {
             _ => (),
         }
         self.spoil_any(call, returned, lent);
+        self.spoil_reach(call, returned, &before, lent);
         let takes_table = !matches!(call, Call::Midpoint { .. } | Call::Tern | Call::Bin);
         if takes_table && returned != TOO_SHORT {
             self.spoil_digits(call, &before, lent);
@@ -221,8 +231,9 @@ impl Wrong {
             }
             Mistake::EditOnce if self.edited.get() => *lent = before.clone(),
             Mistake::EditIdle => {
+                let reach = lent.answer[2];
                 *lent = before.clone();
-                lent.answer[..2].copy_from_slice(&[0, 0]);
+                lent.answer[..3].copy_from_slice(&[0, 0, reach]);
             }
             _ => (),
         }

@@ -6,6 +6,7 @@ use reference::{Element, Operation};
 use super::{Mistake, Wrong};
 use crate::further::{self, Digits};
 use crate::interface::{Call, Calls, Lent};
+use crate::looks::Looks;
 use crate::model::Model;
 
 /// The mistakes of this file.
@@ -129,8 +130,10 @@ impl Wrong {
         );
         match row {
             Ok(digits) => {
+                let looks = Looks::of(&Call::Subtract, lent);
+                let reach = looks.map_or(0, |looks| looks.longest(looks.places(&Call::Subtract)));
                 lent.sum[..digits.len()].copy_from_slice(&digits);
-                lent.answer[..2].copy_from_slice(&[0, digits.len() as i64]);
+                lent.answer[..3].copy_from_slice(&[0, digits.len() as i64, reach]);
             }
             Err(fault) => tell(lent, 1, fault.number.into(), fault.place),
         }
