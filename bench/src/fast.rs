@@ -72,15 +72,20 @@ pub fn check(file: &[u8], pairs: Pairs) -> Result<TableFacts, Fault> {
     }
 }
 
-/// Addition.
-pub fn add(file: &[u8], first: &[u8], second: &[u8], sum: &mut [u8]) -> Result<usize, Fault> {
+/// Addition: the bytes written, and the reach.
+pub fn add(file: &[u8], first: &[u8], second: &[u8], sum: &mut [u8]) -> Result<[usize; 2], Fault> {
     let table = read::<true>(file)?;
     rows::check(&table, first, second, sum.len())?;
     combine(&table, &table.sums, first, second, sum)
 }
 
-/// Subtraction.
-pub fn subtract(file: &[u8], first: &[u8], second: &[u8], out: &mut [u8]) -> Result<usize, Fault> {
+/// Subtraction, with the same facts.
+pub fn subtract(
+    file: &[u8],
+    first: &[u8],
+    second: &[u8],
+    out: &mut [u8],
+) -> Result<[usize; 2], Fault> {
     let table = read::<true>(file)?;
     rows::check(&table, first, second, out.len())?;
     let differences = sums::differences(&table.sections).map_err(|digit| author(42, digit))?;
@@ -95,7 +100,7 @@ fn combine(
     first: &[u8],
     second: &[u8],
     sum: &mut [u8],
-) -> Result<usize, Fault> {
+) -> Result<[usize; 2], Fault> {
     let places = first.len() + table.code.depth;
     let mut row = [0; leaves::LONGEST + rows::MOST_PLACES];
     let pairs = first.iter().zip(second);
@@ -107,18 +112,18 @@ fn combine(
     let mut digits = [0; rows::MOST_PLACES];
     let digits = &mut digits[..places];
     let find = |window| by_first.search(window);
-    rows::convert::<{ rows::MOST_PLACES }>(table, find, row, 0, digits)?;
+    let reach = rows::convert::<{ rows::MOST_PLACES }>(table, find, row, 0, digits)?;
     sum[..places].copy_from_slice(digits);
-    Ok(places)
+    Ok([places, reach])
 }
 
-/// The digit edit; asked are row number, place and digit.
+/// The digit edit; asked are row number, place and digit. The bytes changed, and the reach.
 pub fn edit(
     file: &[u8],
     [first, second]: [&mut [u8]; 2],
     sum: &mut [u8],
     asked: [u64; 3],
-) -> Result<usize, Fault> {
+) -> Result<[usize; 2], Fault> {
     let table = read::<false>(file)?;
     rows::check(&table, first, second, sum.len())?;
     let [row, edited, digit] = rows::check_edit(asked, first.len(), table.alphabet.count)?;
@@ -137,9 +142,10 @@ pub fn edit(
     let mut digits = [0; leaves::LONGEST + 1];
     let digits = &mut digits[..places];
     let find = |window| table.code.search_file(window);
-    rows::convert::<{ leaves::LONGEST + 1 }>(&table, find, inputs, edited, digits)?;
+    let reach = rows::convert::<{ leaves::LONGEST + 1 }>(&table, find, inputs, edited, digits)?;
     [first, second][row][edited] = digit as u8;
-    Ok(rows::renew(&mut sum[edited..][..digits.len()], digits))
+    let changed = rows::renew(&mut sum[edited..][..digits.len()], digits);
+    Ok([changed, reach])
 }
 
 /// The value of a row.

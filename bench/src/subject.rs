@@ -23,19 +23,13 @@ impl Calls for Fast {
         } = lent;
         match *call {
             Call::Check => store(answer, fast::check(table, self.0), |facts| {
-                [facts.depth, facts.leaves, facts.digits].map(|fact| fact as i64)
+                words([facts.depth, facts.leaves, facts.digits])
             }),
-            Call::Add => store(answer, fast::add(table, first, second, sum), |places| {
-                [places as i64]
-            }),
-            Call::Subtract => store(
-                answer,
-                fast::subtract(table, first, second, sum),
-                |places| [places as i64],
-            ),
+            Call::Add => store(answer, fast::add(table, first, second, sum), words),
+            Call::Subtract => store(answer, fast::subtract(table, first, second, sum), words),
             Call::Edit { row, place, digit } => {
                 let edited = fast::edit(table, [first, second], sum, [row, place, digit]);
-                store(answer, edited, |count| [count as i64])
+                store(answer, edited, words)
             }
             Call::Value => store(answer, fast::value(table, first), |x| [x.a, x.b]),
             Call::Run | Call::Midpoint { .. } | Call::Tern | Call::Bin => {
@@ -43,6 +37,10 @@ impl Calls for Fast {
             }
         }
     }
+}
+
+fn words<const N: usize>(facts: [usize; N]) -> [i64; N] {
+    facts.map(|fact| fact as i64)
 }
 
 /// Writes an answer as the C interface does; what the call returns.

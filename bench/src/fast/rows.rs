@@ -60,8 +60,8 @@ pub fn input(index: &PairIndex, first: u8, second: u8) -> u8 {
     index[usize::from(first % 16)][usize::from(second % 16)]
 }
 
-/// The digits of the sum from a place on, or 27. The row has the input indexes of these places, in front of them the eight below;
-/// the window moves up one of them at a time.
+/// The digits of the sum from a place on and the longest word looked up for them, or 27. The row has the input indexes of these places, in
+/// front of them the eight below; the window moves up one of them at a time. The word looked up below place 0 doesn't count.
 #[inline(always)]
 pub fn convert<const PLACES: usize>(
     table: &Table,
@@ -69,11 +69,13 @@ pub fn convert<const PLACES: usize>(
     row: &[u8],
     from: usize,
     digits: &mut [u8],
-) -> Result<(), Fault> {
+) -> Result<usize, Fault> {
     let moved = |window: u64, index: u8| window >> 8 | u64::from(index) << 56;
     let (lower, row) = row.split_at(LONGEST);
     let mut window = lower.iter().fold(0, |window, index| moved(window, *index));
-    let mut below = key(table.code.weight(find(window)));
+    let lowest = find(window);
+    let mut below = key(table.code.weight(lowest));
+    let mut reach = table.code.length(lowest) * usize::from(from > 0);
     let mut leaves = [0; PLACES];
     // All three cut to one length, so that no place has to be compared with it.
     let leaves = &mut leaves[..digits.len()];
@@ -89,8 +91,9 @@ pub fn convert<const PLACES: usize>(
         let digit = here.wrapping_add(below).wrapping_sub(carried_up);
         digits[at] = table.alphabet.index(digit).ok_or(author(27, from + at))?;
         below = key(own);
+        reach = reach.max(table.code.length(leaves[at].into()));
     }
-    Ok(())
+    Ok(reach)
 }
 
 /// Writes digits over a part of the sum; how many bytes changed.
