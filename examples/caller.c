@@ -62,6 +62,8 @@ int main(int argc, char **argv) {
                        YOYOMYRTLE_ANSWER_WORDS) != YOYOMYRTLE_FACTS) {
         return refused();
     }
+    /* The reach: digits further below a place than this had no part in the sum digit there. */
+    printf("added: %d sum digits, reach %d\n", (int)answer[1], (int)answer[2]);
     print_row("first", first, DIGITS);
     print_row("second", second, DIGITS);
     print_row("sum", sum, DIGITS + depth);
@@ -72,7 +74,7 @@ int main(int argc, char **argv) {
                         YOYOMYRTLE_ANSWER_WORDS) != YOYOMYRTLE_FACTS) {
         return refused();
     }
-    printf("edited: %d sum digits changed\n", (int)answer[1]);
+    printf("edited: %d sum digits changed, reach %d\n", (int)answer[1], (int)answer[2]);
     print_row("second", second, DIGITS);
     print_row("sum", sum, DIGITS + depth);
 
@@ -98,6 +100,7 @@ int main(int argc, char **argv) {
                             YOYOMYRTLE_ANSWER_WORDS) != YOYOMYRTLE_FACTS) {
         return refused();
     }
+    printf("subtracted: %d digits, reach %d\n", (int)answer[1], (int)answer[2]);
     print_row("difference", difference, DIGITS + depth);
     return 0;
 }

@@ -127,14 +127,16 @@ fn run(table: &[u8]) -> Result<(), Answer> {
     let mut first: Vec<u8> = (0..6).map(first_digit).collect();
     let mut second: Vec<u8> = (0..6).map(second_digit).collect();
     let mut sum = vec![0; 6 + depth as usize];
-    add(table, &first, &second, &mut sum)?;
+    let [_, places, reach, ..] = add(table, &first, &second, &mut sum)?;
+    // The reach: digits further below a place than this had no part in the sum digit there.
+    println!("added: {places} sum digits, reach {reach}");
     print_row("first", &first);
     print_row("second", &second);
     print_row("sum", &sum);
     // Place 2 of the second row (row number 1) gets the next digit of the alphabet.
     let digit = (u64::from(second[2]) + 1) % digits as u64;
-    let changed = edit(table, [&mut first, &mut second], &mut sum, 1, 2, digit)?[1];
-    println!("edited: {changed} sum digits changed");
+    let [_, changed, reach, ..] = edit(table, [&mut first, &mut second], &mut sum, 1, 2, digit)?;
+    println!("edited: {changed} sum digits changed, reach {reach}");
     print_row("second", &second);
     print_row("sum", &sum);
     // Both rows get a zero at place 0; between the two stands an edit of a place that there isn't.
@@ -152,7 +154,8 @@ fn run(table: &[u8]) -> Result<(), Answer> {
     print_row("sum", &sum);
     // The rows as the edits left them; a table may add and yet not subtract.
     let mut difference = vec![0; 6 + depth as usize];
-    subtract(table, &first, &second, &mut difference)?;
+    let [_, places, reach, ..] = subtract(table, &first, &second, &mut difference)?;
+    println!("subtracted: {places} digits, reach {reach}");
     print_row("difference", &difference);
     Ok(())
 }

@@ -5,7 +5,7 @@
  * outside and nothing else. It has no variables of its own, so that calls may run on several threads at once where none writes a buffer that
  * another is lent.
  *
- * Stack in bytes, at the most: check and run 73,000 (of these 71,000 even with TERN), add, subtract and edit 3,400, value 2,200, the others
+ * Stack in bytes, at the most: check and run 73,000 (of these 71,000 even with TERN), add, subtract and edit 3,500, value 2,200, the others
  * 100. Where memcpy and memset are looked up on first use, the dynamic linker takes some 3,000 more at that time.
  *
  * Each buffer is a pointer and its length, and must hold as many bytes or words as its length says; the pointer may be NULL where the length
@@ -15,6 +15,10 @@
  * The answer array is the last parameter. Word 0 is 0 for facts, 1 for a fault of the table's author, 2 of whoever lends the rows,
  * 3 of the editor. After 0 come the facts that are named at each call below; after 1, 2 or 3 the refusal number and its place.
  * docs/REFUSALS.md says what each number means, what its place counts and what to do. Words with nothing to say keep their contents.
+ *
+ * The reach, a fact of add, subtract and edit, is the length of the longest word among the leaves that the call looked up, 1 to h: in add and
+ * subtract at places 0 to n + h - 1, in an edit of place p at places p - 1 to p + h of the rows as edited, -1 left out. Digits further below a
+ * place than the reach had no part in the digit that the call found there. Of rows of zeros the reach is the length of leaf 0's word.
  *
  * A call returns YOYOMYRTLE_FACTS or YOYOMYRTLE_FAULT. If the answer array has under YOYOMYRTLE_ANSWER_WORDS words, it does nothing
  * and returns YOYOMYRTLE_TOO_SHORT. A call that refuses writes nothing but its answer. */
@@ -40,16 +44,17 @@ extern "C" {
 uint64_t yoyomyrtle_check(const uint8_t *file, size_t file_len,
                           int64_t *answer, size_t answer_len);
 
-/* Adds two rows of n digits (alphabet indexes, lowest place first) into the first n + h bytes of the sum. Facts: n + h. */
+/* Adds two rows of n digits (alphabet indexes, lowest place first) into the first n + h bytes of the sum. Facts: n + h in word 1, the reach in
+ * word 2. */
 uint64_t yoyomyrtle_add(const uint8_t *table, size_t table_len,
                         const uint8_t *first, size_t first_len,
                         const uint8_t *second, size_t second_len,
                         uint8_t *sum, size_t sum_len,
                         int64_t *answer, size_t answer_len);
 
-/* Subtracts the second row of n digits from the first, into the first n + h bytes of the difference. Facts: n + h. It refuses with 42 a table
- * in which some difference of two alphabet digits isn't an input digit, even for empty rows; no other call does. The place is the alphabet
- * index of the digit that is subtracted from, the lowest. */
+/* Subtracts the second row of n digits from the first, into the first n + h bytes of the difference. Facts: n + h in word 1, the reach in
+ * word 2. It refuses with 42 a table in which some difference of two alphabet digits isn't an input digit, even for empty rows; no other call
+ * does. The place is the alphabet index of the digit that is subtracted from, the lowest. */
 uint64_t yoyomyrtle_subtract(const uint8_t *table, size_t table_len,
                              const uint8_t *first, size_t first_len,
                              const uint8_t *second, size_t second_len,
@@ -57,7 +62,7 @@ uint64_t yoyomyrtle_subtract(const uint8_t *table, size_t table_len,
                              int64_t *answer, size_t answer_len);
 
 /* Stores a digit at a place of a row (0 the first, 1 the second) and renews the sum places from there to h above it.
- * Facts: how many of these sum bytes changed. */
+ * Facts: how many of these sum bytes changed in word 1, the reach in word 2. */
 uint64_t yoyomyrtle_edit(const uint8_t *table, size_t table_len,
                          uint8_t *first, size_t first_len,
                          uint8_t *second, size_t second_len,
@@ -68,8 +73,8 @@ uint64_t yoyomyrtle_edit(const uint8_t *table, size_t table_len,
 /* Checks the table, adds the rows and then makes edits in turn: edit k has the row number rows[k], the place places[k] and the digit
  * digits[k], and there are as many as the shortest of the six arrays has entries. Its answer goes to whose[k] (0 facts, 1 author, 2 rows,
  * 3 editor), numbers[k] (0 for facts, else the refusal number) and values[k] (how many sum bytes changed, else the place); further entries
- * keep their contents. A refused edit changes nothing and the next one follows. Facts: the number of edits. If the check or the addition
- * refuses, that is the fault, and nothing but the answer is written. */
+ * keep their contents. A refused edit changes nothing and the next one follows. Facts: the number of edits. A run doesn't tell the reach,
+ * neither the addition's nor an edit's. If the check or the addition refuses, that is the fault, and nothing but the answer is written. */
 uint64_t yoyomyrtle_run(const uint8_t *table, size_t table_len,
                         uint8_t *first, size_t first_len,
                         uint8_t *second, size_t second_len,

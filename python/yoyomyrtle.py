@@ -22,6 +22,13 @@ Subtraction takes the second row from the first:
 
 >>> print(*digits(tern(), subtract(tern(), first, second).difference))
 1 0 0
+
+Each of the three also tells its reach, the length of the longest word among the leaves that it looked up, 1 to the table's depth. Digits
+further below a place than the reach had no part in the digit that the call found there. BIN looks at one digit more below 1 and -1, and
+nowhere else:
+
+>>> add(bin(), [1, 0], [1, 0]).reach, add(bin(), [1, 0], [0, 0]).reach
+(1, 2)
 """
 import ctypes
 import functools
@@ -39,9 +46,10 @@ _GROUPS = (None, 'author', 'rows', 'editor')
 _DEEPEST = 8
 
 Checked = namedtuple('Checked', 'depth leaves digits')
-Added = namedtuple('Added', 'places sum')
-Subtracted = namedtuple('Subtracted', 'places difference')
-Edited = namedtuple('Edited', 'changed first second sum')
+# The reach came later and stands last, so that the other fields keep their numbers.
+Added = namedtuple('Added', 'places sum reach')
+Subtracted = namedtuple('Subtracted', 'places difference reach')
+Edited = namedtuple('Edited', 'changed first second sum reach')
 Ran = namedtuple('Ran', 'answers first second sum')
 Explained = namedtuple('Explained', 'wrong counts todo')
 
@@ -188,33 +196,34 @@ def check(table):
 
 
 def _combined(call, table, first, second):
-    """What an addition or a subtraction of two rows writes: how many places, and their digits."""
+    """What an addition or a subtraction of two rows answers and writes: how many places, their digits, and the reach."""
     first, second = _buffer(first), _buffer(second)
     written = _buffer([], len(first) + _DEEPEST)
-    places = _facts(call, _bytes(table), first, second, written)[0]
-    return places, written[:places]
+    places, reach = _facts(call, _bytes(table), first, second, written)[:2]
+    return places, written[:places], reach
 
 
 def add(table, first, second):
-    """Adds two rows; the sum has as many places more as the table is deep.
+    """Adds two rows; the sum has as many places more as the table is deep. The reach is the longest word looked up at these places.
 
     >>> add(bin(), [1, 1], [1, 0])
-    Added(places=4, sum=[0, 0, 1, 0])
+    Added(places=4, sum=[0, 0, 1, 0], reach=2)
     >>> add(bin(), [0, 1], [0, 0])
-    Added(places=4, sum=[0, 1, 0, 0])
+    Added(places=4, sum=[0, 1, 0, 0], reach=2)
     >>> add(tern(), [], []), add(bin(), [], [])
-    (Added(places=1, sum=[0]), Added(places=2, sum=[0, 0]))
+    (Added(places=1, sum=[0], reach=1), Added(places=2, sum=[0, 0], reach=1))
     """
     return Added(*_combined('add', table, first, second))
 
 
 def subtract(table, first, second):
-    """Subtracts the second row from the first; the difference has as many places more as the table is deep.
+    """Subtracts the second row from the first; the difference has as many places more as the table is deep. The reach is the longest word
+    looked up at these places.
 
     >>> subtract(bin(), [1, 1], [1, 2])
-    Subtracted(places=4, difference=[0, 0, 1, 0])
+    Subtracted(places=4, difference=[0, 0, 1, 0], reach=1)
     >>> subtract(tern(), [], [])
-    Subtracted(places=1, difference=[0])
+    Subtracted(places=1, difference=[0], reach=1)
 
     Every difference of two alphabet digits has to be an input digit. With the digits -2 to 3 the sums of two are -4 to 6, and -2 - 3 isn't
     one of them; -2 has the index 5:
@@ -237,19 +246,21 @@ def subtract(table, first, second):
 
 def edit(table, first, second, sum, row, place, digit):
     """Stores a digit at a place of row 0 (the first) or 1 (the second) of an addition and renews the sum. The rows and the sum that
-    are given stay as they are; the answer has the new ones, and how many digits of the sum changed.
+    are given stay as they are; the answer has the new ones, how many digits of the sum changed, and the reach: the longest word looked up
+    in the new rows from the place below the edited one, if there is one, to as many places above it as the table is deep.
 
     >>> edit(tern(), [2, 2], [1, 2], [0, 2, 1], 0, 0, 4)
-    Edited(changed=2, first=[4, 2], second=[1, 2], sum=[3, 1, 1])
+    Edited(changed=2, first=[4, 2], second=[1, 2], sum=[3, 1, 1], reach=1)
     """
     rows = [_buffer(first), _buffer(second), _buffer(sum)]
-    changed = _facts('edit', _bytes(table), *rows, _size(row), _size(place), _size(digit))[0]
-    return Edited(changed, *map(list, rows))
+    changed, reach = _facts('edit', _bytes(table), *rows, _size(row), _size(place), _size(digit))[:2]
+    return Edited(changed, *map(list, rows), reach)
 
 
 def run(table, first, second, edits):
     """Checks the table, adds the rows and makes edits in turn, each a row number, a place and a digit. The answers are how many digits of
-    the sum each edit changed; for an edit that was refused, which changes nothing, it is a Refused that isn't raised.
+    the sum each edit changed; for an edit that was refused, which changes nothing, it is a Refused that isn't raised. A run doesn't tell
+    the reach.
 
     >>> ran = run(tern(), [2, 2], [1, 2], [(0, 0, 4), (0, 2, 0), (1, 1, 0)])
     >>> ran.answers

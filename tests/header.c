@@ -1,5 +1,6 @@
-/* What include/yoyomyrtle.h promises besides the answers, tried: NULL where a length is 0, buffers that are only read lent twice, and the
- * stack that a call takes, with the tables and rows of the stored vectors (docs/VECTORS.md has their format) on standard input.
+/* What include/yoyomyrtle.h promises besides the answers, tried: NULL where a length is 0, buffers that are only read lent twice, the words
+ * of the answer that facts stand in and those that are kept, and the stack that a call takes, with the tables and rows of the stored vectors
+ * (docs/VECTORS.md has their format) on standard input.
  *
  *     cc -std=c99 -I include tests/header.c target/staticlib/libadder_c.a -o header && ./header <crates/vectors/stdin */
 #define _XOPEN_SOURCE 700
@@ -16,6 +17,8 @@
 
 enum { TABLE, FIRST, SECOND, SUM, BUFFERS };
 enum { LONGEST = 70000, EDITS = 3, DIGITS = 5 };
+/* What is in each word of the answer array before a call; no call answers it here. */
+enum { KEPT = -77 };
 
 static int64_t answer[YOYOMYRTLE_ANSWER_WORDS];
 static uint8_t tern[YOYOMYRTLE_TERN_BYTES];
@@ -28,14 +31,29 @@ static void judge(const char *what, int right) {
     }
 }
 
-/* Judges what a call has returned and the first words of its answer. */
-static void told(const char *what, uint64_t returned, uint64_t expected, int64_t whose, int64_t number, int64_t place) {
-    judge(what, returned == expected && answer[0] == whose && answer[1] == number && answer[2] == place);
-    memset(answer, 0, sizeof answer);
+static void fresh_answer(void) {
+    for (size_t word = 0; word < YOYOMYRTLE_ANSWER_WORDS; word++) {
+        answer[word] = KEPT;
+    }
 }
 
-static void facts(const char *what, uint64_t returned, int64_t fact) {
-    told(what, returned, YOYOMYRTLE_FACTS, 0, fact, 0);
+/* Judges what a call has returned and its answer: words 0 to 2 are those given, and the further ones are kept. */
+static void told(const char *what, uint64_t returned, uint64_t expected, int64_t whose, int64_t second, int64_t third) {
+    judge(what, returned == expected && answer[0] == whose && answer[1] == second && answer[2] == third);
+    for (size_t word = 3; word < YOYOMYRTLE_ANSWER_WORDS; word++) {
+        judge(what, answer[word] == KEPT);
+    }
+    fresh_answer();
+}
+
+/* Two facts: n + h and the reach, the count and the reach, or the parts of an element. */
+static void facts(const char *what, uint64_t returned, int64_t first, int64_t second) {
+    told(what, returned, YOYOMYRTLE_FACTS, 0, first, second);
+}
+
+/* One fact. */
+static void fact(const char *what, uint64_t returned, int64_t only) {
+    told(what, returned, YOYOMYRTLE_FACTS, 0, only, KEPT);
 }
 
 static void fault(const char *what, uint64_t returned, int64_t whose, int64_t number) {
@@ -43,7 +61,7 @@ static void fault(const char *what, uint64_t returned, int64_t whose, int64_t nu
 }
 
 static void too_short(const char *what, uint64_t returned) {
-    told(what, returned, YOYOMYRTLE_TOO_SHORT, 0, 0, 0);
+    told(what, returned, YOYOMYRTLE_TOO_SHORT, KEPT, KEPT, KEPT);
 }
 
 /* Each buffer of each call. The sum of empty rows is one digit with TERN. */
@@ -51,18 +69,18 @@ static void nothing_lent(void) {
     uint8_t sum[1];
     fault("check: file", yoyomyrtle_check(NONE, ANSWER), 1, 1);
     fault("value: table", yoyomyrtle_value(NONE, NONE, ANSWER), 1, 1);
-    facts("value: row", yoyomyrtle_value(tern, sizeof tern, NONE, ANSWER), 0);
+    facts("value: row", yoyomyrtle_value(tern, sizeof tern, NONE, ANSWER), 0, 0);
     fault("add: table", yoyomyrtle_add(NONE, NONE, NONE, NONE, ANSWER), 1, 1);
-    facts("add: rows", yoyomyrtle_add(tern, sizeof tern, NONE, NONE, sum, 1, ANSWER), 1);
+    facts("add: rows", yoyomyrtle_add(tern, sizeof tern, NONE, NONE, sum, 1, ANSWER), 1, 1);
     fault("add: sum", yoyomyrtle_add(tern, sizeof tern, NONE, NONE, NONE, ANSWER), 2, 23);
     fault("subtract: table", yoyomyrtle_subtract(NONE, NONE, NONE, NONE, ANSWER), 1, 1);
-    facts("subtract: rows", yoyomyrtle_subtract(tern, sizeof tern, NONE, NONE, sum, 1, ANSWER), 1);
+    facts("subtract: rows", yoyomyrtle_subtract(tern, sizeof tern, NONE, NONE, sum, 1, ANSWER), 1, 1);
     fault("subtract: difference", yoyomyrtle_subtract(tern, sizeof tern, NONE, NONE, NONE, ANSWER), 2, 23);
     fault("edit: table", yoyomyrtle_edit(NONE, NONE, NONE, NONE, 0, 0, 0, ANSWER), 1, 1);
     fault("edit: rows", yoyomyrtle_edit(tern, sizeof tern, NONE, NONE, sum, 1, 0, 0, 0, ANSWER), 3, 25);
     fault("edit: sum", yoyomyrtle_edit(tern, sizeof tern, NONE, NONE, NONE, 0, 0, 0, ANSWER), 2, 23);
     fault("run: table", yoyomyrtle_run(NONE, NONE, NONE, NONE, NONE, NONE, NONE, NONE, NONE, NONE, ANSWER), 1, 1);
-    facts("run: rows", yoyomyrtle_run(tern, sizeof tern, NONE, NONE, sum, 1, NONE, NONE, NONE, NONE, NONE, NONE, ANSWER), 0);
+    fact("run: rows", yoyomyrtle_run(tern, sizeof tern, NONE, NONE, sum, 1, NONE, NONE, NONE, NONE, NONE, NONE, ANSWER), 0);
     fault("run: sum", yoyomyrtle_run(tern, sizeof tern, NONE, NONE, NONE, NONE, NONE, NONE, NONE, NONE, NONE, ANSWER), 2, 23);
     too_short("check: answer", yoyomyrtle_check(tern, sizeof tern, NONE));
     too_short("value: answer", yoyomyrtle_value(tern, sizeof tern, NONE, NONE));
@@ -81,18 +99,37 @@ static void lent_twice(void) {
     uint8_t first[DIGITS], second[DIGITS], sum[DIGITS + 1], same[DIGITS + 1];
     memcpy(first, part, DIGITS);
     memcpy(second, part, DIGITS);
-    facts("add: rows apart", yoyomyrtle_add(tern, sizeof tern, first, DIGITS, second, DIGITS, sum, sizeof sum, ANSWER), DIGITS + 1);
-    facts("add: one row", yoyomyrtle_add(tern, sizeof tern, part, DIGITS, part, DIGITS, same, sizeof same, ANSWER), DIGITS + 1);
+    facts("add: rows apart", yoyomyrtle_add(tern, sizeof tern, first, DIGITS, second, DIGITS, sum, sizeof sum, ANSWER), DIGITS + 1, 1);
+    facts("add: one row", yoyomyrtle_add(tern, sizeof tern, part, DIGITS, part, DIGITS, same, sizeof same, ANSWER), DIGITS + 1, 1);
     judge("add: the sum of one row", memcmp(sum, same, sizeof sum) == 0);
     const uint8_t zeros[DIGITS + 1] = {0};
-    facts("subtract: one row", yoyomyrtle_subtract(tern, sizeof tern, part, DIGITS, part, DIGITS, same, sizeof same, ANSWER), DIGITS + 1);
+    facts("subtract: one row", yoyomyrtle_subtract(tern, sizeof tern, part, DIGITS, part, DIGITS, same, sizeof same, ANSWER), DIGITS + 1, 1);
     judge("subtract: a row from itself", memcmp(zeros, same, sizeof same) == 0);
 
     const size_t ones[EDITS] = {1, 1, 1};
     size_t whose[EDITS], numbers[EDITS], values[EDITS];
-    facts("run: one list", yoyomyrtle_run(tern, sizeof tern, first, DIGITS, second, DIGITS, sum, sizeof sum, ones, EDITS, ones, EDITS,
-                                          ones, EDITS, whose, EDITS, numbers, EDITS, values, EDITS, ANSWER), EDITS);
+    fact("run: one list", yoyomyrtle_run(tern, sizeof tern, first, DIGITS, second, DIGITS, sum, sizeof sum, ones, EDITS, ones, EDITS,
+                                         ones, EDITS, whose, EDITS, numbers, EDITS, values, EDITS, ANSWER), EDITS);
     judge("run: the edits of one list", whose[2] == 0 && numbers[2] == 0 && values[2] == 0);
+}
+
+/* The reach with BIN, which looks at one digit more below 1 and below -1 and nowhere else. The first row has a 1 at place 1. The first three
+ * edits store the zero that is there, so that no sum digit changes; an edit looks at the place below its own and at two above. The last two
+ * make 1 + 1 and 0 + 1 of the digits at place 1, and the reach is that of the rows as edited. */
+static void reached(void) {
+    uint8_t bin[YOYOMYRTLE_BIN_BYTES], first[DIGITS] = {0, 1}, second[DIGITS] = {0}, sum[DIGITS + 2];
+    yoyomyrtle_bin(bin, sizeof bin);
+#define BIN_ROWS bin, sizeof bin, first, DIGITS, second, DIGITS, sum, sizeof sum
+    facts("add: reach", yoyomyrtle_add(BIN_ROWS, ANSWER), DIGITS + 2, 2);
+    facts("subtract: reach", yoyomyrtle_subtract(bin, sizeof bin, first, DIGITS, first, DIGITS, sum, sizeof sum, ANSWER), DIGITS + 2, 1);
+    facts("subtract: reach of a 1", yoyomyrtle_subtract(BIN_ROWS, ANSWER), DIGITS + 2, 2);
+    facts("edit: reach at place 0", yoyomyrtle_edit(BIN_ROWS, 1, 0, 0, ANSWER), 0, 2);
+    facts("edit: reach of the place below", yoyomyrtle_edit(BIN_ROWS, 1, 2, 0, ANSWER), 0, 2);
+    facts("edit: reach two places up", yoyomyrtle_edit(BIN_ROWS, 1, 3, 0, ANSWER), 0, 1);
+    fault("edit: no reach", yoyomyrtle_edit(BIN_ROWS, 2, 1, 0, ANSWER), 3, 24);
+    facts("edit: reach of 1 + 1", yoyomyrtle_edit(BIN_ROWS, 1, 1, 1, ANSWER), 2, 1);
+    facts("edit: reach of 0 + 1", yoyomyrtle_edit(BIN_ROWS, 0, 1, 0, ANSWER), 2, 2);
+#undef BIN_ROWS
 }
 
 /* What the calls below are given: buffers of one vector, those that it lacks being empty, and an edit. */
@@ -123,8 +160,8 @@ static struct {
     void (*call)(void);
     size_t promised, most;
 } calls[] = {
-    {"check", check_call, 73000, 0},     {"add", add_call, 3400, 0},   {"subtract", subtract_call, 3400, 0},
-    {"edit", edit_call, 3400, 0},        {"run", run_call, 73000, 0},  {"value", value_call, 2200, 0},
+    {"check", check_call, 73000, 0},     {"add", add_call, 3500, 0},   {"subtract", subtract_call, 3500, 0},
+    {"edit", edit_call, 3500, 0},        {"run", run_call, 73000, 0},  {"value", value_call, 2200, 0},
     {"midpoint", midpoint_call, 100, 0}, {"tern", tern_call, 100, 0},  {"bin", bin_call, 100, 0},
 };
 
@@ -157,7 +194,7 @@ static void read_bytes(uint8_t *to, size_t count) {
 
 /* Takes the next vector's buffers; 0 where there is none. */
 static int next_vector(void) {
-    static const size_t buffers[] = {0, 1, 4, 4, 2, 0, 0, 0, 4}, more[] = {0, 0, 0, 24, 0, 16, 0, 0, 0};
+    static const size_t buffers[] = {[1] = 1, [2] = 4, [3] = 4, [4] = 2, [8] = 4, [19] = 1}, more[] = {[3] = 24, [5] = 16, [19] = 8};
     int call = getchar();
     uint8_t bytes[24];
     if (call == EOF) {
@@ -194,8 +231,10 @@ static void stack_taken(void) {
 
 int main(void) {
     yoyomyrtle_tern(tern, sizeof tern);
+    fresh_answer();
     nothing_lent();
     lent_twice();
+    reached();
     stack_taken();
     printf("%d things not as promised\n", wrong);
     return wrong > 0;
