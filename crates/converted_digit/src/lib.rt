@@ -2,14 +2,24 @@
 ghost use mathlib.Core.Path.{_≡_};
 ghost use Prim.Native.Nat.{_^_};
 ghost use Rattle.ring.specs.Tests.{Within, RowsWithin};
-ghost use Rattle.layout_rules.specs.Section.{degree};
+ghost use Rattle.ring.specs.Degree.{partCount};
 ghost use Rattle.numeration.specs.Conversion.{outDigit};
 ghost use Rattle.numeration.specs.Elements.{elements};
+use ring::Degree;
 
 // An input digit, plus the weight from below, minus the base times the own weight.
-pub fn out_digit(base: [[i64; 2]; 2], input: [i64; 2], below: [i64; 2], own: [i64; 2]) -> [i64; 2]
-    requires { ⌜ RowsWithin (2 ^ 24) base × Within 32768 input × Within 32768 below × Within 32768 own ⌝ }
-    ensures { λ r. ⌜ r ≡ outDigit (elements degree base) input below own ⌝ }
+pub fn out_digit(
+    degree: Degree,
+    base: [[i64; 4]; 4],
+    input: [i64; 4],
+    below: [i64; 4],
+    own: [i64; 4],
+) -> [i64; 4]
+    requires { ⌜ RowsWithin (2 ^ 21) base × Within 32768 input × Within 32768 below × Within 32768 own ⌝ }
+    ensures { λ r. ⌜ r ≡ outDigit (elements (partCount degree) base) input below own ⌝ }
 {
-    elements::difference(elements::sum(input, below), elements::times_base(base, own))
+    elements::difference(
+        elements::sum(input, below),
+        elements::times_base(degree, base, own),
+    )
 }

@@ -15,7 +15,7 @@ use Rattle.midpoint.proofs.Halves.{to-even, halved-twice, halved-neg}
 
 -- an element is known by its parts
 pub known-by-parts : (x y : Element) → parts x ≡ parts y → x ≡ y
-known-by-parts x y h = λ i. record { a = part (h i) 0; b = part (h i) 1 }
+known-by-parts x y h = λ i. record { a = part (h i) 0; b = part (h i) 1; c = part (h i) 2; d = part (h i) 3 }
 
 -- each part is the half of the sum of the two parts; a missing part is zero
 pub part-midpoint : (x y : List ℤ) (k : ℕ) → part (midpointOf x y) k ≡ halved (part x k +ℤ part y k)

@@ -7,7 +7,7 @@ use Rattle.midpoint.specs.declared.Element.{Element}
 
 -- an element's parts, lowest power first: what contracts see of it
 abbrev pub parts : Element → List ℤ
-parts e = e .a ∷ e .b ∷ []
+parts e = e .a ∷ e .b ∷ e .c ∷ e .d ∷ []
 
 -- "halves the sum of each pair of parts"; what a half is stands in Half.antt
 unfoldable pub midpointOf : List ℤ → List ℤ → List ℤ

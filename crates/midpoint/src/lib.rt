@@ -5,10 +5,12 @@ ghost use lib.IntN.{natAbs, _+ℤ_};
 ghost use Rattle.midpoint.specs.Halved.{halved};
 ghost use Rattle.midpoint.specs.Midpoint.{parts, midpointOf};
 
-// An element a + b·ω as callers see it.
+// An element a + b·ω + c·ω² + d·ω³ as callers see it; the parts above the degree are zero.
 pub struct Element {
     pub a: i32,
     pub b: i32,
+    pub c: i32,
+    pub d: i32,
 }
 
 // Half, to the even neighbour: two quarters rounded down make it without a branch.
@@ -33,5 +35,7 @@ pub fn midpoint(x: Element, y: Element) -> Element
     Element {
         a: half_sum(x.a, y.a),
         b: half_sum(x.b, y.b),
+        c: half_sum(x.c, y.c),
+        d: half_sum(x.d, y.d),
     }
 }

@@ -6,8 +6,9 @@ use mathlib.Core.List.{List, map}
 use Prim.Native.Nat.{ℕ, suc, _+_, _<_, _≤_}
 use lib.ListN.{length, getD, set}
 use lib.IntN.{ℤ}
-use Rattle.ring.specs.Product.{product, matrixOf}
-use Rattle.ring.proofs.Matrix.{length-matrix, matrix-product}
+use Rattle.ring.specs.Product.{product}
+use Rattle.ring.specs.Padded.{width, padded, paddedMatrix}
+use Rattle.ring.proofs.Padded.{padded-product}
 use Rattle.numeration.specs.Group.{Operations}
 use Rattle.numeration.specs.Laws.{AdditiveGroup, HasParts, convertRow, InGroup, PairsConvert, Elements}
 use Rattle.numeration.specs.Elements.{elements}
@@ -73,8 +74,9 @@ pub list-of-digit-changes : {A : Type 0} (o : Operations A) (input : ℕ → A) 
 list-of-digit-changes o input c alphabet n m p pairs =
     changeAll-right (rowChanges o input c alphabet n m) (InputRow n m) (rowChanges-local o input c alphabet n m (pairs-rows o input c m p (λ x. alphabet x ≡ true) .0 pairs))
 
--- 7. Instance. Elements of any degree with multiplication by the base β are such a group, the map being the product β · x.
-pub elements-of-any-degree : (r β : List ℤ) → 1 ≤ length r → length β ≡ length r → AdditiveGroup (elements (length r) (matrixOf r β)) (HasParts (length r)) × ((x : List ℤ) → HasParts (length r) x → elements (length r) (matrixOf r β) .base x ≡ product r β x)
+-- 7. Instance. Elements of degree up to four, as four parts, with multiplication by the base β are such a group, the map being the
+-- product β · x.
+pub elements-of-any-degree : (r β : List ℤ) → 1 ≤ length r → length r ≤ width → length β ≡ length r → AdditiveGroup (elements (length r) (paddedMatrix r β)) (HasParts width) × ((x : List ℤ) → HasParts (length r) x → elements (length r) (paddedMatrix r β) .base (padded x) ≡ padded (product r β x))
 unfolding elements
-elements-of-any-degree r β positive h =
-    (elements-group (length r) (matrixOf r β) (length-matrix r β), λ x k. matrix-product r positive β x h k)
+elements-of-any-degree r β positive fits h =
+    (elements-group (length r) (paddedMatrix r β), λ x k. padded-product r β x positive fits h k)

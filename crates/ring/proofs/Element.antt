@@ -2,16 +2,17 @@
 use mathlib.Core.Path.{_≡_, refl, sym, ap, ap₂, _∙_}
 use mathlib.Core.Bool.{true, _&&_}
 use mathlib.Core.List.{List, [], _∷_}
-use Prim.Native.Nat.{ℕ, zero, suc, _+_, _≤_, max}
+use Prim.Native.Nat.{ℕ, zero, suc, _+_, _*_, _≤_, max, _<_, zero-le}
 use native.Mathlib.Omega.{arith}
-use native.Mathlib.Nat.{not-suc-le-zero}
+use native.Mathlib.Nat.{not-suc-le-zero, add-zero, add-suc, suc-add}
 use lib.ListN.{length, take, length-map, List·getD-map}
-use lib.IntN.{ℤ, pos, negℤ, _+ℤ_, _-ℤ_, _*ℤ_, +ℤ-assoc, +ℤ-comm, +ℤ-idl, +ℤ-idr, +ℤ-invl, negℤ-+ℤ, *ℤ-comm, *ℤ-zero, zero-*ℤ}
+use lib.IntN.{ℤ, pos, natAbs, negℤ, _+ℤ_, _-ℤ_, _*ℤ_, +ℤ-assoc, +ℤ-comm, +ℤ-idl, +ℤ-idr, +ℤ-invl, negℤ-+ℤ, *ℤ-comm, *ℤ-zero, zero-*ℤ}
+use Rattle.lists.specs.Span.{span}
 use Rattle.lists.proofs.Cons.{cons≡}
 use Rattle.lists.proofs.Test.{both, clash}
 use Rattle.integers.proofs.Test.{eqZ-refl, eqZ→≡}
 use Rattle.integers.proofs.Laws.{*-distrib, +-distrib, *-assoc, one-*}
-use Rattle.integers.proofs.Size.{natAbs-+, natAbs-neg}
+use Rattle.integers.proofs.Size.{natAbs-+, natAbs-neg, natAbs-*≤}
 use Rattle.ring.specs.Element.{part, zeros, plus, negative, minus}
 use Rattle.ring.specs.Product.{scale}
 use Rattle.ring.specs.Tests.{Within, same}
@@ -169,9 +170,20 @@ unfolding Within
 within-minus m n x y h l k =
     rw (part-minus x y k) (omega (arith, natAbs-+ (part x k) (negℤ (part y k)), natAbs-neg (part y k), h k, l k))
 
+pub within-scale : (m n : ℕ) (k : ℤ) (x : List ℤ) → natAbs k ≤ m → Within n x → Within (m * n) (scale k x)
+unfolding Within
+within-scale m n k x h w i = rw (part-scale k x i) (natAbs-*≤ k (part x i) m n h (w i))
+
 pub within-le : (m n : ℕ) (x : List ℤ) → m ≤ n → Within m x → Within n x
 unfolding Within
 within-le m n x h w k = omega (arith, w k)
+
+-- a list by a function of the place
+pub within-span : (n : ℕ) (f : ℕ → ℤ) (i c : ℕ) → ((k : ℕ) → k < c → natAbs (f (i + k)) ≤ n) → Within n (span f i c)
+unfolding Within span
+within-span n f i zero h k = zero-le
+within-span n f i (suc c) h zero = rw add-zero at (h 0 (omega arith))
+within-span n f i (suc c) h (suc k) = within-span n f (suc i) c (λ j l. rw (add-suc i j, ← suc-add i j) at (h (suc j) (omega arith))) k
 
 -- ---- a zero put below
 

@@ -1,9 +1,11 @@
 pub mod Element
 pub mod Product
 pub mod Matrix
+pub mod Padded
 pub mod Determinant
 pub mod Base
 pub mod Discriminant
 pub mod Conjugates
 pub mod Parts
+pub mod Columns
 pub mod Combined

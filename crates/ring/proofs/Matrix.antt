@@ -1,14 +1,14 @@
 -- Matrices: matrix times element is additive, and the matrix that belongs to β times x is the product β · x, for every degree.
 use mathlib.Core.Path.{_≡_, refl, sym, ap, _∙_}
 use mathlib.Core.List.{List, [], _∷_, map}
-use Prim.Native.Nat.{ℕ, zero, suc, _+_, _*_, _≤_, zero-le}
+use Prim.Native.Nat.{ℕ, zero, suc, _+_, _*_, _<_, _≤_, zero-le}
 use native.Mathlib.Omega.{arith}
 use native.Mathlib.Nat.{suc-mul, le-trans, mul-le-mul-right}
-use lib.ListN.{length, getD, length-map}
-use lib.IntN.{ℤ, pos, natAbs, _+ℤ_, _*ℤ_, +ℤ-idl, +ℤ-idr, *ℤ-comm}
+use lib.ListN.{length, getD, take, drop, length-map}
+use lib.IntN.{ℤ, pos, natAbs, _+ℤ_, _*ℤ_, +ℤ-idl, +ℤ-idr, +ℤ-comm, +ℤ-assoc, *ℤ-comm, *ℤ-zero, zero-*ℤ}
 use Rattle.lists.specs.Span.{span}
 use Rattle.lists.proofs.Cons.{cons≡}
-use Rattle.lists.proofs.Span.{span-ext, span-getD, map-span, length-span}
+use Rattle.lists.proofs.Span.{span-ext, span-getD, map-span, length-span, getD-span}
 use Rattle.integers.proofs.Laws.{*-distrib, +-cross}
 use Rattle.integers.proofs.Size.{natAbs-+, natAbs-*≤}
 use Rattle.ring.specs.Element.{part, zeros, plus}
@@ -32,6 +32,31 @@ dot-plus (a ∷ row) [] y = sym (+ℤ-idl (dot (a ∷ row) y))
 dot-plus (a ∷ row) (b ∷ x) [] = sym (+ℤ-idr (dot (a ∷ row) (b ∷ x)))
 dot-plus (a ∷ row) (b ∷ x) (c ∷ y) =
     rw (dot-plus row x y, *-distrib a b c) (+-cross (a *ℤ b) (a *ℤ c) (dot row x) (dot row y))
+
+dot-step : (a : ℤ) (row x : List ℤ) → dot (a ∷ row) x ≡ a *ℤ part x 0 +ℤ dot row (drop 1 x)
+unfolding dot
+dot-step a row [] = rw (*ℤ-zero a, dot-nil row)
+dot-step a row (b ∷ x) = refl
+
+pub part-rest : (x : List ℤ) (k : ℕ) → part (drop 1 x) k ≡ part x (suc k)
+part-rest [] k = refl
+part-rest (a ∷ x) k = refl
+
+-- a row sees as many parts as it has entries
+pub dot-parts : (row x y : List ℤ) → ((k : ℕ) → k < length row → part x k ≡ part y k) → dot row x ≡ dot row y
+unfolding dot
+dot-parts [] x y h = refl
+dot-parts (a ∷ row) x y h =
+    rw (dot-step a row x, dot-step a row y, h 0 (omega arith), dot-parts row (drop 1 x) (drop 1 y) (λ k l. part-rest x k ∙ h (suc k) (omega arith) ∙ sym (part-rest y k)))
+
+-- one entry more
+pub dot-next : (n : ℕ) (row x : List ℤ) → dot (take (suc n) row) x ≡ dot (take n row) x +ℤ part row n *ℤ part x n
+unfolding dot
+dot-next zero [] x = rw (zero-*ℤ (part x 0))
+dot-next (suc n) [] x = rw (zero-*ℤ (part x (suc n)))
+dot-next zero (a ∷ row) x = dot-step a [] x ∙ +ℤ-comm (a *ℤ part x 0) (pos 0)
+dot-next (suc n) (a ∷ row) x =
+    rw (dot-step a (take (suc n) row) x, dot-step a (take n row) x, dot-next n row (drop 1 x), part-rest x n) (sym (+ℤ-assoc (a *ℤ part x 0) (dot (take n row) (drop 1 x)) (part row n *ℤ part x (suc n))))
 
 pub times-plus : (m : List (List ℤ)) (x y : List ℤ) → times m (plus x y) ≡ plus (times m x) (times m y)
 unfolding times plus
@@ -78,6 +103,17 @@ module _ (r : List ℤ) (positive : 1 ≤ length r) where
 pub length-matrix : (r β : List ℤ) → length (matrixOf r β) ≡ length r
 unfolding matrixOf
 length-matrix r β = length-span _ 0 (length r)
+
+pub length-columns : (r : List ℤ) (n : ℕ) (β : List ℤ) → length (columns r n β) ≡ n
+unfolding columns
+length-columns r zero β = refl
+length-columns r (suc n) β = ap suc (length-columns r n (timesOmega r β))
+
+-- each row has an entry of each column
+pub length-row : (r β : List ℤ) (i : ℕ) → i < length r → length (getD (matrixOf r β) i []) ≡ length r
+unfolding matrixOf
+length-row r β i h =
+    ap length (getD-span (λ k. map (λ column. part column k) (columns r (length r) β)) 0 (length r) i [] h) ∙ length-map (columns r (length r) β) (λ column. part column (0 + i)) ∙ length-columns r (length r) β
 
 -- ---- sizes
 

@@ -1,4 +1,5 @@
--- Pinned by determinant-of-three and the laws beside it (proofs/Determinant.antt): for degrees above two, which no call takes yet.
+-- Pinned by determinant-of-three and the laws beside it (proofs/Determinant.antt): a reader may skip this file. The determinant of any
+-- number of rows.
 use mathlib.Core.List.{List, [], _∷_, _++_, map}
 use Prim.Native.Nat.{ℕ, zero, suc}
 use lib.ListN.{take, drop}
@@ -28,3 +29,7 @@ determinant zero m = pos 1
 determinant (suc n) [] = pos 0
 determinant (suc n) (row ∷ rows) =
     alternating (span (λ j. part row j *ℤ determinant n (map (without j) rows)) 0 (suc n))
+
+-- of two rows, by their columns p and q
+abbrev pub minor : List ℤ → List ℤ → ℕ → ℕ → ℤ
+minor x y p q = part x p *ℤ part y q -ℤ part x q *ℤ part y p

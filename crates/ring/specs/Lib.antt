@@ -2,6 +2,8 @@ pub mod Element
 pub mod Operation
 pub mod Matrix
 pub mod Product
+pub mod Degree
+pub mod Padded
 pub mod Determinant
 pub mod Base
 pub mod Tests

@@ -5,3 +5,10 @@ pub enum Operation {
     Plus,
     Minus,
 }
+
+// The degree of the ring (document 02, job 8): how many parts an element has.
+pub enum Degree {
+    Two,
+    Three,
+    Four,
+}

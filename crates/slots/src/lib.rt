@@ -6,13 +6,13 @@ ghost use Rattle.slots.specs.Slot.{slotOf};
 
 const SLOTS: usize = 256;
 
-// The slot of an element. Those of a square of 16 by 16 have different ones.
-pub fn slot_of(x: [i64; 2]) -> usize
-    requires { ⌜ Within (2 ^ 58) x ⌝ }
+// The slot of an element. At degree two those of a square of 16 by 16 have different ones, at degree four those of 4 by 4 by 4 by 4.
+pub fn slot_of(x: [i64; 4]) -> usize
+    requires { ⌜ Within (2 ^ 56) x ⌝ }
     ensures slot { λ r. ⌜ r ≡ slotOf x ⌝ }
     ensures within { λ r. ⌜ r < 256 ⌝ }
 {
-    let place = x[0] + 16 * x[1] + 32768;
+    let place = x[0] + 16 * x[1] + 4 * x[2] + 64 * x[3] + 32768;
     if place < 0 {
         return 0;
     }

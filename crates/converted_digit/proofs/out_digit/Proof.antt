@@ -22,7 +22,7 @@ difference-requires : tie.Need-difference-requires
 difference-requires c κs =
     let s = c .before .before in
     let total = within-plus 32768 32768 (s .args .input) (s .args .below) (s .pre .1) (s .pre .2) in
-    (subst (Within (2 ^ 61)) (sym (c .before .sum .ensures)) (within-le (32768 + 32768) (2 ^ 61) _ (lit≤ tt) total), within-le (2 ^ 57) (2 ^ 61) _ (lit≤ tt) (c .times-base .ensures .1))
+    (subst (Within (2 ^ 61)) (sym (c .before .sum .ensures)) (within-le (32768 + 32768) (2 ^ 61) _ (lit≤ tt) total), within-le (2 ^ 55) (2 ^ 61) _ (lit≤ tt) (c .times-base .ensures .1))
 
 returns : tie.Need-returns
 unfolding outDigit elements

@@ -1,32 +1,58 @@
--- Every entry is at most 64 + 64 · 64 in size.
-use mathlib.Core.Path.{refl, sym, _∙_}
-use mir.Syntax.{w64}
+-- The rows of the four columns.
+use mathlib.Core.Path.{_≡_, refl, sym, ap, subst, _∙_}
+use mathlib.Core.List.{List, map}
+use Prim.Native.Nat.{ℕ}
+use lib.ListN.{length, take}
+use lib.IntN.{ℤ}
+use Rattle.lists.specs.Span.{span}
 use Rattle.lists.proofs.Cons.{cons≡}
-use Rattle.integers.proofs.Machine.{Term, _⊕_, _⊗_, computed-fits, stored-is}
-use Rattle.ring.proofs.Base.{rows-of-two}
-use Rattle.ring.proofs.Parts.{s-term, t-term, u-term, v-term}
+use Rattle.ring.specs.Degree.{partCount}
+use Rattle.ring.specs.Element.{part}
+use Rattle.ring.specs.Padded.{padded}
+use Rattle.ring.specs.Tests.{ColumnsWithin}
+use Rattle.ring.proofs.Columns.{rows-by-columns, columns-within-matrix, columns-rows}
+use borrow.Author.Needs.{needs}
 use Rattle.elements.proofs.base_matrix.Statement.{statement}
 use Rattle.elements.proofs.base_matrix.Tie as tie
 
-abbrev upper : tie.Start → Term
-upper c = t-term (c .pre) ⊗ v-term (c .pre)
+columns-of-requires : tie.Need-columns-of-requires
+columns-of-requires c κs = search needs
 
-abbrev lower : tie.Start → Term
-lower c = u-term (c .pre) ⊕ s-term (c .pre) ⊗ v-term (c .pre)
+row-of-requires : tie.Need-row-of-requires
+row-of-requires c κs = search needs
 
-mul-t5 : tie.Need-mul-t5
-mul-t5 c = computed-fits w64 (upper c) refl
+row-of-requires-2 : tie.Need-row-of-requires-2
+row-of-requires-2 c κs = search needs
 
-mul-t7 : tie.Need-mul-t7
-mul-t7 c = computed-fits w64 (s-term (c .pre) ⊗ v-term (c .pre)) refl
+row-of-requires-3 : tie.Need-row-of-requires-3
+row-of-requires-3 c κs = search needs
 
-add-t8 : tie.Need-add-t8
-add-t8 c = computed-fits w64 (lower c) refl
+row-of-requires-4 : tie.Need-row-of-requires-4
+row-of-requires-4 c κs = search needs
 
 returns : tie.Need-returns
+unfolding span
 returns c =
-    let a = c .args in
-    cons≡ (cons≡ (stored-is w64 (u-term (c .pre)) refl) (cons≡ (stored-is w64 (upper c) refl) refl)) (cons≡ (cons≡ (stored-is w64 (v-term (c .pre)) refl) (cons≡ (stored-is w64 (lower c) refl) refl)) refl) ∙ sym (rows-of-two (a .s) (a .t) (a .u) (a .v))
+    let s = c .before .before .before .before .before in
+    let d = s .args .degree in
+    let ω = s .args .omega in
+    let β = s .args .beta in
+    let h : length ω ≡ 4 = search needs in
+    let k : length β ≡ 4 = search needs in
+    let row : ℕ → List (List ℤ) → List ℤ = λ i m. padded (take (partCount d) (map (λ column. part column i) m)) in
+    let four = c .before .before .before .before .columns-of .ensures in
+    let rows = cons≡ (c .before .before .before .row-of .ensures ∙ ap (row 0) four) (cons≡ (c .before .before .row-of2 .ensures ∙ ap (row 1) four) (cons≡ (c .before .row-of3 .ensures ∙ ap (row 2) four) (cons≡ (c .row-of4 .ensures ∙ ap (row 3) four) refl))) in
+    let whole = rows ∙ sym (rows-by-columns d ω β h k) in
+    let within = subst (ColumnsWithin d) (sym whole) (columns-within-matrix d ω β h k (s .pre)) in
+    (whole, (within, columns-rows d _ within))
 
 pub base-matrix-spec : {M : Type 1} → statement M
-base-matrix-spec = tie.close (tie.spec mul-t5 mul-t7 add-t8 returns)
+base-matrix-spec =
+    tie.close
+    (tie.spec
+    columns-of-requires
+    row-of-requires
+    row-of-requires-2
+    row-of-requires-3
+    row-of-requires-4
+    returns)

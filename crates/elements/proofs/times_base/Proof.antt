@@ -1,42 +1,67 @@
--- A row for each part.
-use mathlib.Core.Path.{_≡_, refl, sym, subst, _∙_}
-use Prim.Native.Nat.{_^_}
-use lib.ListN.{length}
-use mir.Syntax.{w64}
-use mir.ValLaws.{toZ-ofZ}
-use borrow.Author.Needs.{needs}
-use Rattle.lists.proofs.Cons.{cons≡}
+-- By the degree; every part is at most 4 · 2 ^ 53 in size.
+use mathlib.Core.Path.{_≡_, sym, ap, subst, _∙_}
+use mathlib.Core.List.{List}
+use Prim.Native.Nat.{_*_, _^_}
+use native.Mathlib.Omega.{arith}
+use lib.IntN.{ℤ}
+use Rattle.ring.specs.declared.Degree.{Degree}
+use Rattle.ring.specs.declared.Degree.the-variants.{Two, Three, Four}
+use Rattle.ring.specs.Degree.{partCount}
 use Rattle.ring.specs.Tests.{Within}
-use Rattle.ring.proofs.Parts.{within-row, within-two, times-two}
+use Rattle.ring.specs.Padded.{paddedTimes}
+use Rattle.ring.proofs.Element.{within-le}
+use Rattle.ring.proofs.Padded.{within-padded-times}
+use Rattle.ring.proofs.Columns.{some-parts}
+use borrow.Author.Needs.{needs}
 use Rattle.elements.proofs.times_base.Statement.{statement}
 use Rattle.elements.proofs.times_base.Tie as tie
 
-array-copy-out-dot-product : tie.Need-array-copy-out-dot-product
-array-copy-out-dot-product c = search needs
+module _ (s : tie.Start) where
+  abbrev product : Degree → List ℤ
+  product d = paddedTimes (partCount d) (s .args .base) (s .args .x)
 
-dot-product-requires : tie.Need-dot-product-requires
-dot-product-requires c κs =
-    let s = c .before in
-    (within-row (2 ^ 24) (s .args .t1) (s .pre .0) 0, s .pre .1)
+  -- what is returned, where the degree is d
+  answer : (d : Degree) (r : List ℤ) → d ≡ s .args .degree → r ≡ product d → (r ≡ product (s .args .degree)) × Within (2 ^ 55) r
+  answer d r told is =
+      (is ∙ ap product told, subst (Within (2 ^ 55)) (sym is) (within-le (partCount d * (2 ^ 21 * 2 ^ 32)) (2 ^ 55) (product d) (omega (arith, some-parts d .1)) (within-padded-times (partCount d) (2 ^ 21) (2 ^ 32) (s .args .base) (s .args .x) (s .pre .0) (s .pre .1))))
 
-array-copy-out-dot-product-2 : tie.Need-array-copy-out-dot-product-2
-array-copy-out-dot-product-2 c = search needs
+enum-told : tie.Need-enum-told
+enum-told c = search needs
 
-dot-product-requires-2 : tie.Need-dot-product-requires-2
-dot-product-requires-2 c κs =
-    let s = c .before .before .before in
-    (within-row (2 ^ 24) (s .args .t1) (s .pre .0) 1, s .pre .1)
+times-two-requires : tie.Need-times-two-requires
+times-two-requires c κs = search needs
+
+enum-told-2 : tie.Need-enum-told-2
+enum-told-2 c = search needs
+
+times-three-requires : tie.Need-times-three-requires
+times-three-requires c κs = search needs
+
+enum-told-3 : tie.Need-enum-told-3
+enum-told-3 c = search needs
+
+times-four-requires : tie.Need-times-four-requires
+times-four-requires c κs = search needs
 
 returns : tie.Need-returns
-returns c =
-    let s = c .before .before .before .before in
-    let h : length (s .args .t1) ≡ 2 = search needs in
-    let a = c .before .before .dot-product in
-    let b = c .dot-product2 in
-    let read = cons≡ (toZ-ofZ w64 (a .result) (search needs)) (cons≡ (toZ-ofZ w64 (b .result) (search needs)) refl) in
-    (read ∙ cons≡ (a .ensures .0) (cons≡ (b .ensures .0) refl) ∙ sym (times-two (s .args .t1) (s .args .x) h), subst (Within (2 ^ 57)) (sym read) (within-two (2 ^ 57) (a .result) (b .result) (a .ensures .1) (b .ensures .1)))
+returns c = answer (c .before .before .before) Two (c .times-two .result) (sym (c .before .enum-told .given .1)) (c .times-two .ensures)
+
+returns-2 : tie.Need-returns-2
+returns-2 c = answer (c .before .before .before) Three (c .times-three .result) (sym (c .before .enum-told2 .given .1)) (c .times-three .ensures)
+
+returns-3 : tie.Need-returns-3
+returns-3 c = answer (c .before .before .before) Four (c .times-four .result) (sym (c .before .enum-told3 .given .1)) (c .times-four .ensures)
 
 pub times-base-spec : {M : Type 1} → statement M
 times-base-spec =
     tie.close
-    (tie.spec array-copy-out-dot-product dot-product-requires array-copy-out-dot-product-2 dot-product-requires-2 returns)
+    (tie.spec
+    enum-told
+    times-two-requires
+    enum-told-2
+    times-three-requires
+    enum-told-3
+    times-four-requires
+    returns
+    returns-2
+    returns-3)

@@ -1,17 +1,16 @@
--- Each product is at most 2 ^ 56 in size.
-use mathlib.Core.Path.{_≡_, refl, sym, _∙_}
+-- Each product is at most 2 ^ 53 in size.
+use mathlib.Core.Path.{refl, sym, _∙_}
 use Prim.Native.Nat.{ℕ, _^_}
-use borrow.Author.Needs.{needs}
 use mir.Syntax.{w64}
-use lib.ListN.{length}
 use Rattle.integers.proofs.Machine.{Term, _⊕_, _⊗_, computed-fits, stored-is, stored-bound}
 use Rattle.ring.proofs.Parts.{entry, dot-two}
-use Rattle.elements.proofs.dot_product.Statement.{statement}
-use Rattle.elements.proofs.dot_product.Tie as tie
+use borrow.Author.Needs.{needs}
+use Rattle.elements.proofs.dot_two.Statement.{statement}
+use Rattle.elements.proofs.dot_two.Tie as tie
 
--- part k of the row times part k of the element
+-- entry k of the row times part k of the element
 abbrev at : tie.Start → ℕ → Term
-at s k = entry (2 ^ 24) (s .args .t1) (s .pre .0) k ⊗ entry (2 ^ 32) (s .args .t2) (s .pre .1) k
+at s k = entry (2 ^ 21) (s .args .t1) (s .pre .0) k ⊗ entry (2 ^ 32) (s .args .t2) (s .pre .1) k
 
 array-copy-out-result : tie.Need-array-copy-out-result
 array-copy-out-result c = search needs
@@ -37,9 +36,17 @@ add-result c = let s = c .before .before .before .before in computed-fits w64 (a
 returns : tie.Need-returns
 returns c =
     let s = c .before .before .before .before in
-    let h : length (s .args .t1) ≡ 2 = search needs in
-    let k : length (s .args .t2) ≡ 2 = search needs in
-    (stored-is w64 (at s 0 ⊕ at s 1) refl ∙ sym (dot-two (s .args .t1) (s .args .t2) h k), stored-bound w64 (at s 0 ⊕ at s 1) refl)
+    (stored-is w64 (at s 0 ⊕ at s 1) refl ∙ sym (dot-two (s .args .t1) (s .args .t2)), stored-bound w64 (at s 0 ⊕ at s 1) refl)
 
-pub dot-product-spec : {M : Type 1} → statement M
-dot-product-spec = tie.close (tie.spec array-copy-out-result array-copy-out-result-2 mul-result array-copy-out-result-3 array-copy-out-result-4 mul-result-2 add-result returns)
+pub dot-two-spec : {M : Type 1} → statement M
+dot-two-spec =
+    tie.close
+    (tie.spec
+    array-copy-out-result
+    array-copy-out-result-2
+    mul-result
+    array-copy-out-result-3
+    array-copy-out-result-4
+    mul-result-2
+    add-result
+    returns)
