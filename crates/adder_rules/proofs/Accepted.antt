@@ -5,6 +5,7 @@ use mathlib.Core.Logic.{inl, inr}
 use Prim.Native.Nat.{ℕ, _+_, _<_, _≤_}
 use native.Mathlib.Omega.{arith}
 use lib.ListN.{length}
+use Rattle.layout_rules.specs.Section.{Section}
 use Rattle.lists.proofs.Span.{length-span, getD-span}
 use Rattle.faults.specs.Check.{none}
 use Rattle.faults.specs.Outcome.{Group, facts, refused, author}
@@ -47,7 +48,7 @@ row-inputs op file first second room passes asked fit k h =
     let l : k < length first = omega (arith, length-span (inputOf op file first second) 0 (length first)) in
     rw (getD-span (inputOf op file first second) 0 (length first) k 0 l) (inputs-below op file first second room passes asked fit (0 + k) (omega arith))
 
-only-42 : (op : Operation) (alphabet inputs : List ℕ) → Numbers (λ n. n ≡ 42) (operationRules op alphabet inputs)
+only-42 : (op : Operation) (alphabet inputs : Section) → Numbers (λ n. n ≡ 42) (operationRules op alphabet inputs)
 only-42 Plus alphabet inputs = tt
 only-42 Minus alphabet inputs = (refl, tt)
 

@@ -7,6 +7,7 @@ use native.Mathlib.Omega.{arith}
 use lib.ListN.{length, getD, take, List·getD-eq-default}
 use lib.IntN.{ℤ}
 use borrow.Author.Tests.{ltb-true}
+use Rattle.ring.specs.Padded.{width}
 use Rattle.lists.specs.Span.{span}
 use Rattle.lists.specs.Overwrite.{overwrite}
 use Rattle.lists.proofs.Span.{length-span, getD-span, span-ext, span-getD, map-span}
@@ -15,7 +16,6 @@ use Rattle.faults.specs.Outcome.{facts, author, rows}
 use Rattle.faults.proofs.Exit.{exit-written}
 use Rattle.faults.proofs.Check.{judge-passed}
 use Rattle.calls.proofs.Answers.{unless-given}
-use Rattle.layout_rules.specs.Section.{degree}
 use Rattle.ring.specs.declared.Operation.{Operation}
 use Rattle.ring.specs.Operation.{combine}
 use Rattle.digit_rules.specs.Digits.{operationCheck}
@@ -128,7 +128,7 @@ module _ (op : Operation) (file first second : List ℕ) (room : ℕ) (is : Pass
       let o = operationsOf file in
       let a : ℕ → List ℤ = recordAt (alphabetPart file) in
       ap (value o) converted
-      ∙ same-value o (HasParts degree) (r .group) (recordAt (inputPart file)) (leavesIn file) (inputCount file) (r .code) (r .in-group) .0 (inputRow op file first second)
+      ∙ same-value o (HasParts width) (r .group) (recordAt (inputPart file)) (leavesIn file) (inputCount file) (r .code) (r .in-group) .0 (inputRow op file first second)
       ∙ ap (value o) made
       ∙ value-combined op file (r .group) (λ k. a (getD first k 0)) (λ k. a (getD second k 0)) (λ k. element-parts (alphabetPart file) _) (λ k. element-parts (alphabetPart file) _) (length first)
       ∙ (λ i. combine op (value o (row-digits first (λ j. length first) i)) (value o (row-digits second (is .fit .same-length) i)))

@@ -3,7 +3,7 @@ use mathlib.Core.Path.{_≡_}
 use mathlib.Core.List.{List}
 use Prim.Native.Nat.{ℕ, _<_, _≤_}
 use lib.ListN.{length, getD, take}
-use Rattle.layout_rules.specs.Section.{degree}
+use Rattle.ring.specs.Padded.{width}
 use Rattle.ring.specs.Element.{zeros}
 use Rattle.ring.specs.declared.Operation.{Operation}
 use Rattle.ring.specs.Operation.{combine}
@@ -18,7 +18,7 @@ use Rattle.adder_rules.specs.Add.{resultIn}
 pub record DigitsCombined (op : Operation) (file first second : List ℕ) : Type 0 where
   pub inside : (j : ℕ) → j < length first
       → recordAt (inputPart file) (getD (inputRow op file first second) j 0) ≡ combine op (recordAt (alphabetPart file) (getD first j 0)) (recordAt (alphabetPart file) (getD second j 0))
-  pub outside : (j : ℕ) → length first ≤ j → recordAt (inputPart file) (getD (inputRow op file first second) j 0) ≡ zeros degree
+  pub outside : (j : ℕ) → length first ≤ j → recordAt (inputPart file) (getD (inputRow op file first second) j 0) ≡ zeros width
 
 pub record Combined (op : Operation) (file first second buffer : List ℕ) : Type 0 where
   pub inputs : DigitsCombined op file first second

@@ -4,7 +4,9 @@ use mathlib.Core.List.{List, [], _∷_}
 use Prim.Native.Nat.{ℕ}
 use lib.Dec.{ltb}
 use lib.IntN.{ℤ, pos}
-use lib.ListN.{length}
+use lib.ListN.{length, take}
+use Rattle.ring.specs.declared.Degree.{Degree}
+use Rattle.ring.specs.Degree.{partCount}
 use Rattle.lists.specs.Overwrite.{overwrite}
 use Rattle.faults.specs.Outcome.{Outcome, facts, refused}
 use Rattle.table_rules.specs.declared.Facts.{Facts}
@@ -52,6 +54,6 @@ editWords f = wordOf (f .count) ∷ wordOf (f .reach) ∷ []
 abbrev pub runWords : RanFacts → List ℤ
 runWords f = wordOf (f .edits) ∷ []
 
--- an element: its parts
-abbrev pub elementWords : List ℤ → List ℤ
-elementWords parts = parts
+-- an element: its parts, as many as the degree says
+abbrev pub elementWords : Degree → List ℤ → List ℤ
+elementWords d parts = take (partCount d) parts

@@ -15,10 +15,13 @@ use Rattle.faults.specs.Unless.{unless}
 use Rattle.layout_rules.specs.Directory.{sizeAllowed, expectedStart, pairAllowed, directoryCheck}
 use Rattle.layout_rules.specs.Length.{lengthAllowed, lengthCheck}
 use Rattle.layout_rules.specs.Limit.{numberPlace, numberCount, numberAllowed, limitCheckIn, limitCheckOf, limitCheck}
+use Rattle.ring.specs.Padded.{padded, paddedRows, corner, paddedTimes, paddedMatrix}
+use Rattle.layout_rules.specs.Section.{degreeOf}
 use Rattle.layout_rules.specs.Number.{unsignedAt, toSigned}
-use Rattle.digit_rules.specs.BaseMatrix.{omegaOf, betaOf, baseMatrix}
-use Rattle.digit_rules.specs.Digits.{discriminantAllowed, expandingBase, baseCheck, recordAllowed, alphabetCheck, pairIndex, pairListed, pairsListed, allPairsListed, inputsAllowed, inputCheck, digitCheck, indexIn}
-use Rattle.digit_rules.specs.Record.{elementAt}
+use Rattle.digit_rules.specs.Base.{omegaOf, betaOf}
+use Rattle.digit_rules.specs.BaseMatrix.{baseMatrix}
+use Rattle.digit_rules.specs.Digits.{discriminantAllowed, baseAllowed, baseCheck, recordAllowed, alphabetCheck, pairIndex, pairListed, pairsListed, allPairsListed, inputsAllowed, inputCheck, digitCheck, indexIn}
+use Rattle.digit_rules.specs.Record.{partsAt, elementAt}
 use Rattle.numeration.specs.LeafOf.{agree, largest, begins, leafOf, depth}
 use Rattle.numeration.specs.Prefix.{lower, precedes}
 use Rattle.numeration.specs.Conversion.{window, outDigit, weightInto, weightAt, convert}
@@ -40,7 +43,7 @@ use Rattle.carried.specs.Tables.{unsigned16, signed16, joined, record4, 
 
 -- depth, leaves and alphabet digits of TERN and of BIN
 pub accepted : (checkOutcome ternFile ≡ facts (record { depth = 1; leaves = 9; digits = 5 })) × (checkOutcome binFile ≡ facts (record { depth = 2; leaves = 13; digits = 3 }))
-unfolding overwrite firstFailing every span baseTrace baseNorm expanding discriminant squareBelow perfectSquare plus negative minus scale timesOmega product unit same dot times columns matrixOf trace alternating without determinant judge _then_ inTurn unless sizeAllowed expectedStart pairAllowed directoryCheck lengthAllowed lengthCheck numberPlace numberCount numberAllowed limitCheckIn limitCheckOf limitCheck unsignedAt toSigned omegaOf betaOf baseMatrix discriminantAllowed expandingBase baseCheck recordAllowed alphabetCheck pairIndex pairListed pairsListed allPairsListed inputsAllowed inputCheck digitCheck elementAt indexIn agree lower largest begins leafOf depth precedes window outDigit weightInto weightAt convert convertRow elements tail fits pairDigitAt pairString pairRow pairDigit pairPasses upperPasses lowestBadUpper expectedWordStart leafAllowed placeCheck wordIndexCheck orderCheck coverCheck zeroCheck leafCheck runEnd everyRun covered wordGiven weightGiven layoutCheck digitCheckOf leafCheckOf tableCheck partFacts tableFacts readOutcome pairCheckOf checkFacts checkOutcome inAlphabet badLower badUpper pairCheck badPair unsigned16 signed16 joined record4 leafRecords directory sections fileOf ternInputs ternWeight ternLeaves ternFile binInputs binWeight2 binWeight1 binLeavesOf binLeaves binFile
+unfolding overwrite firstFailing every span baseTrace baseNorm expanding discriminant squareBelow perfectSquare plus negative minus scale timesOmega product unit same dot times columns matrixOf paddedRows corner paddedTimes paddedMatrix trace alternating without determinant judge _then_ inTurn unless sizeAllowed expectedStart pairAllowed directoryCheck lengthAllowed lengthCheck numberPlace numberCount numberAllowed limitCheckIn limitCheckOf limitCheck degreeOf unsignedAt toSigned omegaOf betaOf baseMatrix discriminantAllowed baseAllowed baseCheck recordAllowed alphabetCheck pairIndex pairListed pairsListed allPairsListed inputsAllowed inputCheck digitCheck padded partsAt elementAt indexIn agree lower largest begins leafOf depth precedes window outDigit weightInto weightAt convert convertRow elements tail fits pairDigitAt pairString pairRow pairDigit pairPasses upperPasses lowestBadUpper expectedWordStart leafAllowed placeCheck wordIndexCheck orderCheck coverCheck zeroCheck leafCheck runEnd everyRun covered wordGiven weightGiven layoutCheck digitCheckOf leafCheckOf tableCheck partFacts tableFacts readOutcome pairCheckOf checkFacts checkOutcome inAlphabet badLower badUpper pairCheck badPair unsigned16 signed16 joined record4 leafRecords directory sections fileOf ternInputs ternWeight ternLeaves ternFile binInputs binWeight2 binWeight1 binLeavesOf binLeaves binFile
 accepted = (refl, refl)
 
 -- "For TERN the whole output is: accepted depth 1 leaves 9 digits 5"

@@ -4,7 +4,8 @@ use Prim.Native.Nat.{ℕ}
 use lib.IntN.{ℤ, pos, negℤ}
 use lib.ListN.{length}
 use Rattle.lists.specs.Span.{span}
-use Rattle.digit_rules.specs.Record.{recordAt, elementCount}
+use Rattle.layout_rules.specs.Section.{elementSize, Section, degreeIn}
+use Rattle.digit_rules.specs.Record.{partsAt, recordAt, elementCount}
 use Rattle.reader_rules.specs.Table.{basePart, alphabetPart, inputPart, leavesIn}
 
 -- the file's length; s, t, u, v; alphabet; input digits; each leaf's word, as the input digits that it names; each leaf's weight
@@ -17,7 +18,7 @@ pub record Contents : Type 0 where
   pub weights : List (List ℤ)
 
 -- the elements of a section
-abbrev elementsOf : List ℕ → List (List ℤ)
+abbrev elementsOf : Section → List (List ℤ)
 elementsOf part = span (recordAt part) 0 (elementCount part)
 
 -- the input digits of a leaf's word
@@ -29,7 +30,7 @@ unfoldable pub contentsOf : List ℕ → Contents
 contentsOf file =
     record {
       size = length file;
-      base = recordAt (basePart file) 0 ++ recordAt (basePart file) 1;
+      base = partsAt (basePart file) 0 ++ partsAt (basePart file) (elementSize (degreeIn file));
       alphabet = elementsOf (alphabetPart file);
       inputs = elementsOf (inputPart file);
       words = span (wordOf file) 0 (leavesIn file .leaves);
@@ -43,7 +44,7 @@ minus n = negℤ (pos n)
 
 -- whole numbers as elements
 abbrev wholes : List ℤ → List (List ℤ)
-wholes digits = map (λ a. a ∷ pos 0 ∷ []) digits
+wholes digits = map (λ a. a ∷ pos 0 ∷ pos 0 ∷ pos 0 ∷ []) digits
 
 -- "TERN: β = 3; alphabet 0, 1, 2, −1, −2; inputs 0, 1, 2, 3, 4, −1, −2, −3, −4; one-digit words; weight 1 from 2 up, −1 from −2 down,
 -- else 0; 165 bytes"

@@ -12,7 +12,8 @@ use Rattle.lists.specs.Scan.{firstFailing}
 use Rattle.lists.proofs.Scan.{scan-on, every-below, every-reached}
 use Rattle.faults.specs.Check.{refusal, none, judge}
 use Rattle.faults.proofs.Check.{judge-broken, judge-kept, judge-here, judge-out}
-use Rattle.layout_rules.specs.Section.{degree}
+use Rattle.ring.specs.Padded.{width}
+use Rattle.layout_rules.specs.Section.{Section}
 use Rattle.ring.specs.Element.{zeros}
 use Rattle.ring.specs.declared.Operation.{Operation}
 use Rattle.ring.specs.declared.Operation.the-variants.{Plus, Minus}
@@ -20,8 +21,8 @@ use Rattle.ring.specs.Tests.{same}
 use Rattle.digit_rules.specs.Record.{recordAt, elementCount}
 use Rattle.digit_rules.specs.Digits.{indexIn, recordAllowed, pairIndex, pairListed, pairsListed, allPairsListed, inputsAllowed, inputCheck, operationCheck}
 
-module _ (part : List ℕ) (k : ℕ) (x : List ℤ) (reads : x ≡ recordAt part k) where
-  pub allowed-first : (r : Bool) → k ≡ 0 → r ≡ same x (zeros degree) → r ≡ recordAllowed part k
+module _ (part : Section) (k : ℕ) (x : List ℤ) (reads : x ≡ recordAt part k) where
+  pub allowed-first : (r : Bool) → k ≡ 0 → r ≡ same x (zeros width) → r ≡ recordAllowed part k
   unfolding recordAllowed
   allowed-first r first is = is ∙ rw (reads, first)
 
@@ -33,7 +34,7 @@ module _ (part : List ℕ) (k : ℕ) (x : List ℤ) (reads : x ≡ recordAt part
       by-place (suc k) h = unfold recordAllowed in refl
 
 -- an input index and a count as they were read
-module _ (op : Operation) (alphabet inputs : List ℕ) (i j found count : ℕ) (is : found ≡ pairIndex op alphabet inputs i j) (counts : count ≡ elementCount inputs) where
+module _ (op : Operation) (alphabet inputs : Section) (i j found count : ℕ) (is : found ≡ pairIndex op alphabet inputs i j) (counts : count ≡ elementCount inputs) where
   pub pair-missing : count ≤ found → pairListed op alphabet inputs i j ≡ false
   unfolding pairListed
   pair-missing h = rw (← is, ← counts) (le-ltb found count h)
@@ -43,19 +44,19 @@ module _ (op : Operation) (alphabet inputs : List ℕ) (i j found count : ℕ) (
   pair-there h = rw (← is, ← counts) (lt-ltb found count h)
 
 -- rule 8 judges each record, and after them whether a sum is missing
-pub at-record : (alphabet inputs : List ℕ) (k : ℕ) → k < elementCount inputs → inputsAllowed alphabet inputs k ≡ recordAllowed inputs k
+pub at-record : (alphabet inputs : Section) (k : ℕ) → k < elementCount inputs → inputsAllowed alphabet inputs k ≡ recordAllowed inputs k
 unfolding inputsAllowed
 at-record alphabet inputs k h = rw (lt-ltb k (elementCount inputs) h, inputsAllowed)
 
-pub after-records : (alphabet inputs : List ℕ) (k : ℕ) → elementCount inputs ≤ k → inputsAllowed alphabet inputs k ≡ allPairsListed Plus alphabet inputs
+pub after-records : (alphabet inputs : Section) (k : ℕ) → elementCount inputs ≤ k → inputsAllowed alphabet inputs k ≡ allPairsListed Plus alphabet inputs
 unfolding inputsAllowed
 after-records alphabet inputs k h = rw (le-ltb k (elementCount inputs) h, inputsAllowed)
 
 -- the first k of them are allowed
-abbrev pub Passed : List ℕ → List ℕ → ℕ → ℕ → Type 0
+abbrev pub Passed : Section → Section → ℕ → ℕ → Type 0
 Passed alphabet inputs n k = firstFailing (inputsAllowed alphabet inputs) k (n + 1 - k) ≡ firstFailing (inputsAllowed alphabet inputs) 0 (n + 1)
 
-module _ (alphabet inputs : List ℕ) (n k : ℕ) (counts : n ≡ elementCount inputs) (passed : Passed alphabet inputs n k) where
+module _ (alphabet inputs : Section) (n k : ℕ) (counts : n ≡ elementCount inputs) (passed : Passed alphabet inputs n k) where
   answer : judge 8 (λ k. k) (inputsAllowed alphabet inputs) (n + 1) ≡ inputCheck alphabet inputs
   unfolding inputCheck
   answer = ap (λ n. judge 8 (λ k. k) (inputsAllowed alphabet inputs) (n + 1)) counts
@@ -79,10 +80,10 @@ module _ (alphabet inputs : List ℕ) (n k : ℕ) (counts : n ≡ elementCount i
         judge-out 8 (λ k. k) (inputsAllowed alphabet inputs) (n + 1) (k + 1) (sym (scan-on (inputsAllowed alphabet inputs) k (n + 1) (omega arith) (after-records alphabet inputs k (omega arith) ∙ h)) ∙ passed) (omega arith) ∙ answer
 
 -- the first alphabet digit with which the operation makes something that isn't listed, as it was looked for
-abbrev FirstUnlisted : Operation → List ℕ → List ℕ → ℕ → Type 0
+abbrev FirstUnlisted : Operation → Section → Section → ℕ → Type 0
 FirstUnlisted op alphabet inputs found = found ≡ firstFailing (pairsListed op alphabet inputs) 0 (elementCount alphabet)
 
-module _ (op : Operation) (alphabet inputs : List ℕ) (found n : ℕ) (is : FirstUnlisted op alphabet inputs found) (counts : n ≡ elementCount alphabet) where
+module _ (op : Operation) (alphabet inputs : Section) (found n : ℕ) (is : FirstUnlisted op alphabet inputs found) (counts : n ≡ elementCount alphabet) where
   pub some-unlisted : found < n → allPairsListed op alphabet inputs ≡ false
   unfolding allPairsListed
   some-unlisted h = every-below (pairsListed op alphabet inputs) (elementCount alphabet) (omega arith)
@@ -92,7 +93,7 @@ module _ (op : Operation) (alphabet inputs : List ℕ) (found n : ℕ) (is : Fir
   none-unlisted h = every-reached (pairsListed op alphabet inputs) (elementCount alphabet) (omega arith)
 
 -- 42 at that digit
-module _ (alphabet inputs : List ℕ) (found n : ℕ) (is : FirstUnlisted Minus alphabet inputs found) (counts : n ≡ elementCount alphabet) where
+module _ (alphabet inputs : Section) (found n : ℕ) (is : FirstUnlisted Minus alphabet inputs found) (counts : n ≡ elementCount alphabet) where
   pub difference-missing : found < n → refusal 42 found ≡ operationCheck Minus alphabet inputs
   unfolding operationCheck
   difference-missing h = sym (judge-broken 42 (λ k. k) (pairsListed Minus alphabet inputs) (elementCount alphabet) found is (omega arith))

@@ -11,7 +11,8 @@ use borrow.Author.Tests.{eqb-true, eqb-false, ltb-true, ltb-false}
 use Rattle.lists.specs.Scan.{every}
 use Rattle.lists.proofs.Scan.{every-sound, every-fails}
 use Rattle.lists.proofs.Test.{clash}
-use Rattle.layout_rules.specs.Section.{degree}
+use Rattle.ring.specs.Padded.{width}
+use Rattle.layout_rules.specs.Section.{Section}
 use Rattle.ring.specs.Element.{zeros, plus}
 use Rattle.ring.specs.declared.Operation.{Operation}
 use Rattle.ring.specs.declared.Operation.the-variants.{Plus, Minus}
@@ -25,7 +26,7 @@ use Rattle.digit_rules.proofs.Index.{index-is, index-first, index-high}
 
 -- ---- rule 7
 
-pub record-says : (part : List ℕ) (p : ℕ) → recordAllowed part p ≡ true → ¬ (Broken7 part p)
+pub record-says : (part : Section) (p : ℕ) → recordAllowed part p ≡ true → ¬ (Broken7 part p)
 unfolding recordAllowed
 record-says part zero t b = ⊎-elim (λ z. z .1 (same→≡ _ _ t)) (λ r. omega (arith, r .1)) (b .1)
 record-says part (suc p) t b =
@@ -33,9 +34,9 @@ record-says part (suc p) t b =
     (λ r. omega (arith, r .1, eqb-true (indexIn part (suc p) (recordAt part (suc p))) (suc p) t, index-first part (suc p) (recordAt part (suc p)) (r .0) (sym (r .2))))
     (b .1)
 
-pub record-fails : (part : List ℕ) (p : ℕ) → p < elementCount part → recordAllowed part p ≡ false → Broken7 part p
+pub record-fails : (part : Section) (p : ℕ) → p < elementCount part → recordAllowed part p ≡ false → Broken7 part p
 unfolding recordAllowed
-record-fails part zero l t = (l, inl (refl, λ e. clash (subst (λ x. same x (zeros degree) ≡ true) (sym e) (same-refl (zeros degree))) t))
+record-fails part zero l t = (l, inl (refl, λ e. clash (subst (λ x. same x (zeros width) ≡ true) (sym e) (same-refl (zeros width))) t))
 record-fails part (suc p) l t = (l, inr (indexIn part (suc p) (recordAt part (suc p)), below, sym (index-is part (suc p) _ below)))
   where
     below : indexIn part (suc p) (recordAt part (suc p)) < suc p
@@ -43,7 +44,7 @@ record-fails part (suc p) l t = (l, inr (indexIn part (suc p) (recordAt part (su
 
 -- ---- pairs of alphabet digits
 
-module _ (op : Operation) (alphabet inputs : List ℕ) (i : ℕ) where
+module _ (op : Operation) (alphabet inputs : Section) (i : ℕ) where
   -- what the operation makes of digit i and those that it is taken with is listed
   pub pairs-listed : pairsListed op alphabet inputs i ≡ true → (j : ℕ) → j < partners op (elementCount alphabet) i → Listed inputs (combine op (recordAt alphabet i) (recordAt alphabet j))
   unfolding pairsListed pairListed pairIndex
@@ -65,12 +66,12 @@ partners-most Plus n i h = omega arith
 partners-most Minus n i h = omega arith
 
 -- for functions that count them
-pub pairs-by : (op : Operation) (alphabet inputs : List ℕ) (i n end : ℕ) (found : Bool) → end ≡ partners op n i → n ≡ elementCount alphabet → every (pairListed op alphabet inputs i) 0 end ≡ found → pairsListed op alphabet inputs i ≡ found
+pub pairs-by : (op : Operation) (alphabet inputs : Section) (i n end : ℕ) (found : Bool) → end ≡ partners op n i → n ≡ elementCount alphabet → every (pairListed op alphabet inputs i) 0 end ≡ found → pairsListed op alphabet inputs i ≡ found
 unfolding pairsListed
 pairs-by op alphabet inputs i n end found counted counts is =
     ap (every (pairListed op alphabet inputs i) 0) (sym (counted ∙ ap (λ (m : ℕ). partners op m i) counts)) ∙ is
 
-module _ (alphabet : List ℕ) where
+module _ (alphabet : Section) where
   -- what holds of every sum of a digit and one up to it holds of every sum
   of-sums : (P : List ℤ → Type 0) → ((i j : ℕ) → i < elementCount alphabet → j ≤ i → P (plus (recordAt alphabet i) (recordAt alphabet j))) → (x : List ℤ) → Sum alphabet x → P x
   of-sums P h x s =
@@ -79,13 +80,13 @@ module _ (alphabet : List ℕ) where
         | no o ↦ h (s .0) (s .1) (s .2) (omega arith)
       ])
 
-  pub sum-listed-in : (inputs : List ℕ) → allPairsListed Plus alphabet inputs ≡ true → (x : List ℤ) → Sum alphabet x → Listed inputs x
+  pub sum-listed-in : (inputs : Section) → allPairsListed Plus alphabet inputs ≡ true → (x : List ℤ) → Sum alphabet x → Listed inputs x
   unfolding allPairsListed
   sum-listed-in inputs t =
       of-sums (Listed inputs) (λ i j l o. pairs-listed Plus alphabet inputs i (every-sound _ 0 (elementCount alphabet) t i (omega arith) (omega arith)) j (omega arith))
 
   -- a sum is missing
-  pub sums-missing : (inputs : List ℕ) → allPairsListed Plus alphabet inputs ≡ false → (x : List ℤ) × Sum alphabet x × ¬ (Listed inputs x)
+  pub sums-missing : (inputs : Section) → allPairsListed Plus alphabet inputs ≡ false → (x : List ℤ) × Sum alphabet x × ¬ (Listed inputs x)
   unfolding allPairsListed
   sums-missing inputs t =
       let a = every-fails (pairsListed Plus alphabet inputs) 0 (elementCount alphabet) t in

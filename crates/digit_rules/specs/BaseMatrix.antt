@@ -1,17 +1,10 @@
--- Pinned by base-rows (proofs/Base.antt): a reader may skip this file. Multiplication by the base that a base section gives, for every degree.
-use mathlib.Core.List.{List, reverse}
-use Prim.Native.Nat.{ℕ}
+-- Pinned by base-rows and base-product (proofs/Base.antt): a reader may skip this file. Multiplication by the base that a base section
+-- gives, for every degree.
+use mathlib.Core.List.{List}
 use lib.IntN.{ℤ}
-use Rattle.ring.specs.Product.{matrixOf}
-use Rattle.digit_rules.specs.Record.{recordAt}
+use Rattle.ring.specs.Padded.{paddedMatrix}
+use Rattle.layout_rules.specs.Section.{Section}
+use Rattle.digit_rules.specs.Base.{omegaOf, betaOf}
 
--- both lowest power first, as the ring takes them
-unfoldable pub omegaOf : List ℕ → List ℤ
-omegaOf base = reverse (recordAt base 0)
-
-unfoldable pub betaOf : List ℕ → List ℤ
-betaOf base = recordAt base 1
-
--- multiplication by the base
-unfoldable pub baseMatrix : List ℕ → List (List ℤ)
-baseMatrix base = matrixOf (omegaOf base) (betaOf base)
+unfoldable pub baseMatrix : Section → List (List ℤ)
+baseMatrix base = paddedMatrix (omegaOf base) (betaOf base)

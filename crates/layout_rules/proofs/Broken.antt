@@ -5,6 +5,7 @@ use mathlib.Core.List.{List, [], _∷_, _++_}
 use mathlib.Core.Logic.{_⊎_, inl, inr, ⊎-elim, _↔_}
 use Prim.Native.Nat.{ℕ, zero, suc, _+_, _*_, _/_, _%_, _<_, _≤_}
 use native.Mathlib.Omega.{arith}
+use native.Mathlib.Nat.{le-div-iff-mul-le, div-le-of-le-mul, div-add-mod', mul-comm, mul-mod-left, mul-le-mul-right}
 use lib.ListN.{length}
 use lib.Dec.{leb, ltb, eqb}
 use borrow.Author.Tests.{ltb-false, leb-true, leb-false, eqb-true, eqb-false, le-leb, eq-eqb}
@@ -15,12 +16,15 @@ use Rattle.faults.specs.Check.{judge, _then_}
 use Rattle.faults.specs.Rule.{rule}
 use Rattle.faults.specs.Exact.{Exact}
 use Rattle.faults.proofs.Rule.{Decided, exact, places-decided, then-decided}
+use Rattle.ring.specs.declared.Degree.{Degree}
+use Rattle.ring.specs.declared.Degree.the-variants.{Two, Three, Four}
 use Rattle.layout_rules.specs.Section.{recordSize, sectionStart, sectionLength, sectionEnd, sectionLengths}
 use Rattle.layout_rules.specs.Directory.{sizeAllowed, expectedStart, pairAllowed, directoryCheck}
 use Rattle.layout_rules.specs.Length.{leastRecords, mostRecords, lengthAllowed, sectionAllowed, lengthCheck}
 use Rattle.layout_rules.specs.Limit.{limitCheck}
-use Rattle.layout_rules.specs.Broken.{Broken1, PairFollows, Broken2, Allowed, Broken3, directoryRules, lengthRules, limitRules}
+use Rattle.layout_rules.specs.Broken.{Broken1, PairFollows, Broken2, Records, Allowed, Broken3, directoryRules, lengthRules, limitRules}
 use Rattle.layout_rules.proofs.Laid.{size-says, Placed, pair-says, laid}
+use Rattle.layout_rules.proofs.Limit.{some-part}
 use Rattle.layout_rules.proofs.Outside.{limit-decided}
 
 -- rule 1
@@ -65,35 +69,44 @@ pub directory-exact : (file : List ℕ) → Exact (directoryRules file) (directo
 directory-exact file = exact _ _ (directory-decided file)
 
 -- rule 3: what its test says
-abbrev pub Counted : ℕ → ℕ → Type 0
-Counted section n = (n % recordSize section ≡ 0) × (leastRecords section * recordSize section ≤ n) × (n ≤ mostRecords section * recordSize section)
+abbrev pub Counted : Degree → ℕ → ℕ → Type 0
+Counted d section n = (n % recordSize d section ≡ 0) × (leastRecords section * recordSize d section ≤ n) × (n ≤ mostRecords section * recordSize d section)
 
-pub counted : (section n : ℕ) → (lengthAllowed section n ≡ true) ↔ Counted section n
+pub counted : (d : Degree) (section n : ℕ) → (lengthAllowed d section n ≡ true) ↔ Counted d section n
 unfolding lengthAllowed
-counted section n = (
-  λ t. let a : (eqb (n % recordSize section) 0 ≡ true) × _ = both _ _ t in
-      let b : (leb (leastRecords section * recordSize section) n ≡ true) × (leb n (mostRecords section * recordSize section) ≡ true) = both _ _ (a .1) in
+counted d section n = (
+  λ t. let a : (eqb (n % recordSize d section) 0 ≡ true) × _ = both _ _ t in
+      let b : (leb (leastRecords section * recordSize d section) n ≡ true) × (leb n (mostRecords section * recordSize d section) ≡ true) = both _ _ (a .1) in
       (eqb-true _ _ (a .0), leb-true _ _ (b .0), leb-true _ _ (b .1)),
   λ w. rw (eq-eqb _ _ (w .0), le-leb _ _ (w .1), le-leb _ _ (w .2)),
 )
 
-pub length-means : (section n : ℕ) → section < 5 → (lengthAllowed section n ≡ true) ↔ Allowed section n
-length-means section n l = (λ t. to section l (counted section n .0 t), λ a. counted section n .1 (from section l a))
-  where
-    to : (section : ℕ) → section < 5 → Counted section n → Allowed section n
-    to =
-        each (λ section. Counted section n → Allowed section n) 5
-        (((((tt, λ w. omega arith), λ w. (n / 4, omega arith, omega arith, omega arith)), λ w. (n / 4, omega arith, omega arith, omega arith)), λ w. (n / 8, omega arith, omega arith, omega arith)), λ w. omega arith)
+-- n bytes in records of a size, least to most of them
+counted-records : (size least most n : ℕ) → 0 < size → ((n % size ≡ 0) × (least * size ≤ n) × (n ≤ most * size)) ↔ Records size least most n
+counted-records size least most n some = (
+  λ w. (n / size, le-div-iff-mul-le some .1 (w .1), div-le-of-le-mul size (rw (mul-comm most size) at (w .2)), omega (arith, div-add-mod' n size, w .0)),
+  λ w. rw (w .3) (mul-mod-left (w .0) size, mul-le-mul-right size (w .1), mul-le-mul-right size (w .2)),
+)
 
-    from : (section : ℕ) → section < 5 → Allowed section n → Counted section n
-    from = each (λ section. Allowed section n → Counted section n) 5 (omega arith)
+pub length-means : (d : Degree) (section n : ℕ) → section < 5 → (lengthAllowed d section n ≡ true) ↔ Allowed d section n
+length-means d section n l = (λ t. means d section l .0 (counted d section n .0 t), λ a. counted d section n .1 (means d section l .1 a))
+  where
+    base : (d : Degree) → Counted d 0 n ↔ Allowed d 0 n
+    base Two = (λ w. omega arith, λ a. omega arith)
+    base Three = (λ w. omega arith, λ a. omega arith)
+    base Four = (λ w. omega arith, λ a. omega arith)
+
+    means : (d : Degree) (section : ℕ) → section < 5 → Counted d section n ↔ Allowed d section n
+    means d =
+        each (λ section. Counted d section n ↔ Allowed d section n) 5
+        (((((tt, base d), counted-records _ 2 16 n (some-part d)), counted-records _ 1 136 n (some-part d)), counted-records _ 1 4000 n (omega arith)), (λ w. omega arith, λ a. omega arith))
 
 pub length-decided : (lengths : List ℕ) → Decided (lengthRules lengths) (lengthCheck lengths)
 unfolding lengthCheck
 length-decided lengths =
     places-decided (rule 3 (Broken3 lengths)) (sectionAllowed lengths) 5 (omega arith)
-    (λ p b. (b .0, λ t. b .1 (length-means p _ (b .0) .0 t)))
-    (λ p l t. (l, λ a. clash (length-means p _ l .1 a) t))
+    (λ p b. (b .0, λ t. b .1 (length-means _ p _ (b .0) .0 t)))
+    (λ p l t. (l, λ a. clash (length-means _ p _ l .1 a) t))
 
 -- Rule 3: the lengths of the sections
 pub length-exact : (lengths : List ℕ) → Exact (lengthRules lengths) (lengthCheck lengths)

@@ -13,7 +13,7 @@ use borrow.Author.Tests.{ltb-true, leb-true, eqb-true}
 use Rattle.lists.proofs.Test.{both, either}
 use Rattle.faults.specs.Check.{judge}
 use Rattle.faults.proofs.Check.{then-kept, judge-passed}
-use Rattle.layout_rules.specs.Section.{sectionStart, sectionLength, sectionEnd, partOf}
+use Rattle.layout_rules.specs.Section.{sectionStart, sectionLength, sectionEnd, bytesOf}
 use Rattle.layout_rules.specs.Directory.{sizeAllowed, expectedStart, pairAllowed, directoryCheck}
 
 -- what the tests of rules 1 and 2 say
@@ -54,7 +54,7 @@ laid file h =
 
 module _ (file : List ℕ) (is : Laid file) where
   -- a section's part is as long as its pair says
-  pub part-length : (section : ℕ) → section < 5 → length (partOf file section) ≡ sectionLength file section
+  pub part-length : (section : ℕ) → section < 5 → length (bytesOf file section) ≡ sectionLength file section
   part-length section l = simp (length-take, length-drop) (omega (arith, is .placed section l .inside))
 
   -- each section ends before the later ones start

@@ -12,7 +12,9 @@ use lib.Signed.{mag}
 use borrow.Author.Tests.{lt-ltb}
 use Rattle.lists.specs.Span.{span}
 use Rattle.layout_rules.specs.Number.{unsignedAt, toSigned}
-use Rattle.layout_rules.specs.Section.{recordSize, sectionStart, sectionLength}
+use Rattle.ring.specs.declared.Degree.{Degree}
+use Rattle.ring.specs.declared.Degree.the-variants.{Two, Three, Four}
+use Rattle.layout_rules.specs.Section.{leafSize, recordSize, sectionStart, sectionLength}
 use Rattle.layout_rules.specs.Limit.{elementStart}
 use Rattle.layout_rules.proofs.Number.{signed-low, signed-high}
 
@@ -64,10 +66,21 @@ signed-bits u =
     ]
 
 -- "records (a, b) of 4 bytes", leaves "of 8 bytes"; the base's 8 bytes are two elements
-pub record-sizes : span recordSize 0 5 ≡ 4 ∷ 4 ∷ 4 ∷ 8 ∷ 1 ∷ []
+pub record-sizes : span (recordSize Two) 0 5 ≡ 4 ∷ 4 ∷ 4 ∷ 8 ∷ 1 ∷ []
 unfolding span
 record-sizes = refl
 
+-- "Records become 2d bytes, leaves 4 + 2d" (document 02, job 8)
+pub record-sizes-three : span (recordSize Three) 0 5 ≡ 6 ∷ 6 ∷ 6 ∷ 10 ∷ 1 ∷ []
+unfolding span
+record-sizes-three = refl
+
+pub record-sizes-four : span (recordSize Four) 0 5 ≡ 8 ∷ 8 ∷ 8 ∷ 12 ∷ 1 ∷ []
+unfolding span
+record-sizes-four = refl
+
 -- a leaf's weight stands behind the offset and the length of its word
-pub weight-start : (index : ℕ) → elementStart 3 index ≡ 8 * index + 4
-weight-start index = omega arith
+pub weight-start : (d : Degree) (index : ℕ) → elementStart d 3 index ≡ leafSize d * index + 4
+weight-start Two index = omega arith
+weight-start Three index = omega arith
+weight-start Four index = omega arith

@@ -7,7 +7,9 @@ use lib.ListN.{length, getD}
 use lib.IntN.{natAbs}
 use Rattle.faults.specs.Rule.{Rule, rule}
 use Rattle.layout_rules.specs.Number.{signedAt}
-use Rattle.layout_rules.specs.Section.{degree, elementSize, leafSize, sectionStart, sectionLength}
+use Rattle.ring.specs.declared.Degree.{Degree}
+use Rattle.ring.specs.Degree.{partCount, baseLimit}
+use Rattle.layout_rules.specs.Section.{degreeOf, elementSize, leafSize, sectionStart, sectionLength, degreeIn}
 
 -- 1: file under 20 or over 65,535 bytes
 abbrev pub Broken1 : List ℕ → ℕ → Type 0
@@ -30,32 +32,33 @@ Broken2 file p =
 abbrev pub Records : ℕ → ℕ → ℕ → ℕ → Type 0
 Records size least most n = (count : ℕ) × (least ≤ count) × (count ≤ most) × (n ≡ count * size)
 
--- "Base: 8 bytes. Alphabet: 2 to 16 records. Input digits: 1 to 136. Leaves: 1 to 4,000. Words: 1 to 32,000 bytes."
-abbrev pub Allowed : ℕ → ℕ → Type 0
-Allowed zero n = n ≡ 4 * degree
-Allowed (suc zero) n = Records elementSize 2 16 n
-Allowed (suc (suc zero)) n = Records elementSize 1 136 n
-Allowed (suc (suc (suc zero))) n = Records leafSize 1 4000 n
-Allowed (suc (suc (suc (suc section)))) n = (1 ≤ n) × (n ≤ 32000)
+-- "the base section's length of 4d bytes. Alphabet: 2 to 16 records. Input digits: 1 to 136. Leaves: 1 to 4,000. Words: 1 to 32,000 bytes."
+abbrev pub Allowed : Degree → ℕ → ℕ → Type 0
+Allowed d zero n = n ≡ 4 * partCount d
+Allowed d (suc zero) n = Records (elementSize d) 2 16 n
+Allowed d (suc (suc zero)) n = Records (elementSize d) 1 136 n
+Allowed d (suc (suc (suc zero))) n = Records (leafSize d) 1 4000 n
+Allowed d (suc (suc (suc (suc section)))) n = (1 ≤ n) × (n ≤ 32000)
 
 -- 3: a section's length isn't allowed (section)
 abbrev pub Broken3 : List ℕ → ℕ → Type 0
-Broken3 lengths p = (p < 5) × ¬ (Allowed p (getD lengths p 0))
+Broken3 lengths p = (p < 5) × ¬ (Allowed (degreeOf (getD lengths 0 0)) p (getD lengths p 0))
 
 -- p is where a part of the element of a record stands, in the section, and the number there is larger than the limit
 pub record Outside (file : List ℕ) (section size limit p : ℕ) : Type 0 where
   pub index : ℕ
   pub part : ℕ
-  pub of-element : part < degree
+  pub of-element : part < partCount (degreeIn file)
   pub in-section : (index + 1) * size ≤ sectionLength file section
-  pub place : p ≡ sectionStart file section + (index * size + (size - elementSize) + 2 * part)
+  pub place : p ≡ sectionStart file section + (index * size + (size - elementSize (degreeIn file)) + 2 * part)
   pub large : limit < natAbs (signedAt file p)
 
 -- 4: a number outside its size limits (file offset): "s, t, u, v and alphabet parts −64 to 64; input parts −128 to 128;
--- weight parts −1,024 to 1,024"
+-- weight parts −1,024 to 1,024"; "For d of 4 the base section's numbers are −32 to 32"
 abbrev pub Broken4 : List ℕ → ℕ → Type 0
 Broken4 file p =
-    Outside file 0 elementSize 64 p ⊎ Outside file 1 elementSize 64 p ⊎ Outside file 2 elementSize 128 p ⊎ Outside file 3 leafSize 1024 p
+    Outside file 0 (elementSize (degreeIn file)) (baseLimit (degreeIn file)) p ⊎ Outside file 1 (elementSize (degreeIn file)) 64 p
+    ⊎ Outside file 2 (elementSize (degreeIn file)) 128 p ⊎ Outside file 3 (leafSize (degreeIn file)) 1024 p
 
 -- in the order in which they run
 abbrev pub directoryRules : List ℕ → List Rule

@@ -7,7 +7,8 @@ use lib.ListN.{getD}
 use lib.Dec.{leb, eqb}
 use Rattle.faults.specs.declared.Refusal.{Refusal}
 use Rattle.faults.specs.Check.{judge}
-use Rattle.layout_rules.specs.Section.{recordSize}
+use Rattle.ring.specs.declared.Degree.{Degree}
+use Rattle.layout_rules.specs.Section.{degreeOf, recordSize}
 
 -- the least and the most records of each section; the base section is two elements
 abbrev pub leastRecords : ℕ → ℕ
@@ -17,13 +18,13 @@ abbrev pub mostRecords : ℕ → ℕ
 mostRecords section = getD (2 ∷ 16 ∷ 136 ∷ 4000 ∷ 32000 ∷ []) section 0
 
 -- 3: a section's length isn't allowed
-unfoldable pub lengthAllowed : ℕ → ℕ → Bool
-lengthAllowed section n =
-    eqb (n % recordSize section) 0
-    && (leb (leastRecords section * recordSize section) n && leb n (mostRecords section * recordSize section))
+unfoldable pub lengthAllowed : Degree → ℕ → ℕ → Bool
+lengthAllowed d section n =
+    eqb (n % recordSize d section) 0
+    && (leb (leastRecords section * recordSize d section) n && leb n (mostRecords section * recordSize d section))
 
 abbrev pub sectionAllowed : List ℕ → ℕ → Bool
-sectionAllowed lengths section = lengthAllowed section (getD lengths section 0)
+sectionAllowed lengths section = lengthAllowed (degreeOf (getD lengths 0 0)) section (getD lengths section 0)
 
 unfoldable pub lengthCheck : List ℕ → Refusal
 lengthCheck lengths = judge 3 (λ k. k) (sectionAllowed lengths) 5

@@ -8,34 +8,37 @@ use lib.IntN.{natAbs}
 use lib.Dec.{leb}
 use Rattle.faults.specs.declared.Refusal.{Refusal}
 use Rattle.faults.specs.Check.{judge, inTurn}
+use Rattle.ring.specs.declared.Degree.{Degree}
+use Rattle.ring.specs.Degree.{partCount, baseLimit}
 use Rattle.layout_rules.specs.Number.{signedAt}
-use Rattle.layout_rules.specs.Section.{degree, elementSize, recordSize, sectionStart, partOf}
+use Rattle.layout_rules.specs.Section.{elementSize, recordSize, Section, sectionStart, partOf}
 
--- the limit on the size of s, t, u, v, of alphabet parts, of input parts and of weight parts
-abbrev pub sizeLimit : ℕ → ℕ
-sizeLimit section = getD (64 ∷ 64 ∷ 128 ∷ 1024 ∷ []) section 0
+-- the limit on the size of the base section's numbers, of alphabet parts, of input parts and of weight parts
+abbrev pub sizeLimit : Degree → ℕ → ℕ
+sizeLimit d section = getD (baseLimit d ∷ 64 ∷ 128 ∷ 1024 ∷ []) section 0
 
 -- where the element of a record starts in the part: it ends the record
-abbrev pub elementStart : ℕ → ℕ → ℕ
-elementStart section index = index * recordSize section + (recordSize section - elementSize)
+abbrev pub elementStart : Degree → ℕ → ℕ → ℕ
+elementStart d section index = index * recordSize d section + (recordSize d section - elementSize d)
 
 -- where the m-th number with a limit stands, in records of this size: an element ends its record
-unfoldable pub numberPlace : ℕ → ℕ → ℕ
-numberPlace size m = m / degree * size + (size - elementSize) + 2 * (m % degree)
+unfoldable pub numberPlace : Degree → ℕ → ℕ → ℕ
+numberPlace d size m = m / partCount d * size + (size - elementSize d) + 2 * (m % partCount d)
 
 -- how many there are in a section of this length
-unfoldable pub numberCount : ℕ → ℕ → ℕ
-numberCount size n = n / size * degree
+unfoldable pub numberCount : Degree → ℕ → ℕ → ℕ
+numberCount d size n = n / size * partCount d
 
 -- 4: a number outside its size limits
-unfoldable pub numberAllowed : ℕ → ℕ → List ℕ → ℕ → Bool
-numberAllowed size limit part m = leb (natAbs (signedAt part (numberPlace size m))) limit
+unfoldable pub numberAllowed : ℕ → ℕ → Section → ℕ → Bool
+numberAllowed size limit part m = leb (natAbs (signedAt (part .bytes) (numberPlace (part .degree) size m))) limit
 
 -- in one section, which starts at this offset
-unfoldable pub limitCheckIn : List ℕ → ℕ → ℕ → Refusal
+unfoldable pub limitCheckIn : Section → ℕ → ℕ → Refusal
 limitCheckIn part start section =
-    judge 4 (λ m. start + numberPlace (recordSize section) m) (numberAllowed (recordSize section) (sizeLimit section) part)
-    (numberCount (recordSize section) (length part))
+    let size = recordSize (part .degree) section in
+    judge 4 (λ m. start + numberPlace (part .degree) size m) (numberAllowed size (sizeLimit (part .degree) section) part)
+    (numberCount (part .degree) size (length (part .bytes)))
 
 -- in the four sections that have elements, each handed on as that part of the file
 unfoldable pub limitCheckOf : List ℕ → ℕ → Refusal

@@ -1,46 +1,60 @@
 -- The text of an element: computed for some, its cases, its length; text at the right of a column.
-use mathlib.Core.Path.{_≡_, refl, _∙_}
-use mathlib.Core.Bool.{Bool, true, false}
-use mathlib.Core.List.{List, [], _∷_, _++_}
+use mathlib.Core.Path.{_≡_, refl, sym, ap, ap₂, _∙_}
+use mathlib.Core.Bool.{Bool, true, false, _&&_, and-false}
+use mathlib.Core.List.{List, [], _∷_, _++_, append-nil}
 use Prim.Native.Nat.{ℕ, zero, suc, _+_, _-_, _^_, _≤_, _<_, max}
+use native.Mathlib.Decide.{decLt}
+use native.Mathlib.Nat.{not-suc-le-zero}
+use native.Mathlib.Numerals.{add-one}
 use native.Mathlib.Omega.{arith}
-use lib.Dec.{eqb}
+use lib.Dec.{eqb, ltb}
 use lib.IntN.{ℤ, pos, negsuc, natAbs}
 use lib.ListN.{length, replicate, length-append, length-replicate}
 use lib.Signed.{ltZ}
 use borrow.Author.Tests.{eq-eqb, ne-eqb}
 use Rattle.ring.specs.Element.{part}
+use Rattle.ring.specs.Padded.{width, padded}
 use Rattle.ring.specs.Tests.{Within}
+use Rattle.ring.proofs.Padded.{part-padded}
 use Rattle.text_rules.specs.Bytes.{bytesOf}
+use Rattle.text_rules.specs.Read.{readOn}
 use Rattle.text_rules.specs.Decimal.{decimalWithin, decimal, decimalZ}
-use Rattle.text_rules.proofs.Decimal.{decimal-short}
-use Rattle.listing_rules.specs.Element.{omegaText, realText, signText, elementText, right}
+use Rattle.text_rules.proofs.Decimal.{decimal-reads, decimal-short, signed-below, signed-above}
+use Rattle.listing_rules.specs.Element.{powerText, factorText, signText, partText, partsText, elementText, right}
 
 -- ---- as a reader sees them
 
-pub zero-text : elementText (pos 0 ∷ pos 0 ∷ []) ≡ bytesOf "0"
-unfolding bytesOf elementText decimalZ decimal decimalWithin
+pub zero-text : elementText (pos 0 ∷ pos 0 ∷ pos 0 ∷ pos 0 ∷ []) ≡ bytesOf "0"
+unfolding bytesOf elementText partsText partText signText factorText powerText decimal decimalWithin
 zero-text = refl
 
-pub whole-text : elementText (negsuc 11 ∷ pos 0 ∷ []) ≡ bytesOf "-12"
-unfolding bytesOf elementText decimalZ decimal decimalWithin
+pub whole-text : elementText (negsuc 11 ∷ pos 0 ∷ pos 0 ∷ pos 0 ∷ []) ≡ bytesOf "-12"
+unfolding bytesOf elementText partsText partText signText factorText powerText decimal decimalWithin
 whole-text = refl
 
-pub both-text : elementText (pos 2 ∷ pos 3 ∷ []) ≡ bytesOf "2+3w"
-unfolding bytesOf elementText realText signText omegaText decimalZ decimal decimalWithin
+pub both-text : elementText (pos 2 ∷ pos 3 ∷ pos 0 ∷ pos 0 ∷ []) ≡ bytesOf "2+3w"
+unfolding bytesOf elementText partsText partText signText factorText powerText decimal decimalWithin
 both-text = refl
 
-pub below-text : elementText (negsuc 0 ∷ negsuc 9 ∷ []) ≡ bytesOf "-1-10w"
-unfolding bytesOf elementText realText signText omegaText decimalZ decimal decimalWithin
+pub below-text : elementText (negsuc 0 ∷ negsuc 9 ∷ pos 0 ∷ pos 0 ∷ []) ≡ bytesOf "-1-10w"
+unfolding bytesOf elementText partsText partText signText factorText powerText decimal decimalWithin
 below-text = refl
 
-pub omega-text : elementText (pos 0 ∷ pos 1 ∷ []) ≡ bytesOf "w"
-unfolding bytesOf elementText realText signText omegaText
+pub omega-text : elementText (pos 0 ∷ pos 1 ∷ pos 0 ∷ pos 0 ∷ []) ≡ bytesOf "w"
+unfolding bytesOf elementText partsText partText signText factorText powerText decimal decimalWithin
 omega-text = refl
 
-pub minus-omega-text : elementText (pos 0 ∷ negsuc 0 ∷ []) ≡ bytesOf "-w"
-unfolding bytesOf elementText realText signText omegaText
+pub minus-omega-text : elementText (pos 0 ∷ negsuc 0 ∷ pos 0 ∷ pos 0 ∷ []) ≡ bytesOf "-w"
+unfolding bytesOf elementText partsText partText signText factorText powerText decimal decimalWithin
 minus-omega-text = refl
+
+pub all-text : elementText (pos 1 ∷ pos 2 ∷ negsuc 0 ∷ pos 3 ∷ []) ≡ bytesOf "1+2w-w^2+3w^3"
+unfolding bytesOf elementText partsText partText signText factorText powerText decimal decimalWithin
+all-text = refl
+
+pub top-text : elementText (pos 0 ∷ pos 0 ∷ pos 1 ∷ negsuc 0 ∷ []) ≡ bytesOf "w^2-w^3"
+unfolding bytesOf elementText partsText partText signText factorText powerText decimal decimalWithin
+top-text = refl
 
 pub right-text : right 4 (bytesOf "-7") ≡ bytesOf "  -7"
 unfolding bytesOf right
@@ -48,44 +62,143 @@ right-text = refl
 
 -- ---- by the tests that choose among them
 
-module _ (x : List ℤ) where
-  pub element-whole : natAbs (part x 1) ≡ 0 → elementText x ≡ decimalZ (part x 0)
-  unfolding elementText
-  element-whole h = rw (eq-eqb (natAbs (part x 1)) 0 h, elementText)
+pub power-none : (k : ℕ) → k ≡ 0 → powerText k ≡ []
+unfolding powerText
+power-none k h = ap powerText h
 
-  pub element-both : (n : ℕ) → n ≡ natAbs (part x 1) → (n ≡ 0 → ⊥) → elementText x ≡ realText (part x 0) ++ (signText (part x 0) (part x 1) ++ omegaText n)
-  unfolding elementText
-  element-both n e h = rw (e, ne-eqb (natAbs (part x 1)) 0 (λ z. h (e ∙ z)), elementText)
+pub power-one : (k : ℕ) → k ≡ 1 → powerText k ≡ bytesOf "w"
+unfolding powerText
+power-one k h = ap powerText h
 
-module _ (a : ℤ) where
-  pub real-none : natAbs a ≡ 0 → realText a ≡ []
-  unfolding realText
-  real-none h = rw (eq-eqb (natAbs a) 0 h, realText)
+pub power-more : (k : ℕ) → (k ≡ 0 → ⊥) → (k ≡ 1 → ⊥) → powerText k ≡ bytesOf "w^" ++ decimal k
+unfolding powerText
+power-more zero h l = absurd (h refl)
+power-more (suc zero) h l = absurd (l refl)
+power-more (suc (suc k)) h l = refl
 
-  pub real-some : (natAbs a ≡ 0 → ⊥) → realText a ≡ decimalZ a
-  unfolding realText
-  real-some h = rw (ne-eqb (natAbs a) 0 h, realText)
+module _ (n k : ℕ) where
+  pub factor-none : n ≡ 1 → ltb 0 k ≡ true → factorText n k ≡ []
+  unfolding factorText
+  factor-none h l = rw (eq-eqb n 1 h, l, factorText)
 
-module _ (a b : ℤ) where
-  pub sign-below : ltZ b (pos 0) ≡ true → signText a b ≡ bytesOf "-"
+  pub factor-other : (n ≡ 1 → ⊥) → factorText n k ≡ decimal n
+  unfolding factorText
+  factor-other h = rw (ne-eqb n 1 h, factorText)
+
+  pub factor-whole : n ≡ 1 → ltb 0 k ≡ false → factorText n k ≡ decimal n
+  unfolding factorText
+  factor-whole h l = rw (eq-eqb n 1 h, l, factorText)
+
+module _ (before : ℕ) (a : ℤ) where
+  pub sign-below : ltZ a (pos 0) ≡ true → signText before a ≡ bytesOf "-"
   unfolding signText
   sign-below h = rw (h, signText)
 
-  pub sign-none : ltZ b (pos 0) ≡ false → natAbs a ≡ 0 → signText a b ≡ []
+  pub sign-none : ltZ a (pos 0) ≡ false → before ≡ 0 → signText before a ≡ []
   unfolding signText
-  sign-none h k = rw (h, eq-eqb (natAbs a) 0 k, signText)
+  sign-none h k = rw (h, eq-eqb before 0 k, signText)
 
-  pub sign-above : ltZ b (pos 0) ≡ false → (natAbs a ≡ 0 → ⊥) → signText a b ≡ bytesOf "+"
+  pub sign-above : ltZ a (pos 0) ≡ false → (before ≡ 0 → ⊥) → signText before a ≡ bytesOf "+"
   unfolding signText
-  sign-above h k = rw (h, ne-eqb (natAbs a) 0 k, signText)
+  sign-above h k = rw (h, ne-eqb before 0 k, signText)
 
-pub omega-one : (n : ℕ) → n ≡ 1 → omegaText n ≡ bytesOf "w"
-unfolding omegaText
-omega-one n h = rw (eq-eqb n 1 h, omegaText)
+  pub part-none : (k : ℕ) → natAbs a ≡ 0 → partText before a k ≡ []
+  unfolding partText
+  part-none k h = rw (eq-eqb (natAbs a) 0 h, partText)
 
-pub omega-more : (n : ℕ) → (n ≡ 1 → ⊥) → omegaText n ≡ decimal n ++ bytesOf "w"
-unfolding omegaText
-omega-more n h = rw (ne-eqb n 1 h, omegaText)
+  pub part-some : (k n : ℕ) → n ≡ natAbs a → (n ≡ 0 → ⊥) → partText before a k ≡ signText before a ++ (factorText n k ++ powerText k)
+  unfolding partText
+  part-some k n e h = rw (e, ne-eqb (natAbs a) 0 (λ z. h (e ∙ z)), partText)
+
+-- one part more, for which there is room where all have it
+module _ (x : List ℤ) where
+  pub parts-next : (k : ℕ) → partsText x (k + 1) ≡ partsText x k ++ partText (length (partsText x k)) (part x k) k
+  unfolding partsText
+  parts-next k = rw add-one
+
+  pub parts-before : (k n : ℕ) → k < n → length (partsText x k) + length (partText (length (partsText x k)) (part x k) k) ≤ length (partsText x n)
+  unfolding partsText
+  parts-before k zero h = absurd (not-suc-le-zero h)
+  parts-before k (suc n) h =
+      let grown = length-append (partsText x n) (partText (length (partsText x n)) (part x n) n) in
+      elim (decLt k n) [
+        | yes l ↦ omega (arith, grown, parts-before k n l)
+        | no m ↦ let last : k ≡ n = omega arith in rw last (omega (arith, grown))
+      ]
+
+  pub element-none : length (partsText x width) ≡ 0 → elementText x ≡ bytesOf "0"
+  unfolding elementText
+  element-none h = rw (eq-eqb (length (partsText x width)) 0 h, elementText)
+
+  pub element-some : (length (partsText x width) ≡ 0 → ⊥) → elementText x ≡ partsText x width
+  unfolding elementText
+  element-some h = rw (ne-eqb (length (partsText x width)) 0 h, elementText)
+
+  -- the parts alone need no more room
+  pub element-room : length (partsText x width) ≤ length (elementText x)
+  element-room =
+      elim (decLt 0 (length (partsText x width))) [
+        | yes l ↦ omega (arith, ap length (element-some (λ z. omega arith)))
+        | no m ↦ omega arith
+      ]
+
+-- no part above the fourth is written
+parts-padded : (x : List ℤ) (n : ℕ) → n ≤ width → partsText (padded x) n ≡ partsText x n
+unfolding partsText
+parts-padded x zero h = refl
+parts-padded x (suc n) h =
+    let below = parts-padded x n (omega arith) in
+    ap₂ (λ (s : List ℕ) (a : ℤ). s ++ partText (length s) a n) below (part-padded x n (omega arith))
+
+pub element-padded : (x : List ℤ) → elementText (padded x) ≡ elementText x
+unfolding elementText
+element-padded x =
+    ap (λ (s : List ℕ). elim (eqb (length s) 0) [ true ↦ bytesOf "0" | false ↦ s ]) (parts-padded x width (omega arith))
+
+-- ---- a whole number is its decimal text
+
+abbrev whole : ℤ → List ℤ
+whole z = z ∷ pos 0 ∷ pos 0 ∷ pos 0 ∷ []
+
+factor-alone : (n : ℕ) → factorText n 0 ≡ decimal n
+unfolding factorText
+factor-alone n = rw (and-false (eqb n 1), factorText)
+
+sign-whole : (z : ℤ) (b : Bool) → ltZ z (pos 0) ≡ b → signText 0 z ++ decimal (natAbs z) ≡ decimalZ z
+unfolding bytesOf
+sign-whole z true h = rw (sign-below 0 z h) (sym (signed-below z h))
+sign-whole z false h = rw (sign-none 0 z h refl) (sym (signed-above z h))
+
+first-part : (z : ℤ) → (natAbs z ≡ 0 → ⊥) → partText 0 z 0 ≡ decimalZ z
+first-part z h =
+    part-some 0 z 0 (natAbs z) refl h
+    ∙ rw (power-none 0 refl, append-nil (factorText (natAbs z) 0), factor-alone (natAbs z)) (sign-whole z (ltZ z (pos 0)) refl)
+
+whole-parts : (z : ℤ) → partsText (whole z) width ≡ partText 0 z 0
+unfolding partsText partText
+whole-parts z = simp append-nil
+
+some-digit : (n : ℕ) (text : List ℕ) → readOn 0 text ≡ suc n → length text ≡ 0 → ⊥
+unfolding readOn
+some-digit n [] e h = omega arith
+some-digit n (byte ∷ text) e h = omega arith
+
+some-text : (z : ℤ) → (natAbs z ≡ 0 → ⊥) → length (decimalZ z) ≡ 0 → ⊥
+unfolding decimalZ
+some-text (pos zero) h e = h refl
+some-text (pos (suc n)) h e = some-digit n (decimal (suc n)) (decimal-reads (suc n)) e
+some-text (negsuc n) h e = omega arith
+
+written : (z : ℤ) → (natAbs z ≡ 0 → ⊥) → elementText (whole z) ≡ decimalZ z
+written z h =
+    let text = whole-parts z ∙ first-part z h in
+    element-some (whole z) (λ e. some-text z h (sym (ap length text) ∙ e)) ∙ text
+
+pub element-whole : (z : ℤ) → elementText (whole z) ≡ decimalZ z
+unfolding elementText partsText partText decimalZ decimal decimalWithin bytesOf
+element-whole (pos zero) = refl
+element-whole (pos (suc n)) = written (pos (suc n)) (λ e. omega arith)
+element-whole (negsuc n) = written (negsuc n) (λ e. omega arith)
 
 -- ---- lengths; a part of an element in a file is at most 32,768 in size
 
@@ -100,26 +213,32 @@ pub choice-short : (b : Bool) (s t : List ℕ) (n : ℕ) → length s ≤ n → 
 choice-short true s t n h k = h
 choice-short false s t n h k = k
 
-omega-short : (n : ℕ) → n ≤ 32768 → length (omegaText n) ≤ 6
-unfolding omegaText bytesOf
-omega-short n h = choice-short (eqb n 1) (bytesOf "w") (decimal n ++ bytesOf "w") 6 (omega arith) (omega (arith, length-append (decimal n) (bytesOf "w"), decimal-short 4 n (omega arith)))
+factor-short : (n k : ℕ) → n ≤ 32768 → length (factorText n k) ≤ 5
+unfolding factorText
+factor-short n k h = choice-short (eqb n 1 && ltb 0 k) [] (decimal n) 5 (omega arith) (decimal-short 4 n (omega arith))
 
-real-short : (a : ℤ) → natAbs a ≤ 32768 → length (realText a) ≤ 6
-unfolding realText
-real-short a h = choice-short (eqb (natAbs a) 0) [] (decimalZ a) 6 (omega arith) (whole-short 4 a (omega arith))
-
-sign-short : (a b : ℤ) → length (signText a b) ≤ 1
+sign-short : (before : ℕ) (a : ℤ) → length (signText before a) ≤ 1
 unfolding signText bytesOf
-sign-short a b =
-    choice-short (ltZ b (pos 0)) (bytesOf "-") (elim (eqb (natAbs a) 0) [ true ↦ [] | false ↦ bytesOf "+" ]) 1 (omega arith) (choice-short (eqb (natAbs a) 0) [] (bytesOf "+") 1 (omega arith) (omega arith))
+sign-short before a =
+    choice-short (ltZ a (pos 0)) (bytesOf "-") (elim (eqb before 0) [ true ↦ [] | false ↦ bytesOf "+" ]) 1 (omega arith) (choice-short (eqb before 0) [] (bytesOf "+") 1 (omega arith) (omega arith))
 
-pub element-short : (x : List ℤ) → Within 32768 x → length (elementText x) ≤ 13
-unfolding elementText Within
+part-short : (before : ℕ) (a : ℤ) (k : ℕ) → natAbs a ≤ 32768 → length (partText before a k) ≤ 6 + length (powerText k)
+unfolding partText
+part-short before a k h =
+    let sign = signText before a in
+    let factor = factorText (natAbs a) k in
+    choice-short (eqb (natAbs a) 0) [] (sign ++ (factor ++ powerText k)) (6 + length (powerText k)) (omega arith) (omega (arith, length-append sign (factor ++ powerText k), length-append factor (powerText k), sign-short before a, factor-short (natAbs a) k h))
+
+parts-short : (x : List ℤ) (k : ℕ) → Within 32768 x → length (partsText x (suc k)) ≤ length (partsText x k) + (6 + length (powerText k))
+unfolding partsText Within
+parts-short x k h =
+    omega (arith, length-append (partsText x k) (partText (length (partsText x k)) (part x k) k), part-short (length (partsText x k)) (part x k) k (h k))
+
+-- four parts of at most 6, 7, 9 and 9 bytes
+pub element-short : (x : List ℤ) → Within 32768 x → length (elementText x) ≤ 31
+unfolding elementText partsText powerText bytesOf decimal decimalWithin
 element-short x h =
-    let real = realText (part x 0) in
-    let sign = signText (part x 0) (part x 1) in
-    let n = natAbs (part x 1) in
-    choice-short (eqb n 0) (decimalZ (part x 0)) (real ++ (sign ++ omegaText n)) 13 (omega (arith, whole-short 4 (part x 0) (omega (arith, h 0)))) (omega (arith, length-append real (sign ++ omegaText n), length-append sign (omegaText n), real-short (part x 0) (h 0), sign-short (part x 0) (part x 1), omega-short n (h 1)))
+    choice-short (eqb (length (partsText x width)) 0) (bytesOf "0") (partsText x width) 31 (omega arith) (omega (arith, parts-short x 0 h, parts-short x 1 h, parts-short x 2 h, parts-short x 3 h))
 
 -- ---- text at the right of a column
 

@@ -6,16 +6,17 @@ use native.Mathlib.Decide.{ℕ-discrete}
 use native.Mathlib.Omega.{arith}
 use lib.ListN.{replicate, getD, set, length-set, length-replicate, getD-replicate}
 use lib.Seq.{getD-set-same, getD-set-other}
+use Rattle.layout_rules.specs.Section.{Section}
 use Rattle.leaf_rules.specs.Leaf.{leafCount, wordLength}
 use Rattle.place_rules.specs.Helpers.{Counted}
 
 -- slots that all hold a number that is no leaf's
-pub counted-none : (leaves : List ℕ) (v reach : ℕ) → leafCount leaves ≤ v → Counted leaves (replicate 256 v) reach
+pub counted-none : (leaves : Section) (v reach : ℕ) → leafCount leaves ≤ v → Counted leaves (replicate 256 v) reach
 counted-none leaves v reach h =
     record { long = length-replicate {A = ℕ} 256 v; counted = λ s l k. absurd (omega (arith, getD-replicate 256 s v 0 l)) }
 
 -- a leaf that was looked up, put into a slot
-pub counted-more : (leaves found : List ℕ) (reach s leaf longest : ℕ) → Counted leaves found reach → longest ≡ max reach (wordLength leaves leaf) → Counted leaves (set found s leaf) longest
+pub counted-more : (leaves : Section) (found : List ℕ) (reach s leaf longest : ℕ) → Counted leaves found reach → longest ≡ max reach (wordLength leaves leaf) → Counted leaves (set found s leaf) longest
 counted-more leaves found reach s leaf longest is e = record { long = length-set found s leaf ∙ is .long; counted = counted }
   where
     kept : (d : ℕ) → wordLength leaves d ≤ reach → wordLength leaves d ≤ longest

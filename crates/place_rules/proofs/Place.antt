@@ -9,6 +9,7 @@ use native.Mathlib.Omega.{arith}
 use lib.ListN.{getD}
 use lib.IntN.{ℤ}
 use borrow.Author.Tests.{lt-ltb, le-ltb}
+use Rattle.layout_rules.specs.Section.{Section}
 use Rattle.lists.specs.Span.{span}
 use Rattle.lists.proofs.Span.{getD-span}
 use Rattle.ring.specs.declared.Operation.{Operation}
@@ -32,12 +33,12 @@ use Rattle.place_rules.specs.Place.{inputAt, alphabetIndex, digitAt, ind
 use Rattle.place_rules.specs.Helpers.{Begun, IsLeaf}
 
 -- an input index is at most the count of input digits
-pub pair-index-high : (op : Operation) (alphabet inputs : List ℕ) (i j : ℕ) → pairIndex op alphabet inputs i j ≤ elementCount inputs
+pub pair-index-high : (op : Operation) (alphabet inputs : Section) (i j : ℕ) → pairIndex op alphabet inputs i j ≤ elementCount inputs
 unfolding pairIndex
 pair-index-high op alphabet inputs i j = index-high inputs (elementCount inputs) _
 
 -- w(j) is what the operation makes of the two digits at place j, where both are alphabet indexes and all that it makes is listed
-pub input-is : (op : Operation) (alphabet inputs : List ℕ) → AllListed op alphabet inputs → (first second : List ℕ) (j : ℕ) → getD first j 0 < elementCount alphabet → getD second j 0 < elementCount alphabet
+pub input-is : (op : Operation) (alphabet inputs : Section) → AllListed op alphabet inputs → (first second : List ℕ) (j : ℕ) → getD first j 0 < elementCount alphabet → getD second j 0 < elementCount alphabet
     → recordAt inputs (inputAt op alphabet inputs first second j) ≡ combine op (recordAt alphabet (getD first j 0)) (recordAt alphabet (getD second j 0))
 input-is op alphabet inputs is first second j low also = pair-index-is op alphabet inputs is (getD first j 0) (getD second j 0) low also
 
@@ -60,7 +61,7 @@ window-inside row j k h =
     place i e = omega arith
 
 -- the leaf that the look-up finds in the first eight digits, and its length
-pub leaf-found : (leaves words row : List ℕ) → Begun leaves words row → (j r size : ℕ) → LookedUp (codeOf leaves words) (span (window row j) 0 8) r → size ≡ lengthGiven leaves r → IsLeaf leaves words row j r size
+pub leaf-found : (leaves : Section) (words row : List ℕ) → Begun leaves words row → (j r size : ℕ) → LookedUp (codeOf leaves words) (span (window row j) 0 8) r → size ≡ lengthGiven leaves r → IsLeaf leaves words row j r size
 leaf-found leaves words row is j r size found length =
     let (k, h, b) = is .begun j in
     let leaf : HasLeaf c (digits eight) = (k, h, λ i l. b i l ∙ sym (same i (omega (arith, is .sorted .short k h)))) in
@@ -81,7 +82,7 @@ leaf-found leaves words row is j r size found length =
     same : (i : ℕ) → i < 8 → digits eight i ≡ window row j i
     same i l = getD-span (window row j) 0 8 i 0 l ∙ ap (window row j) (zero-add i)
 
-module _ (o : Operations (List ℤ)) (alphabet inputs leaves words row : List ℕ) where
+module _ (o : Operations (List ℤ)) (alphabet inputs leaves : Section) (words row : List ℕ) where
   -- the digit at place j, from its input digit, the weight from below and its own
   pub index-from : (j input index : ℕ) (below own : List ℤ) → input ≡ getD row j 0 → below ≡ weightInto (codeOf leaves words) row j → own ≡ weightInto (codeOf leaves words) row (j + 1)
       → index ≡ alphabetIndex alphabet (outDigit o (recordAt inputs input) below own) → index ≡ indexAt o alphabet inputs leaves words row j
@@ -108,13 +109,13 @@ unfolding window
 window-first row j = rw (add-one j, window)
 
 -- a leaf that begins the window is the one
-pub leaf-begun : (leaves words row : List ℕ) → Begun leaves words row → (j k size : ℕ) → k < leafCount leaves → Begins (codeOf leaves words) k (window row j) → size ≡ wordLength leaves k → IsLeaf leaves words row j k size
+pub leaf-begun : (leaves : Section) (words row : List ℕ) → Begun leaves words row → (j k size : ℕ) → k < leafCount leaves → Begins (codeOf leaves words) k (window row j) → size ≡ wordLength leaves k → IsLeaf leaves words row j k size
 leaf-begun leaves words row is j k size h b length =
     let c = codeOf leaves words in
     record { is-leaf = sym (leafOf-unique c (ordered-separate c (is .sorted .ordered)) (window row j) k h b); is-size = length; listed = h }
 
 -- it gives the place its weight from below, and its length counts for the reach
-module _ (leaves words row : List ℕ) (j k size : ℕ) (is : IsLeaf leaves words row j k size) where
+module _ (leaves : Section) (words row : List ℕ) (j k size : ℕ) (is : IsLeaf leaves words row j k size) where
   pub leaf-weight : weightGiven leaves k ≡ weightInto (codeOf leaves words) row j
   unfolding weightInto
   leaf-weight = sym (weight-there leaves k (is .listed)) ∙ ap (weightOf leaves) (is .is-leaf)

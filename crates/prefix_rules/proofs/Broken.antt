@@ -10,6 +10,7 @@ use native.Mathlib.Numerals.{add-one}
 use native.Mathlib.Omega.{arith}
 use lib.ListN.{length, getD}
 use borrow.Author.Tests.{ltb-true, ltb-false}
+use Rattle.ring.specs.Padded.{width}
 use Rattle.lists.specs.Span.{span}
 use Rattle.lists.proofs.Span.{length-span, getD-span}
 use Rattle.lists.proofs.Test.{clash, not-passed}
@@ -19,7 +20,7 @@ use Rattle.faults.proofs.Rule.{Decided, exact, judge-decided, places-decided, t
 use Rattle.ring.specs.Element.{zeros}
 use Rattle.ring.specs.Tests.{same}
 use Rattle.ring.proofs.Element.{same-refl, same→≡}
-use Rattle.layout_rules.specs.Section.{degree}
+use Rattle.layout_rules.specs.Section.{Section}
 use Rattle.numeration.specs.Code.{Code, Inputs, Precedes, HasLeaf}
 use Rattle.numeration.specs.Prefix.{Below}
 use Rattle.numeration.proofs.Leaves.{precedes-sound, precedes-complete, getD-inputs}
@@ -49,7 +50,7 @@ module _ {A : Type 0} (c : Code A) (m : ℕ) (some : 0 < m) where
       cut : (w : ℕ → ℕ) × Below m w × ¬ (HasLeaf c w) → (s : List ℕ) × (length s ≡ 8) × Inputs m s × ¬ (HasLeaf c (λ i. getD s i 0))
       cut (w, below, none) = (span w 0 8, length-span w 0 8, (λ i h. rw (read w i (omega (arith, length-span w 0 8))) (below i)), λ l. let (k, leaf, b) = l in none (k, leaf, λ i h. b i h ∙ read w i (omega (arith, short k leaf))))
 
-module _ (leaves words : List ℕ) where
+module _ (leaves : Section) (words : List ℕ) where
   -- what rule 11's test says
   pub order-says : (k : ℕ) → orderAllowed leaves words k ≡ true → Precedes (codeOf leaves words) k (suc k)
   order-says k t = rw (add-one k) at (precedes-sound (codeOf leaves words) k (k + 1) t)
@@ -57,7 +58,7 @@ module _ (leaves words : List ℕ) where
   pub order-holds : (k : ℕ) → Precedes (codeOf leaves words) k (suc k) → orderAllowed leaves words k ≡ true
   order-holds k h = precedes-complete (codeOf leaves words) k (k + 1) (rw (add-one k) h)
 
-module _ (leaves words : List ℕ) (m : ℕ) where
+module _ (leaves : Section) (words : List ℕ) (m : ℕ) where
   -- rule 9
   place-decided : Decided (rule 9 (Broken9 leaves words) ∷ []) (placeCheck leaves words)
   unfolding placeCheck
@@ -104,8 +105,8 @@ module _ (leaves words : List ℕ) (m : ℕ) where
   zero-decided : Decided (rule 13 (Broken13 leaves) ∷ []) (zeroCheck leaves)
   unfolding zeroCheck
   zero-decided =
-      places-decided (rule 13 (Broken13 leaves)) (λ _. same (weightOf leaves 0) (zeros degree)) 1 (omega arith)
-      (λ p b. (omega (arith, b .0), λ t. b .1 (same→≡ _ _ t))) (λ p l t. (omega arith, λ e. clash (ap (λ x. same x (zeros degree)) e ∙ same-refl (zeros degree)) t))
+      places-decided (rule 13 (Broken13 leaves)) (λ _. same (weightOf leaves 0) (zeros width)) 1 (omega arith)
+      (λ p b. (omega (arith, b .0), λ t. b .1 (same→≡ _ _ t))) (λ p l t. (omega arith, λ e. clash (ap (λ x. same x (zeros width)) e ∙ same-refl (zeros width)) t))
 
   pub leaves-decided : 0 < m → Decided (leafRules leaves words m) (leafCheck leaves words m)
   unfolding leafCheck

@@ -10,6 +10,7 @@ use native.Mathlib.Decide.{decLt}
 use lib.ListN.{getD}
 use lib.Dec.{eqb}
 use borrow.Author.Tests.{lt-ltb, le-ltb, le-leb, lt-leb}
+use Rattle.layout_rules.specs.Section.{Section}
 use Rattle.lists.proofs.Scan.{left, scan-low, scan-high}
 use Rattle.lists.proofs.Test.{clash}
 use Rattle.numeration.specs.Code.{Code}
@@ -17,7 +18,7 @@ use Rattle.leaf_rules.specs.Leaf.{wordStart, codeOf}
 use Rattle.prefix_rules.specs.Coverage.{runEnd, everyRun, covered}
 
 -- a digit of a word by its place as it was read
-pub digit-read : (leaves words : List ℕ) (k i start byte : ℕ) → start ≡ wordStart leaves k → byte ≡ getD words (start + i) 0 → byte ≡ codeOf leaves words .digit k i
+pub digit-read : (leaves : Section) (words : List ℕ) (k i start byte : ℕ) → start ≡ wordStart leaves k → byte ≡ getD words (start + i) 0 → byte ≡ codeOf leaves words .digit k i
 digit-read leaves words k i start byte starts reads = rw starts at reads
 
 module _ {A : Type 0} (c : Code A) where

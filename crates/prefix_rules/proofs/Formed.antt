@@ -6,6 +6,7 @@ use Prim.Native.Nat.{ℕ, suc, _+_, _-_, _<_, _≤_}
 use native.Mathlib.Omega.{arith}
 use lib.ListN.{length}
 use borrow.Author.Tests.{ltb-true}
+use Rattle.layout_rules.specs.Section.{Section}
 use Rattle.faults.specs.Check.{none, _then_}
 use Rattle.faults.proofs.Check.{then-kept, judge-passed}
 use Rattle.ring.proofs.Element.{same→≡}
@@ -27,7 +28,7 @@ use Rattle.prefix_rules.proofs.Broken.{strings-say, order-says, leaves-
 one-leaf : {A : Type 0} (c : Code A) → Separate c → (w : ℕ → ℕ) → HasLeaf c w → OneLeaf c w
 one-leaf c apart w (k, h, b) = (k, h, b, λ l i d. sym (leafOf-unique c apart w l i d) ∙ leafOf-unique c apart w k h b)
 
-module _ (leaves words : List ℕ) (m : ℕ) (input : 0 < m) where
+module _ (leaves : Section) (words : List ℕ) (m : ℕ) (input : 0 < m) where
   pub formed : leafCheck leaves words m .number ≡ 0 → LeavesFormed leaves words m
   unfolding leafCheck placeCheck wordIndexCheck orderCheck coverCheck zeroCheck
   formed h =

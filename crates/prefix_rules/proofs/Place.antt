@@ -8,22 +8,23 @@ use native.Mathlib.Omega.{arith}
 use lib.ListN.{length}
 use lib.Dec.{leb, ltb, eqb}
 use borrow.Author.Tests.{lt-ltb, le-ltb, le-leb, lt-leb, eq-eqb, ne-eqb, ltb-true, ltb-false, leb-true, leb-false, eqb-true, eqb-false}
+use Rattle.layout_rules.specs.Section.{Section}
 use Rattle.lists.proofs.Test.{both, either, not-both, neither}
 use Rattle.leaf_rules.specs.Leaf.{leafCount, wordStart, wordLength, wordEnd}
 use Rattle.prefix_rules.specs.Check.{expectedWordStart, leafAllowed}
 use Rattle.prefix_rules.specs.Broken.{WordFollows, Broken9}
 
-pub expected-first : (leaves : List ℕ) (k : ℕ) → k ≡ 0 → 0 ≡ expectedWordStart leaves k
+pub expected-first : (leaves : Section) (k : ℕ) → k ≡ 0 → 0 ≡ expectedWordStart leaves k
 unfolding expectedWordStart
 expected-first leaves k h = rw h
 
-pub expected-next : (leaves : List ℕ) (k : ℕ) → (k ≡ 0 → ⊥) → expectedWordStart leaves k ≡ wordEnd leaves (k - 1)
+pub expected-next : (leaves : Section) (k : ℕ) → (k ≡ 0 → ⊥) → expectedWordStart leaves k ≡ wordEnd leaves (k - 1)
 unfolding expectedWordStart
 expected-next leaves zero h = absurd (h refl)
 expected-next leaves (suc k) h = ap (wordEnd leaves) (omega arith)
 
 -- a leaf whose offset and length were read
-module _ (leaves : List ℕ) (n k start size : ℕ) (starts : start ≡ wordStart leaves k) (sizes : size ≡ wordLength leaves k) where
+module _ (leaves : Section) (n k start size : ℕ) (starts : start ≡ wordStart leaves k) (sizes : size ≡ wordLength leaves k) where
   pub leaf-empty : size < 1 → false ≡ leafAllowed leaves n k
   unfolding leafAllowed
   leaf-empty h = rw (lt-leb 1 (wordLength leaves k) (rw sizes at h))
@@ -55,14 +56,14 @@ module _ (leaves : List ℕ) (n k start size : ℕ) (starts : start ≡ wordStar
           rw (le-leb 1 (wordLength leaves k) (rw sizes at low), le-leb (wordLength leaves k) 8 (rw sizes at high), eq-eqb _ _ (sym starts ∙ follows ∙ expects), le-leb (wordEnd leaves k) n (omega arith), le-ltb _ _ l, starts, sizes)
 
 -- what the test says
-pub record Placed (leaves : List ℕ) (n k : ℕ) : Type 0 where
+pub record Placed (leaves : Section) (n k : ℕ) : Type 0 where
   pub some : 1 ≤ wordLength leaves k
   pub short : wordLength leaves k ≤ 8
   pub follows : wordStart leaves k ≡ expectedWordStart leaves k
   pub inside : wordEnd leaves k ≤ n
   pub last : leafCount leaves ≤ k + 1 → wordEnd leaves k ≡ n
 
-pub leaf-says : (leaves : List ℕ) (n k : ℕ) → leafAllowed leaves n k ≡ true → Placed leaves n k
+pub leaf-says : (leaves : Section) (n k : ℕ) → leafAllowed leaves n k ≡ true → Placed leaves n k
 unfolding leafAllowed
 leaf-says leaves n k t =
     let a : ((leb 1 (wordLength leaves k) && leb (wordLength leaves k) 8) ≡ true) × _ = both _ _ t in
@@ -80,12 +81,12 @@ leaf-says leaves n k t =
     not-before : leafCount leaves ≤ k + 1 → k + 1 < leafCount leaves → ⊥
     not-before l s = omega arith
 
-pub follows-expected : (leaves : List ℕ) (k : ℕ) → WordFollows leaves k ↔ (wordStart leaves k ≡ expectedWordStart leaves k)
+pub follows-expected : (leaves : Section) (k : ℕ) → WordFollows leaves k ↔ (wordStart leaves k ≡ expectedWordStart leaves k)
 unfolding expectedWordStart
 follows-expected leaves zero = (λ e. e, λ e. e)
 follows-expected leaves (suc k) = (λ e. e, λ e. e)
 
-pub leaf-fails : (leaves words : List ℕ) (k : ℕ) → k < leafCount leaves → leafAllowed leaves (length words) k ≡ false → Broken9 leaves words k
+pub leaf-fails : (leaves : Section) (words : List ℕ) (k : ℕ) → k < leafCount leaves → leafAllowed leaves (length words) k ≡ false → Broken9 leaves words k
 unfolding leafAllowed
 leaf-fails leaves words k l t = (
   l,
@@ -96,7 +97,7 @@ leaf-fails leaves words k l t = (
     ends : (ltb (k + 1) (leafCount leaves) ≡ false) × (eqb (wordEnd leaves k) (length words) ≡ false) → (k + 1 ≡ leafCount leaves) × ¬ (wordEnd leaves k ≡ length words)
     ends c = (omega (arith, ltb-false (k + 1) (leafCount leaves) (c .0)), eqb-false _ _ (c .1))
 
-pub leaf-refuted : (leaves words : List ℕ) (k : ℕ) → Placed leaves (length words) k → Broken9 leaves words k → ⊥
+pub leaf-refuted : (leaves : Section) (words : List ℕ) (k : ℕ) → Placed leaves (length words) k → Broken9 leaves words k → ⊥
 leaf-refuted leaves words k is (l, inl (inl h)) = omega (arith, is .some)
 leaf-refuted leaves words k is (l, inl (inr h)) = omega (arith, is .short)
 leaf-refuted leaves words k is (l, inr (inl h)) = h (follows-expected leaves k .1 (is .follows))

@@ -6,7 +6,8 @@ use lib.ListN.{length}
 use Rattle.faults.specs.declared.Refusal.{Refusal}
 use Rattle.faults.specs.Check.{none, _then_}
 use Rattle.faults.proofs.Check.{then-kept}
-use Rattle.layout_rules.specs.Section.{sectionEnd, sectionLengths}
+use Rattle.ring.specs.declared.Degree.{Degree}
+use Rattle.layout_rules.specs.Section.{ofDegree, sectionEnd, degreeIn, bytesOf, partOf, sectionLengths}
 use Rattle.layout_rules.specs.Directory.{directoryCheck}
 use Rattle.layout_rules.specs.Length.{lengthCheck}
 use Rattle.layout_rules.specs.Limit.{limitCheck}
@@ -48,6 +49,10 @@ directory-room file h = laid file h .low
 
 pub section-room : (file : List ℕ) → directoryCheck file .number ≡ 0 → (section : ℕ) → section < 5 → sectionEnd file section ≤ length file
 section-room file h section l = laid file h .placed section l .inside
+
+-- a section by the degree and the bytes as they were read
+pub section-is : (file : List ℕ) (d : Degree) (bytes : List ℕ) (section : ℕ) → d ≡ degreeIn file → bytes ≡ bytesOf file section → ofDegree d bytes ≡ partOf file section
+section-is file d bytes section told are = λ i. ofDegree (told i) (are i)
 
 -- what rule 14 and conversion ask of the sections of a table that passes
 pub record Sections (file : List ℕ) : Type 0 where

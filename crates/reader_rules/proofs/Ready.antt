@@ -6,12 +6,11 @@ use native.Mathlib.Nat.{le-antisymm, div-one}
 use native.Mathlib.Omega.{arith}
 use lib.ListN.{length, take, drop, length-take, length-drop}
 use Rattle.faults.specs.Outcome.{facts}
-use Rattle.layout_rules.specs.Section.{degree, recordCount, partOf}
+use Rattle.ring.specs.Degree.{partCount}
+use Rattle.layout_rules.specs.Section.{recordCount, degreeIn, bytesOf, partOf}
 use Rattle.layout_rules.proofs.Passed.{whole-records}
-use Rattle.ring.proofs.Matrix.{length-matrix}
 use Rattle.digit_rules.specs.BaseMatrix.{baseMatrix}
 use Rattle.digit_rules.proofs.Record.{element-parts}
-use Rattle.digit_rules.proofs.Base.{matrix-of-two}
 use Rattle.digit_rules.proofs.Passed.{base-ready}
 use Rattle.numeration.specs.Elements.{elements}
 use Rattle.numeration.proofs.Elements.{elements-group}
@@ -26,11 +25,7 @@ use Rattle.reader_rules.proofs.Kept.{layout-kept, table-kept}
 use Rattle.reader_rules.proofs.Broken.{some-input}
 use Rattle.reader_rules.proofs.Formed.{well-formed, well-formed-read}
 
--- a row for each part
-rows-of-base : (base : List ℕ) → length (baseMatrix base) ≡ degree
-rows-of-base base = rw (matrix-of-two base) (length-matrix _ _)
-
-lies : (file : List ℕ) → WellFormed file → (section : ℕ) → section < 5 → Lies file (partFacts file section) (partOf file section) (recordCount section (partOf file section))
+lies : (file : List ℕ) → WellFormed file → (section : ℕ) → section < 5 → Lies file (partFacts file section) (bytesOf file section) (recordCount section (partOf file section))
 unfolding partFacts
 lies file is section l = record { in-order = omega arith; inside = is .inside section l; handed-on = refl; counts = refl }
 
@@ -52,7 +47,7 @@ ready file is =
     record {
       code = complete-prefix-code (leafPart file) (wordPart file) (inputCount file) some (is .leaves);
       ordered-code = ordered-code (leafPart file) (wordPart file) (inputCount file) some (is .leaves);
-      group = elements-group degree (baseMatrix (basePart file)) (rows-of-base (basePart file));
+      group = elements-group (partCount (degreeIn file)) (baseMatrix (basePart file));
       in-group =
           record {
             element-input = λ i. element-parts (inputPart file) _;
@@ -67,7 +62,7 @@ ready file is =
       none-deeper = deep .1;
       depth-low = deep .2;
       depth-high = deep .3;
-      base-lies = subst (Lies file (partFacts file 0) (basePart file)) (le-antisymm (base .most) (base .least)) (at 0 (omega arith));
+      base-lies = subst (Lies file (partFacts file 0) (basePart file .bytes)) (le-antisymm (base .most) (base .least)) (at 0 (omega arith));
       alphabet-lies = at 1 (omega arith);
       input-lies = at 2 (omega arith);
       leaf-lies = at 3 (omega arith);

@@ -3,7 +3,7 @@ use mathlib.Core.Path.{_≡_}
 use mathlib.Core.List.{List}
 use Prim.Native.Nat.{ℕ, _-_, _<_, _≤_}
 use lib.ListN.{length, take, drop}
-use Rattle.layout_rules.specs.Section.{degree}
+use Rattle.ring.specs.Padded.{width}
 use Rattle.ring.specs.Element.{zeros}
 use Rattle.digit_rules.specs.Record.{recordAt, elementCount}
 use Rattle.digit_rules.specs.Digits.{BasePart}
@@ -30,22 +30,22 @@ pub record Ready (file : List ℕ) : Type 0 where
   -- group with an additive map
   pub code : PrefixCode (leavesIn file) (inputCount file)
   pub ordered-code : OrderedCode (leavesIn file) 8 (inputCount file)
-  pub group : AdditiveGroup (operationsOf file) (HasParts degree)
-  pub in-group : InGroup (operationsOf file) (HasParts degree) (recordAt (inputPart file)) (leavesIn file)
+  pub group : AdditiveGroup (operationsOf file) (HasParts width)
+  pub in-group : InGroup (operationsOf file) (HasParts width) (recordAt (inputPart file)) (leavesIn file)
   -- "Record 0 of sections 1 and 2 is the digit zero", "Leaf 0 has the weight zero"
-  pub alphabet-zero : recordAt (alphabetPart file) 0 ≡ zeros degree
-  pub input-zero : recordAt (inputPart file) 0 ≡ zeros degree
-  pub weight-zero : weightOf (leafPart file) 0 ≡ zeros degree
+  pub alphabet-zero : recordAt (alphabetPart file) 0 ≡ zeros width
+  pub input-zero : recordAt (inputPart file) 0 ≡ zeros width
+  pub weight-zero : weightOf (leafPart file) 0 ≡ zeros width
   -- "The depth h is the longest word length": some leaf has it and none is longer; it is 1 to 8
   pub deepest : (k : ℕ) × (k < leafCount (leafPart file)) × (wordLength (leafPart file) k ≡ tableFacts file .depth)
   pub none-deeper : (k : ℕ) → k < leafCount (leafPart file) → wordLength (leafPart file) k ≤ tableFacts file .depth
   pub depth-low : 1 ≤ tableFacts file .depth
   pub depth-high : tableFacts file .depth ≤ 8
   -- where the facts say that the sections lie
-  pub base-lies : Lies file (tableFacts file .base) (basePart file) 2
-  pub alphabet-lies : Lies file (tableFacts file .alphabet) (alphabetPart file) (elementCount (alphabetPart file))
-  pub input-lies : Lies file (tableFacts file .inputs) (inputPart file) (inputCount file)
-  pub leaf-lies : Lies file (tableFacts file .leaves) (leafPart file) (leafCount (leafPart file))
+  pub base-lies : Lies file (tableFacts file .base) (basePart file .bytes) 2
+  pub alphabet-lies : Lies file (tableFacts file .alphabet) (alphabetPart file .bytes) (elementCount (alphabetPart file))
+  pub input-lies : Lies file (tableFacts file .inputs) (inputPart file .bytes) (inputCount file)
+  pub leaf-lies : Lies file (tableFacts file .leaves) (leafPart file .bytes) (leafCount (leafPart file))
   pub word-lies : Lies file (tableFacts file .words) (wordPart file) (length (wordPart file))
   -- "2 to 16 records", "1 to 136 records", "1 to 4,000 records"
   pub alphabet-count : (2 ≤ elementCount (alphabetPart file)) × (elementCount (alphabetPart file) ≤ 16)

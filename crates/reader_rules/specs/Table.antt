@@ -1,7 +1,8 @@
 -- A table as its file gives it (document 01, "Table file"): its sections, elements, leaves, and the value of a row.
 use mathlib.Core.List.{List, map}
 use Prim.Native.Nat.{ℕ}
-use Rattle.layout_rules.specs.Section.{degree, partOf}
+use Rattle.ring.specs.Degree.{partCount}
+use Rattle.layout_rules.specs.Section.{Section, bytesOf, partOf}
 use Rattle.digit_rules.specs.Record.{elementCount, recordAt}
 use Rattle.numeration.specs.Code.{Code}
 use Rattle.leaf_rules.specs.Leaf.{codeOf}
@@ -12,24 +13,24 @@ use Rattle.numeration.specs.Elements.{elements}
 use Rattle.numeration.specs.Value.{value}
 
 -- the five sections
-abbrev pub basePart : List ℕ → List ℕ
+abbrev pub basePart : List ℕ → Section
 basePart file = partOf file 0
 
-abbrev pub alphabetPart : List ℕ → List ℕ
+abbrev pub alphabetPart : List ℕ → Section
 alphabetPart file = partOf file 1
 
-abbrev pub inputPart : List ℕ → List ℕ
+abbrev pub inputPart : List ℕ → Section
 inputPart file = partOf file 2
 
-abbrev pub leafPart : List ℕ → List ℕ
+abbrev pub leafPart : List ℕ → Section
 leafPart file = partOf file 3
 
 abbrev pub wordPart : List ℕ → List ℕ
-wordPart file = partOf file 4
+wordPart file = bytesOf file 4
 
 -- the ring's elements with multiplication by the base, by the bytes of section 0
-abbrev pub system : List ℕ → Operations (List ℤ)
-system base = elements degree (baseMatrix base)
+abbrev pub system : Section → Operations (List ℤ)
+system base = elements (partCount (base .degree)) (baseMatrix base)
 
 -- of a file: its elements with multiplication by its base, its count of input digits, and its leaves
 abbrev pub operationsOf : List ℕ → Operations (List ℤ)

@@ -11,6 +11,8 @@ use native.Mathlib.Omega.{arith}
 use lib.ListN.{length, length-map, List·getD-map, drop-of-length-le}
 use lib.Seq.{drop-cons}
 use lib.IntN.{ℤ}
+use Rattle.ring.specs.Degree.{partCount}
+use Rattle.ring.specs.Padded.{width}
 use Rattle.ring.specs.Element.{zeros}
 use Rattle.ring.proofs.Parts.{within-part}
 use Rattle.numeration.specs.Value.{value, topDown}
@@ -24,7 +26,7 @@ use Rattle.faults.specs.Unless.{unless}
 use Rattle.faults.specs.Exact.{Exact}
 use Rattle.faults.proofs.Unless.{unless-found, unless-none}
 use Rattle.faults.proofs.Rule.{Decided, passes, refuses, exact}
-use Rattle.layout_rules.specs.Section.{degree}
+use Rattle.layout_rules.specs.Section.{Section}
 use Rattle.digit_rules.specs.Record.{recordAt}
 use Rattle.digit_rules.proofs.Record.{element-parts}
 use Rattle.row_value_rules.specs.Total.{totalLimit, limited, placeDigit, nextTotal, worthFrom, worthOf, refusalOf, worthCheck}
@@ -56,37 +58,37 @@ data Lead (total : ℕ → List ℤ) (i : ℕ) (outcome : Outcome (List ℤ)) : 
   whole : outcome ≡ facts (total 0) → Limited total 0 i → Lead total i outcome
   stopped : (p : ℕ) → p < i → outcome ≡ refused rows 28 p → limited (total p) ≡ false → Limited total (suc p) i → Lead total i outcome
 
-module _ (base : List (List ℤ)) (digit total : ℕ → List ℤ) (n : ℕ) (next : (p : ℕ) → p < n → total p ≡ nextTotal base (total (suc p)) (digit p)) where
-  leads : (i : ℕ) → i ≤ n → Lead total i (worthFrom base digit i (total i))
-  leads zero h = whole (worth-end base digit (total 0)) (limited-none total 0)
+module _ (d : ℕ) (base : List (List ℤ)) (digit total : ℕ → List ℤ) (n : ℕ) (next : (p : ℕ) → p < n → total p ≡ nextTotal d base (total (suc p)) (digit p)) where
+  leads : (i : ℕ) → i ≤ n → Lead total i (worthFrom d base digit i (total i))
+  leads zero h = whole (worth-end d base digit (total 0)) (limited-none total 0)
   leads (suc i) h = go (limited (total i)) refl (leads i (omega arith))
     where
-      go : (b : Bool) → limited (total i) ≡ b → Lead total i (worthFrom base digit i (total i)) → Lead total (suc i) (worthFrom base digit (suc i) (total (suc i)))
+      go : (b : Bool) → limited (total i) ≡ b → Lead total i (worthFrom d base digit i (total i)) → Lead total (suc i) (worthFrom d base digit (suc i) (total (suc i)))
       go false t below =
-          stopped i (omega arith) (worth-stops base digit i (total (suc i)) (total i) (next i h) t) t (limited-none total (suc i))
+          stopped i (omega arith) (worth-stops d base digit i (total (suc i)) (total i) (next i h) t) t (limited-none total (suc i))
       go true t (whole e all) =
-          whole (worth-next base digit i (total (suc i)) (total i) (next i h) t ∙ e) (limited-more total 0 i t all)
+          whole (worth-next d base digit i (total (suc i)) (total i) (next i h) t ∙ e) (limited-more total 0 i t all)
       go true t (stopped p l e f all) =
-          stopped p (omega arith) (worth-next base digit i (total (suc i)) (total i) (next i h) t ∙ e) f (limited-more total (suc p) i t all)
+          stopped p (omega arith) (worth-next d base digit i (total (suc i)) (total i) (next i h) t ∙ e) f (limited-more total (suc p) i t all)
 
-module _ (base : List (List ℤ)) (alphabet row : List ℕ) where
+module _ (base : List (List ℤ)) (alphabet : Section) (row : List ℕ) where
   total : ℕ → List ℤ
   total p = totalAt base alphabet row p
 
-  total-next : (p : ℕ) → p < length row → total p ≡ nextTotal base (total (suc p)) (placeDigit alphabet row p)
+  total-next : (p : ℕ) → p < length row → total p ≡ nextTotal (partCount (alphabet .degree)) base (total (suc p)) (placeDigit alphabet row p)
   unfolding total topDown elements
   total-next p h =
-      ap (topDown (elements degree base)) (drop-cons (digitsOf alphabet row) p (recordAt alphabet 0) (rw (length-map row (recordAt alphabet)) h))
-      ∙ ap (λ d. nextTotal base (total (suc p)) d) (List·getD-map (recordAt alphabet) row p 0)
+      ap (topDown (elements (partCount (alphabet .degree)) base)) (drop-cons (digitsOf alphabet row) p (recordAt alphabet 0) (rw (length-map row (recordAt alphabet)) h))
+      ∙ ap (λ d. nextTotal (partCount (alphabet .degree)) base (total (suc p)) d) (List·getD-map (recordAt alphabet) row p 0)
 
-  total-top : total (length row) ≡ zeros degree
+  total-top : total (length row) ≡ zeros width
   unfolding total topDown elements
   total-top =
-      ap (topDown (elements degree base)) (drop-of-length-le (digitsOf alphabet row) {i = length row} (omega (arith, length-map row (recordAt alphabet))))
+      ap (topDown (elements (partCount (alphabet .degree)) base)) (drop-of-length-le (digitsOf alphabet row) {i = length row} (omega (arith, length-map row (recordAt alphabet))))
 
   lead : Lead total (length row) (worthOf base alphabet row)
   unfolding worthOf
-  lead = rw (← total-top) (leads base (placeDigit alphabet row) total (length row) total-next (length row) (omega arith))
+  lead = rw (← total-top) (leads (partCount (alphabet .degree)) base (placeDigit alphabet row) total (length row) total-next (length row) (omega arith))
 
   -- the test of a total and the plain statement
   outside-fails : (p : ℕ) → OutsideAt base alphabet row p → limited (total p) ≡ true → ⊥
@@ -133,10 +135,10 @@ module _ (base : List (List ℤ)) (alphabet row : List ℕ) where
           same r = cc
 
   -- an element exactly where no total has such a part, and then base times total plus digit from the top place down
-  pub element-exactly : (x : List ℤ) → (worthOf base alphabet row ≡ facts x) ↔ ((x ≡ topDown (elements degree base) (digitsOf alphabet row)) × ((p : ℕ) → ¬ (OutsideAt base alphabet row p)))
+  pub element-exactly : (x : List ℤ) → (worthOf base alphabet row ≡ facts x) ↔ ((x ≡ topDown (elements (partCount (alphabet .degree)) base) (digitsOf alphabet row)) × ((p : ℕ) → ¬ (OutsideAt base alphabet row p)))
   element-exactly x = go reached
     where
-      go : Reached (worthOf base alphabet row) → (worthOf base alphabet row ≡ facts x) ↔ ((x ≡ topDown (elements degree base) (digitsOf alphabet row)) × ((p : ℕ) → ¬ (OutsideAt base alphabet row p)))
+      go : Reached (worthOf base alphabet row) → (worthOf base alphabet row ≡ facts x) ↔ ((x ≡ topDown (elements (partCount (alphabet .degree)) base) (digitsOf alphabet row)) × ((p : ℕ) → ¬ (OutsideAt base alphabet row p)))
       go (whole-row e kept) = (λ r. (same (sym r ∙ e), kept), λ w. e ∙ ap facts (sym (w .0)))
         where
           same : _≡_ {A = Outcome (List ℤ)} (facts x) (facts (totalAt base alphabet row 0)) → x ≡ totalAt base alphabet row 0
@@ -148,10 +150,10 @@ module _ (base : List (List ℤ)) (alphabet row : List ℕ) where
 
   -- Where the value call gives an element, it is the value of the row: the sum of its digits, each times the base to the power of
   -- its place
-  pub element-is-value : length base ≡ degree → (x : List ℤ) → worthOf base alphabet row ≡ facts x → x ≡ value (elements degree base) (digitsOf alphabet row)
-  element-is-value h x e =
-      element-exactly x .0 e .0 ∙ sym (value-topDown (elements degree base) (HasParts degree) (elements-group degree base h) (digitsOf alphabet row)
-      (elements-map (elements degree base) (HasParts degree) (elements-group degree base h) (recordAt alphabet) (λ i. element-parts alphabet _) row))
+  pub element-is-value : (x : List ℤ) → worthOf base alphabet row ≡ facts x → x ≡ value (elements (partCount (alphabet .degree)) base) (digitsOf alphabet row)
+  element-is-value x e =
+      element-exactly x .0 e .0 ∙ sym (value-topDown (elements (partCount (alphabet .degree)) base) (HasParts width) (elements-group (partCount (alphabet .degree)) base) (digitsOf alphabet row)
+      (elements-map (elements (partCount (alphabet .degree)) base) (HasParts width) (elements-group (partCount (alphabet .degree)) base) (recordAt alphabet) (λ i. element-parts alphabet _) row))
 
   -- Demand 1 for rule 28, in a list of rules
   pub worth-decided : Decided (valueRules base alphabet row) (worthCheck base alphabet row)
@@ -162,14 +164,14 @@ module _ (base : List (List ℤ)) (alphabet row : List ℕ) where
       go (whole-row e kept) = rw e (passes refl (λ p b. kept p (b .0), tt))
       go (broken-at q e b) = rw e (refuses (omega arith) (inl (refl, record { broken = b; earliest = λ p h d. d .1 q h (b .0) })))
 
-pub worth-exact : (base : List (List ℤ)) (alphabet row : List ℕ) → Exact (valueRules base alphabet row) (worthCheck base alphabet row)
+pub worth-exact : (base : List (List ℤ)) (alphabet : Section) (row : List ℕ) → Exact (valueRules base alphabet row) (worthCheck base alphabet row)
 worth-exact base alphabet row = exact _ _ (worth-decided base alphabet row)
 
 -- the outcome as a check and what follows: 28 in the rows' name, else the value
-pub worth-outcome : (base : List (List ℤ)) (alphabet row : List ℕ) → length base ≡ degree → worthOf base alphabet row ≡ unless rows (worthCheck base alphabet row) (facts (value (elements degree base) (digitsOf alphabet row)))
+pub worth-outcome : (base : List (List ℤ)) (alphabet : Section) (row : List ℕ) → worthOf base alphabet row ≡ unless rows (worthCheck base alphabet row) (facts (value (elements (partCount (alphabet .degree)) base) (digitsOf alphabet row)))
 unfolding worthCheck refusalOf
-worth-outcome base alphabet row h = go (reached base alphabet row)
+worth-outcome base alphabet row = go (reached base alphabet row)
   where
-    go : Reached base alphabet row (worthOf base alphabet row) → worthOf base alphabet row ≡ unless rows (refusalOf (worthOf base alphabet row)) (facts (value (elements degree base) (digitsOf alphabet row)))
-    go (whole-row e kept) = rw e (ap facts (element-is-value base alphabet row h _ e) ∙ sym (unless-none rows none _ refl))
+    go : Reached base alphabet row (worthOf base alphabet row) → worthOf base alphabet row ≡ unless rows (refusalOf (worthOf base alphabet row)) (facts (value (elements (partCount (alphabet .degree)) base) (digitsOf alphabet row)))
+    go (whole-row e kept) = rw e (ap facts (element-is-value base alphabet row _ e) ∙ sym (unless-none rows none _ refl))
     go (broken-at p e b) = rw e (sym (unless-found rows (refusal 28 p) _ (λ z. omega arith)))

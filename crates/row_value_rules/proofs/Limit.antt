@@ -1,6 +1,6 @@
 -- Laws of the limit on a total's parts.
 use mathlib.Core.Path.{_≡_, refl, sym, ap, _∙_}
-use mathlib.Core.Bool.{true, false, _&&_, and-true}
+use mathlib.Core.Bool.{Bool, true, false, _&&_}
 use mathlib.Core.List.{List, [], _∷_}
 use mathlib.Core.Logic.{⊎-elim}
 use Prim.Native.Nat.{ℕ, zero, suc, _<_, zero-le}
@@ -13,7 +13,7 @@ use borrow.Author.Tests.{ltb-true, ltb-false, leb-true, leb-false, le-leb, lt-le
 use Rattle.lists.proofs.Test.{clash, both, not-both}
 use Rattle.ring.specs.Element.{part}
 use Rattle.ring.specs.Tests.{Within}
-use Rattle.ring.proofs.Parts.{two-parts}
+use Rattle.ring.proofs.Parts.{four-parts, grouped}
 use Rattle.row_value_rules.specs.Total.{totalLimit, limited}
 
 -- a number within ±(n + 1), from two tests on it
@@ -25,10 +25,11 @@ pub not-too-low : (z : ℤ) (n : ℕ) → ltZ z (negsuc n) ≡ false → leZ z (
 not-too-low (pos a) n h = refl
 not-too-low (negsuc a) n h = sym (le-leb (suc a) (suc n) (omega (arith, ltb-false n a h)))
 
-pub limited-two : (x : List ℤ) → length x ≡ 2 → limited x ≡ (leb (natAbs (part x 0)) totalLimit && leb (natAbs (part x 1)) totalLimit)
+pub limited-four : (x : List ℤ) → length x ≡ 4 → let inside : ℕ → Bool = λ k. leb (natAbs (part x k)) totalLimit in limited x ≡ (inside 0 && inside 1 && inside 2 && inside 3)
 unfolding limited
-limited-two x h =
-    ap limited (two-parts x h) ∙ ap (λ b. leb (natAbs (part x 0)) totalLimit && b) (and-true (leb (natAbs (part x 1)) totalLimit))
+limited-four x h =
+    let inside : ℕ → Bool = λ k. leb (natAbs (part x k)) totalLimit in
+    ap limited (four-parts x h) ∙ grouped (inside 0) (inside 1) (inside 2) (inside 3)
 
 -- what the test says
 pub limited-within : (x : List ℤ) → limited x ≡ true → Within totalLimit x

@@ -8,6 +8,7 @@ use native.Mathlib.Decide.{decLt}
 use native.Mathlib.Nat.{le-antisymm}
 use lib.Dec.{ltb}
 use borrow.Author.Tests.{lt-ltb, le-ltb}
+use Rattle.layout_rules.specs.Section.{Section}
 use Rattle.lists.specs.Scan.{every}
 use Rattle.lists.proofs.Scan.{scan-all, scan-unique, scan-high, every-below, every-reached}
 use Rattle.digit_rules.specs.Record.{recordAt}
@@ -19,7 +20,7 @@ use Rattle.table_rules.specs.declared.Pair.{Pair}
 use Rattle.table_rules.specs.Pairs.{inAlphabet, badLower, badUpper, badPair, pairCheck}
 use Rattle.reader_rules.specs.Table.{system}
 
-module _ (base alphabet inputs leaves words : List ℕ) where
+module _ (base alphabet inputs leaves : Section) (words : List ℕ) where
   abbrev N : ℕ
   N = leafCount leaves
 

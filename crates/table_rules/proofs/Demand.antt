@@ -8,6 +8,7 @@ use Prim.Native.Nat.{ℕ, _≤_}
 use native.Mathlib.Omega.{arith}
 use lib.IntN.{ℤ}
 use borrow.Author.Tests.{ltb-true, lt-ltb}
+use Rattle.layout_rules.specs.Section.{Section}
 use Rattle.lists.proofs.Scan.{every-sound, every-fails}
 use Rattle.lists.proofs.Test.{clash}
 use Rattle.faults.specs.Check.{judge, _then_}
@@ -42,14 +43,14 @@ use Rattle.table_rules.specs.Check.{pairCheckOf, checkFacts, checkOutcom
 use Rattle.table_rules.specs.Broken.{Broken14, checkRules, checkStages, RowsConverted}
 
 -- the alphabet's test says what it tests
-pub listed-test : (alphabet : List ℕ) (x : List ℤ) → (inAlphabet alphabet x ≡ true) ↔ Listed alphabet x
+pub listed-test : (alphabet : Section) (x : List ℤ) → (inAlphabet alphabet x ≡ true) ↔ Listed alphabet x
 unfolding inAlphabet
 listed-test alphabet x = (
   λ t. let h = ltb-true _ _ t in (indexIn alphabet (elementCount alphabet) x, h, index-is alphabet (elementCount alphabet) x h),
   λ w. lt-ltb (indexIn alphabet (elementCount alphabet) x) (elementCount alphabet) (omega (arith, index-first alphabet (elementCount alphabet) x (w .0) (w .2), w .1)),
 )
 
-module _ (base alphabet inputs leaves words : List ℕ) where
+module _ (base alphabet inputs leaves : Section) (words : List ℕ) where
   abbrev passes : ℕ → ℕ → Bool
   passes u l = pairPasses (system base) (recordAt inputs) (codeOf leaves words) (inAlphabet alphabet) u l
 

@@ -16,9 +16,10 @@ use Rattle.lists.proofs.Span.{getD-span, length-span}
 use Rattle.lists.proofs.Scan.{scan-all, scan-unique}
 use Rattle.lists.proofs.Test.{same-outcome, clash}
 use Rattle.ring.specs.Element.{plus, minus, negative}
-use Rattle.ring.specs.Matrix.{times}
+use Rattle.ring.specs.Degree.{partCount}
+use Rattle.ring.specs.Padded.{paddedTimes}
 use Rattle.ring.proofs.Element.{plus-assoc, plus-comm}
-use Rattle.layout_rules.specs.Section.{degree}
+use Rattle.layout_rules.specs.Section.{Section}
 use Rattle.digit_rules.specs.Record.{recordAt}
 use Rattle.numeration.specs.Code.{Code, Inputs}
 use Rattle.numeration.specs.LeafOf.{agree}
@@ -39,13 +40,13 @@ use Rattle.prefix_rules.proofs.Formed.{complete-prefix-code, look-up-is}
 use Rattle.table_rules.specs.Pairs.{upperPart}
 
 -- the digit of a pair, from the upper leaf's part of it
-upper-first : (matrix : List (List ℤ)) (x below own : List ℤ) → plus (minus x (times matrix own)) below ≡ outDigit (elements degree matrix) x below own
+upper-first : (d : ℕ) (matrix : List (List ℤ)) (x below own : List ℤ) → plus (minus x (paddedTimes d matrix own)) below ≡ outDigit (elements d matrix) x below own
 unfolding outDigit elements minus
-upper-first matrix x below own =
-    let other = negative (times matrix own) in
+upper-first d matrix x below own =
+    let other = negative (paddedTimes d matrix own) in
     plus-assoc x other below ∙ ap (plus x) (plus-comm other below) ∙ sym (plus-assoc x below other)
 
-module _ (leaves words : List ℕ) (m : ℕ) (input : 0 < m) (is : LeavesFormed leaves words m) where
+module _ (leaves : Section) (words : List ℕ) (m : ℕ) (input : 0 < m) (is : LeavesFormed leaves words m) where
   -- a leaf's word as it is handed out
   long : (k : ℕ) → k < leafCount leaves → length (wordGiven leaves words k) ≡ wordLength leaves k
   long k h = word-length leaves words k h (is .inside k h)
@@ -94,9 +95,9 @@ module _ (leaves words : List ℕ) (m : ℕ) (input : 0 < m) (is : LeavesFormed 
     fit-is l hl =
         rw (long u hu, long l hl) (same-outcome _ _ (λ e. agree-complete _ _ _ (λ i h. sym (tail-reads i (omega arith)) ∙ agree-sound _ _ _ e i h ∙ reads l i hl (omega arith))) (λ e. agree-complete _ _ _ (λ i h. tail-reads i (omega arith) ∙ agree-sound _ _ _ e i h ∙ sym (reads l i hl (omega arith)))))
 
-    module _ (matrix : List (List ℤ)) (inputs : List ℕ) (alphabet : List ℤ → Bool) where
+    module _ (matrix : List (List ℤ)) (inputs : Section) (alphabet : List ℤ → Bool) where
       abbrev passes : ℕ → Bool
-      passes l = pairPasses (elements degree matrix) (recordAt inputs) (codeOf leaves words) alphabet u l
+      passes l = pairPasses (elements (partCount (leaves .degree)) matrix) (recordAt inputs) (codeOf leaves words) alphabet u l
 
       -- all lower leaves up to l pass
       abbrev pub Upto : ℕ → Type 0
@@ -106,7 +107,7 @@ module _ (leaves words : List ℕ) (m : ℕ) (input : 0 < m) (is : LeavesFormed 
       pub pair-is : (l : ℕ) → l < leafCount leaves → fits (codeOf leaves words) u l ≡ true → alphabet (plus (upperPart matrix inputs leaves words u) (weightGiven leaves l)) ≡ passes l
       unfolding pairPasses pairDigit
       pair-is l hl fit =
-          rw (fit, pairPasses, upper-first matrix (recordAt inputs (getD (wordGiven leaves words u) 0 0)) (weightGiven leaves l) (weightGiven leaves u), reads u 0 hu (is .some u hu), sym (weight-there leaves l hl), sym (weight-there leaves u hu))
+          rw (fit, pairPasses, upper-first (partCount (leaves .degree)) matrix (recordAt inputs (getD (wordGiven leaves words u) 0 0)) (weightGiven leaves l) (weightGiven leaves u), reads u 0 hu (is .some u hu), sym (weight-there leaves l hl), sym (weight-there leaves u hu))
 
       apart : (l : ℕ) → fits (codeOf leaves words) u l ≡ false → Fits (codeOf leaves words) u l → ⊥
       unfolding fits
@@ -114,7 +115,7 @@ module _ (leaves words : List ℕ) (m : ℕ) (input : 0 < m) (is : LeavesFormed 
 
       pub upto-lowest : Upto (lowestFit (codeOf leaves words) u)
       upto-lowest j h =
-          unfit-passes (elements degree matrix) (recordAt inputs) (codeOf leaves words) alphabet u j (run-below (codeOf leaves words) m (complete-prefix-code leaves words m input is) (is .ordered) u hu j h)
+          unfit-passes (elements (partCount (leaves .degree)) matrix) (recordAt inputs) (codeOf leaves words) alphabet u j (run-below (codeOf leaves words) m (complete-prefix-code leaves words m input is) (is .ordered) u hu j h)
 
       -- the run ends, with a leaf that doesn't fit, with the last leaf, or with a pair that gives no alphabet digit
       pub ends-unfit : (l : ℕ) → lowestFit (codeOf leaves words) u ≤ l → l < leafCount leaves → fits (codeOf leaves words) u l ≡ false → Upto l → leafCount leaves ≡ firstFailing passes 0 (leafCount leaves)
@@ -131,7 +132,7 @@ module _ (leaves words : List ℕ) (m : ℕ) (input : 0 < m) (is : LeavesFormed 
           all j z hj =
               elim (decLt j l) [
                 | yes lt ↦ upto j lt
-                | no ge ↦ unfit-passes (elements degree matrix) (recordAt inputs) (codeOf leaves words) alphabet u j (behind j (omega arith) (omega arith))
+                | no ge ↦ unfit-passes (elements (partCount (leaves .degree)) matrix) (recordAt inputs) (codeOf leaves words) alphabet u j (behind j (omega arith) (omega arith))
               ]
 
       pub ends-all : (l : ℕ) → leafCount leaves ≤ l → Upto l → leafCount leaves ≡ firstFailing passes 0 (leafCount leaves)

@@ -1,6 +1,7 @@
 -- What rule 14 and the check as a whole mean, in the paper's words.
 use mathlib.Core.List.{List, [], _∷_, _++_}
 use Prim.Native.Nat.{ℕ, _<_}
+use Rattle.layout_rules.specs.Section.{Section}
 use Rattle.faults.specs.Outcome.{author}
 use Rattle.faults.specs.Rule.{Rule, rule}
 use Rattle.calls.specs.Answers.{Stage, stage}
@@ -12,7 +13,7 @@ use Rattle.reader_rules.specs.Table.{basePart, alphabetPart, inputPart, leafPar
 use Rattle.reader_rules.specs.Broken.{tableRules}
 
 -- 14: two fitting leaves give no alphabet digit (lowest U)
-abbrev pub Broken14 : List ℕ → List ℕ → List ℕ → List ℕ → List ℕ → ℕ → Type 0
+abbrev pub Broken14 : Section → Section → Section → Section → List ℕ → ℕ → Type 0
 Broken14 base alphabet inputs leaves words p =
     (p < leafCount leaves)
     × ((l : ℕ) × (l < leafCount leaves) × Fits (codeOf leaves words) p l × ¬ (Listed alphabet (pairDigit (system base) (recordAt inputs) (codeOf leaves words) p l)))

@@ -2,7 +2,7 @@
 use mathlib.Core.Path.{_≡_}
 use mathlib.Core.List.{List}
 use Prim.Native.Nat.{ℕ, _*_, _<_, _≤_}
-use Rattle.layout_rules.specs.Section.{elementSize, leafSize, sectionLength}
+use Rattle.layout_rules.specs.Section.{elementSize, leafSize, sectionLength, degreeIn}
 use Rattle.leaf_rules.specs.Leaf.{wordLength}
 use Rattle.reader_rules.specs.Table.{leafPart}
 use Rattle.table_rules.specs.declared.Facts.{Facts}
@@ -12,5 +12,5 @@ pub record FactsOf (file : List ℕ) (f : Facts) : Type 0 where
   pub deepest : (k : ℕ) × (k < f .leaves) × (wordLength (leafPart file) k ≡ f .depth)
   pub none-deeper : (k : ℕ) → k < f .leaves → wordLength (leafPart file) k ≤ f .depth
   -- so many records of a leaf fill section 3, and so many of an element section 1
-  pub leaf-records : f .leaves * leafSize ≡ sectionLength file 3
-  pub digit-records : f .digits * elementSize ≡ sectionLength file 1
+  pub leaf-records : f .leaves * leafSize (degreeIn file) ≡ sectionLength file 3
+  pub digit-records : f .digits * elementSize (degreeIn file) ≡ sectionLength file 1

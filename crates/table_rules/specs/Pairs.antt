@@ -6,11 +6,13 @@ use Prim.Native.Nat.{ℕ}
 use lib.IntN.{ℤ}
 use lib.Dec.{ltb}
 use lib.ListN.{getD}
+use Rattle.layout_rules.specs.Section.{Section}
 use Rattle.lists.specs.Scan.{firstFailing}
 use Rattle.faults.specs.declared.Refusal.{Refusal}
 use Rattle.faults.specs.Check.{judge}
 use Rattle.ring.specs.Element.{minus}
-use Rattle.ring.specs.Matrix.{times}
+use Rattle.ring.specs.Degree.{partCount}
+use Rattle.ring.specs.Padded.{paddedTimes}
 use Rattle.digit_rules.specs.Record.{recordAt, elementCount}
 use Rattle.digit_rules.specs.Digits.{indexIn}
 use Rattle.numeration.specs.PairTests.{pairPasses, upperPasses}
@@ -20,15 +22,15 @@ use Rattle.reader_rules.specs.Table.{system}
 use Rattle.table_rules.specs.declared.Pair.{Pair}
 
 -- an element is in the alphabet
-unfoldable pub inAlphabet : List ℕ → List ℤ → Bool
+unfoldable pub inAlphabet : Section → List ℤ → Bool
 inAlphabet alphabet x = ltb (indexIn alphabet (elementCount alphabet) x) (elementCount alphabet)
 
 -- what an upper leaf gives to the digits of its pairs: its first digit minus the base times its weight
-abbrev pub upperPart : List (List ℤ) → List ℕ → List ℕ → List ℕ → ℕ → List ℤ
+abbrev pub upperPart : List (List ℤ) → Section → Section → List ℕ → ℕ → List ℤ
 upperPart matrix inputs leaves words u =
-    minus (recordAt inputs (getD (wordGiven leaves words u) 0 0)) (times matrix (weightGiven leaves u))
+    minus (recordAt inputs (getD (wordGiven leaves words u) 0 0)) (paddedTimes (partCount (leaves .degree)) matrix (weightGiven leaves u))
 
-module _ (base alphabet inputs leaves words : List ℕ) where
+module _ (base alphabet inputs leaves : Section) (words : List ℕ) where
   -- a pair that doesn't fit, or gives an alphabet digit
   abbrev pub passes : ℕ → ℕ → Bool
   passes u l = pairPasses (system base) (recordAt inputs) (codeOf leaves words) (inAlphabet alphabet) u l

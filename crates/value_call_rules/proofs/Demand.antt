@@ -4,7 +4,6 @@ use mathlib.Core.List.{List, [], _∷_}
 use Prim.Native.Nat.{ℕ, _≤_}
 use native.Mathlib.Omega.{arith}
 use lib.IntN.{ℤ}
-use lib.ListN.{length}
 use Rattle.faults.specs.declared.Refusal.{Refusal}
 use Rattle.faults.specs.Check.{_then_}
 use Rattle.faults.specs.Outcome.{Group, facts, refused, author, rows}
@@ -14,11 +13,8 @@ use Rattle.faults.proofs.Unless.{unless-then}
 use Rattle.calls.specs.Answers.{Answers, stage}
 use Rattle.calls.proofs.Numbers.{fault-number}
 use Rattle.calls.proofs.Answers.{Told, told-end, told-unless, told-answers}
-use Rattle.ring.proofs.Matrix.{length-matrix}
-use Rattle.layout_rules.specs.Section.{degree}
 use Rattle.digit_rules.specs.BaseMatrix.{baseMatrix}
 use Rattle.digit_rules.specs.Record.{elementCount}
-use Rattle.digit_rules.proofs.Base.{matrix-of-two}
 use Rattle.reader_rules.specs.Table.{basePart, alphabetPart, valueOf}
 use Rattle.reader_rules.proofs.Broken.{table-decided}
 use Rattle.row_rules.specs.Check.{oneRowCheck}
@@ -27,9 +23,6 @@ use Rattle.row_value_rules.specs.Total.{worthCheck}
 use Rattle.row_value_rules.proofs.Broken.{worth-decided, worth-outcome}
 use Rattle.value_call_rules.specs.Value.{rowOutcome, valueOutcome}
 use Rattle.value_call_rules.specs.Broken.{lenderRules, valueStages}
-
-rows-of-base : (base : List ℕ) → length (baseMatrix base) ≡ degree
-rows-of-base base = rw (matrix-of-two base) (length-matrix _ _)
 
 module _ (table row : List ℕ) where
   -- 20, 21 and 28 as one check
@@ -40,7 +33,7 @@ module _ (table row : List ℕ) where
   whole : rowOutcome table row ≡ unless rows lenderCheck (facts (valueOf table row))
   unfolding rowOutcome lenderCheck
   whole =
-      ap (unless rows (oneRowCheck row (elementCount (alphabetPart table)))) (worth-outcome (baseMatrix (basePart table)) (alphabetPart table) row (rows-of-base (basePart table)))
+      ap (unless rows (oneRowCheck row (elementCount (alphabetPart table)))) (worth-outcome (baseMatrix (basePart table)) (alphabetPart table) row)
       ∙ unless-then rows (oneRowCheck row (elementCount (alphabetPart table))) (worthCheck (baseMatrix (basePart table)) (alphabetPart table) row) (facts (valueOf table row))
 
   lender-decided : Decided (lenderRules table row) lenderCheck
