@@ -52,9 +52,11 @@ pub fn inputs_of(
     ensures { λ r. ⌜ r ≡ partRow (inputOf operation (now (table .entry))
         (changed change 0 (now (first .entry))) (changed change 1 (now (second .entry)))) from end ⌝ }
 {
+    let degree = layout::degree_in(table);
     let alphabet = reader::section(table, 1);
     let inputs = reader::section(table, 2);
     input_rows::input_row(
+        degree,
         operation,
         alphabet,
         inputs,
@@ -77,12 +79,24 @@ pub fn digits_of(table: &[u8], row: &[u8], from: usize, count: usize, out: &mut 
     ensures digits { λ r. ⌜ now (out .exit)
         ≡ overwrite (now (out .entry)) 0 (rowPart (now (table .entry)) (now (row .entry)) from (r .count)) ⌝ }
 {
-    let base = digits::base_of(reader::section(table, 0));
+    let degree = layout::degree_in(table);
+    let base = digits::base_of(degree, reader::section(table, 0));
     let alphabet = reader::section(table, 1);
     let inputs = reader::section(table, 2);
     let leaves = reader::section(table, 3);
     let words = reader::section(table, 4);
-    places::convert(base, alphabet, inputs, leaves, words, row, from, count, out)
+    places::convert(
+        degree,
+        base,
+        alphabet,
+        inputs,
+        leaves,
+        words,
+        row,
+        from,
+        count,
+        out,
+    )
 }
 
 // The result of rows that pass 20 to 23, where nothing that the operation asks is broken, or fault 27. Every digit is computed before any
@@ -145,9 +159,10 @@ fn combine_rows(
         ≡ atExit (askedOutcome operation (now (table .entry)) (now (first .entry)) (now (second .entry))) (now (out .entry))
         (overwrite (now (out .entry)) 0 (resultRow operation (now (table .entry)) (now (first .entry)) (now (second .entry)))) ⌝ }
 {
+    let degree = layout::degree_in(table);
     let alphabet = reader::section(table, 1);
     let inputs = reader::section(table, 2);
-    let asked = digit_check::operation_rule(operation, alphabet, inputs);
+    let asked = digit_check::operation_rule(degree, operation, alphabet, inputs);
     if asked.number != 0 {
         return Added::Refused(Fault::Author {
             number: asked.number,

@@ -4,8 +4,11 @@
 ghost use mathlib.Core.Path.{_≡_};
 ghost use mathlib.Core.List.{[], _∷_};
 ghost use lib.ListN.{length};
+ghost use lib.IntN.{pos};
 ghost use Rattle.lists.specs.Overwrite.{overwrite};
 ghost use Rattle.faults.specs.Outcome.{facts};
+ghost use Rattle.ring.specs.declared.Degree.the-variants.{Two};
+ghost use Rattle.layout_rules.specs.Section.{degreeIn};
 ghost use Rattle.midpoint.specs.Midpoint.{midpointOf};
 ghost use Rattle.table_rules.specs.Check.{checkOutcome};
 ghost use Rattle.adder_rules.specs.Calls.{addOutcome, addSum, subtractOutcome, subtractDifference};
@@ -15,6 +18,7 @@ ghost use Rattle.value_call_rules.specs.Value.{valueOutcome};
 ghost use Rattle.carried.specs.Tables.{ternFile, binFile};
 ghost use Rattle.answer_rules.specs.Answer.{ifRoom, returned, answered, checkWords, addWords, editWords, elementWords};
 use midpoint::Element;
+use ring::Degree;
 
 mod run;
 
@@ -110,26 +114,38 @@ pub extern "C" fn yoyomyrtle_edit(
 #[no_mangle]
 pub extern "C" fn yoyomyrtle_value(table: &[u8], row: &[u8], answer: &mut [i64]) -> u64
     ensures outcome { λ r. ⌜ r ≡ returned (valueOutcome (now (table .entry)) (now (row .entry))) (now (answer .entry)) ⌝ }
-    ensures answer { λ r. ⌜ now (answer .exit) ≡ answered elementWords (valueOutcome (now (table .entry)) (now (row .entry))) (now (answer .entry)) ⌝ }
+    ensures answer { λ r. ⌜ now (answer .exit) ≡ answered (elementWords (degreeIn (now (table .entry)))) (valueOutcome (now (table .entry)) (now (row .entry))) (now (answer .entry)) ⌝ }
 {
     if answer.len() < 8 {
         return 2;
     }
-    answers::valued(answer, value_call::value(table, row))
+    let degree = layout::degree_in(table);
+    answers::valued(degree, answer, value_call::value(table, row))
 }
 
 #[no_mangle]
 pub extern "C" fn yoyomyrtle_midpoint(a1: i32, b1: i32, a2: i32, b2: i32, answer: &mut [i64]) -> u64
-    ensures outcome { λ r. ⌜ r ≡ returned (facts (midpointOf (a1 ∷ b1 ∷ []) (a2 ∷ b2 ∷ []))) (now (answer .entry)) ⌝ }
+    ensures outcome { λ r. ⌜ r ≡ returned (facts (midpointOf (a1 ∷ b1 ∷ pos 0 ∷ pos 0 ∷ []) (a2 ∷ b2 ∷ pos 0 ∷ pos 0 ∷ []))) (now (answer .entry)) ⌝ }
     ensures answer { λ r. ⌜ now (answer .exit)
-        ≡ answered elementWords (facts (midpointOf (a1 ∷ b1 ∷ []) (a2 ∷ b2 ∷ []))) (now (answer .entry)) ⌝ }
+        ≡ answered (elementWords Two) (facts (midpointOf (a1 ∷ b1 ∷ pos 0 ∷ pos 0 ∷ []) (a2 ∷ b2 ∷ pos 0 ∷ pos 0 ∷ []))) (now (answer .entry)) ⌝ }
 {
     if answer.len() < 8 {
         return 2;
     }
-    let x = Element { a: a1, b: b1 };
-    let y = Element { a: a2, b: b2 };
-    answer_words::put_element(answer, midpoint::midpoint(x, y))
+    let x = Element {
+        a: a1,
+        b: b1,
+        c: 0,
+        d: 0,
+    };
+    let y = Element {
+        a: a2,
+        b: b2,
+        c: 0,
+        d: 0,
+    };
+    let degree = Degree::Two;
+    answer_words::put_element(degree, answer, midpoint::midpoint(x, y))
 }
 
 // TERN's bytes, in the first 165 of `out`.

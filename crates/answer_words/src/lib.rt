@@ -9,8 +9,10 @@ ghost use Rattle.lists.specs.Overwrite.{overwrite};
 ghost use Rattle.midpoint.specs.Midpoint.{parts};
 ghost use Rattle.answer_rules.specs.Word.{wordOf};
 ghost use Rattle.answer_rules.specs.Fault.{faultWords};
+ghost use Rattle.answer_rules.specs.Answer.{elementWords};
 use faults::Fault;
 use midpoint::Element;
+use ring::Degree;
 
 // The signed word with a number's 64 bits.
 pub fn word(n: usize) -> i64
@@ -84,12 +86,14 @@ pub fn put_numbers(answer: &mut [i64], n: usize, m: usize) -> u64
     0
 }
 
-// Writes the parts of an element as facts; what the call returns.
-pub fn put_element(answer: &mut [i64], x: Element) -> u64
+// Writes the parts of an element as facts, as many as the degree says; what the call returns.
+pub fn put_element(degree: Degree, answer: &mut [i64], x: Element) -> u64
     requires { ⌜ 8 ≤ length (now answer) ⌝ }
     ensures status { λ r. ⌜ r ≡ 0 ⌝ }
-    ensures answer { λ r. ⌜ now (answer .exit) ≡ overwrite (now (answer .entry)) 0 (pos 0 ∷ parts x) ⌝ }
+    ensures answer { λ r. ⌜ now (answer .exit) ≡ overwrite (now (answer .entry)) 0 (pos 0 ∷ elementWords degree (parts x)) ⌝ }
 {
-    put(answer, &[0, x.a as i64, x.b as i64]);
+    let words = [0, x.a as i64, x.b as i64, x.c as i64, x.d as i64];
+    let end = layout::part_count(degree) + 1;
+    put(answer, &words[..end]);
     0
 }

@@ -11,6 +11,7 @@ ghost use Rattle.runner.specs.Answer.{outcomeOf as ranAs};
 ghost use Rattle.value_call.specs.Answer.{valuedAs};
 use adder::Added;
 use adder::Subtracted;
+use ring::Degree;
 use row_edit::Edited;
 use runner::Ran;
 use table::Checked;
@@ -82,13 +83,13 @@ pub fn ran(answer: &mut [i64], given: Ran) -> u64
     }
 }
 
-pub fn valued(answer: &mut [i64], given: Valued) -> u64
+pub fn valued(degree: Degree, answer: &mut [i64], given: Valued) -> u64
     requires { ⌜ 8 ≤ length (now answer) ⌝ }
     ensures status { λ r. ⌜ r ≡ outcomeStatus (valuedAs given) ⌝ }
-    ensures answer { λ r. ⌜ now (answer .exit) ≡ overwrite (now (answer .entry)) 0 (outcomeWords elementWords (valuedAs given)) ⌝ }
+    ensures answer { λ r. ⌜ now (answer .exit) ≡ overwrite (now (answer .entry)) 0 (outcomeWords (elementWords degree) (valuedAs given)) ⌝ }
 {
     match given {
-        Valued::Value(x) => answer_words::put_element(answer, x),
+        Valued::Value(x) => answer_words::put_element(degree, answer, x),
         Valued::Refused(fault) => answer_words::refuse(answer, fault),
     }
 }

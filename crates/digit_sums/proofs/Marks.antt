@@ -12,6 +12,7 @@ use lib.ListN.{getD, set, replicate}
 use lib.Seq.{getD-set-other}
 use lib.IntN.{ℤ}
 use borrow.Author.Tests.{lt-ltb, le-ltb}
+use Rattle.layout_rules.specs.Section.{Section}
 use Rattle.lists.proofs.Scan.{scan-all, every-sound}
 use Rattle.lists.proofs.Test.{clash}
 use Rattle.faults.specs.Check.{none}
@@ -35,16 +36,16 @@ not-failed true h = refl
 not-failed false h = absurd (h refl)
 
 -- what is found along the links equals the element
-pub follow-out : (inputs links : List ℕ) (x : List ℤ) (n at : ℕ) → elementCount inputs ≤ at → followed inputs links x n at ≡ elementCount inputs
+pub follow-out : (inputs : Section) (links : List ℕ) (x : List ℤ) (n at : ℕ) → elementCount inputs ≤ at → followed inputs links x n at ≡ elementCount inputs
 unfolding followed
 follow-out inputs links x zero at h = refl
 follow-out inputs links x (suc n) at h = rw (le-ltb at (elementCount inputs) h, followed)
 
-follow-hit : (inputs links : List ℕ) (x : List ℤ) (n at : ℕ) → at < elementCount inputs → same (recordAt inputs at) x ≡ true → followed inputs links x (suc n) at ≡ at
+follow-hit : (inputs : Section) (links : List ℕ) (x : List ℤ) (n at : ℕ) → at < elementCount inputs → same (recordAt inputs at) x ≡ true → followed inputs links x (suc n) at ≡ at
 unfolding followed
 follow-hit inputs links x n at h e = rw (lt-ltb at (elementCount inputs) h, e, followed)
 
-follow-step : (inputs links : List ℕ) (x : List ℤ) (n at : ℕ) → at < elementCount inputs → same (recordAt inputs at) x ≡ false → followed inputs links x (suc n) at ≡ followed inputs links x n (getD links at 0)
+follow-step : (inputs : Section) (links : List ℕ) (x : List ℤ) (n at : ℕ) → at < elementCount inputs → same (recordAt inputs at) x ≡ false → followed inputs links x (suc n) at ≡ followed inputs links x n (getD links at 0)
 unfolding followed
 follow-step inputs links x n at h e = rw (lt-ltb at (elementCount inputs) h, e, followed)
 
@@ -52,17 +53,17 @@ follow-step inputs links x n at h e = rw (lt-ltb at (elementCount inputs) h, e, 
 one-less : (n : ℕ) → 0 < n → n ≡ suc (n - 1)
 one-less n h = omega arith
 
-module _ (inputs links : List ℕ) (x y : List ℤ) (n at : ℕ) (some : 0 < n) (inside : at < elementCount inputs) (reads : y ≡ recordAt inputs at) where
+module _ (inputs : Section) (links : List ℕ) (x y : List ℤ) (n at : ℕ) (some : 0 < n) (inside : at < elementCount inputs) (reads : y ≡ recordAt inputs at) where
   pub follow-here : same y x ≡ true → followed inputs links x n at ≡ at
   follow-here e = ap (λ n. followed inputs links x n at) (one-less n some) ∙ follow-hit inputs links x (n - 1) at inside (ap (λ z. same z x) (sym reads) ∙ e)
 
   pub follow-on : same y x ≡ false → followed inputs links x n at ≡ followed inputs links x (n - 1) (getD links at 0)
   follow-on e = ap (λ n. followed inputs links x n at) (one-less n some) ∙ follow-step inputs links x (n - 1) at inside (ap (λ z. same z x) (sym reads) ∙ e)
 
-pub follow-end : (inputs links : List ℕ) (x : List ℤ) (n at : ℕ) → n ≤ 0 → followed inputs links x n at ≡ elementCount inputs
+pub follow-end : (inputs : Section) (links : List ℕ) (x : List ℤ) (n at : ℕ) → n ≤ 0 → followed inputs links x n at ≡ elementCount inputs
 follow-end inputs links x n at h = ap (λ n. followed inputs links x n at) (le-antisymm {n = n} {m = 0} h (omega arith)) ∙ (unfold followed in refl)
 
-follow-is : (inputs links : List ℕ) (x : List ℤ) (n at : ℕ) → followed inputs links x n at < elementCount inputs → recordAt inputs (followed inputs links x n at) ≡ x
+follow-is : (inputs : Section) (links : List ℕ) (x : List ℤ) (n at : ℕ) → followed inputs links x n at < elementCount inputs → recordAt inputs (followed inputs links x n at) ≡ x
 follow-is inputs links x zero at = unfold followed in λ h. absurd (omega arith)
 follow-is inputs links x (suc n) at =
     elim (decLt at (elementCount inputs)) [
@@ -75,14 +76,14 @@ follow-is inputs links x (suc n) at =
     by-outcome l next false e = rw (follow-step inputs links x n at l e) next
 
 -- a search that finds what it is given
-abbrev pub Finds : List ℕ → (List ℤ → ℕ) → Type 0
+abbrev pub Finds : Section → (List ℤ → ℕ) → Type 0
 Finds inputs find = (x : List ℤ) → find x < elementCount inputs → recordAt inputs (find x) ≡ x
 
-pub located-finds : (inputs heads links : List ℕ) → Finds inputs (located inputs heads links)
+pub located-finds : (inputs : Section) (heads links : List ℕ) → Finds inputs (located inputs heads links)
 unfolding located
 located-finds inputs heads links x h = follow-is inputs links x 136 (getD heads (slotOf x) 0) h
 
-module _ (inputs : List ℕ) (find : List ℤ → ℕ) where
+module _ (inputs : Section) (find : List ℤ → ℕ) where
   -- no marks, and one more, where something was found
   pub none-marked : (n : ℕ) → Marked inputs find (replicate n 0)
   none-marked n = record { marked = λ k h. absurd (h (blank n k)) }
@@ -112,7 +113,7 @@ module _ (inputs : List ℕ) (find : List ℤ → ℕ) where
         own = ap find (ap (recordAt inputs) is ∙ finds x (omega arith)) ∙ sym is
 
     -- what is found is listed
-    pub found-listed : (op : Operation) (alphabet : List ℕ) (i j found : ℕ) (x : List ℤ) → x ≡ combine op (recordAt alphabet i) (recordAt alphabet j) → found ≡ find x → found < elementCount inputs → pairListed op alphabet inputs i j ≡ true
+    pub found-listed : (op : Operation) (alphabet : Section) (i j found : ℕ) (x : List ℤ) → x ≡ combine op (recordAt alphabet i) (recordAt alphabet j) → found ≡ find x → found < elementCount inputs → pairListed op alphabet inputs i j ≡ true
     unfolding pairListed pairIndex
     found-listed op alphabet i j found x made is h =
         let y = combine op (recordAt alphabet i) (recordAt alphabet j) in
@@ -128,7 +129,7 @@ module _ (inputs : List ℕ) (find : List ℤ → ℕ) where
             let b : Broken7 inputs k = record-fails inputs k l t in
             ⊎-elim (λ z. clash starts (ap (recordAllowed inputs) (sym (z .0)) ∙ t)) (λ r. omega (arith, r .1, sym (found k l) ∙ ap find (r .2) ∙ found (r .0) (omega (arith, r .1)))) (b .1)
 
-    all-kept : (alphabet : List ℕ) → allPairsListed Plus alphabet inputs ≡ true → none ≡ inputCheck alphabet inputs
+    all-kept : (alphabet : Section) → allPairsListed Plus alphabet inputs ≡ true → none ≡ inputCheck alphabet inputs
     unfolding inputCheck
     all-kept alphabet listed =
         sym (judge-kept 8 (λ k. k) (inputsAllowed alphabet inputs) (elementCount inputs + 1) _ refl (omega (arith, scan-all (inputsAllowed alphabet inputs) 0 (elementCount inputs + 1) passes)))
@@ -140,11 +141,11 @@ module _ (inputs : List ℕ) (find : List ℤ → ℕ) where
               | no l ↦ after-records alphabet inputs k (omega arith) ∙ listed
             ]
 
-pub located-kept : (inputs heads links : List ℕ) → recordAllowed inputs 0 ≡ true → FoundBefore inputs (located inputs heads links) (elementCount inputs) → (alphabet : List ℕ) → allPairsListed Plus alphabet inputs ≡ true → none ≡ inputCheck alphabet inputs
+pub located-kept : (inputs : Section) (heads links : List ℕ) → recordAllowed inputs 0 ≡ true → FoundBefore inputs (located inputs heads links) (elementCount inputs) → (alphabet : Section) → allPairsListed Plus alphabet inputs ≡ true → none ≡ inputCheck alphabet inputs
 located-kept inputs heads links = all-kept inputs (located inputs heads links)
 
 -- every difference listed, 42 is kept
-pub differences-listed : (alphabet inputs : List ℕ) → allPairsListed Minus alphabet inputs ≡ true → none ≡ operationCheck Minus alphabet inputs
+pub differences-listed : (alphabet inputs : Section) → allPairsListed Minus alphabet inputs ≡ true → none ≡ operationCheck Minus alphabet inputs
 unfolding allPairsListed
 differences-listed alphabet inputs t =
     differences-kept alphabet inputs _ _ refl refl (omega (arith, scan-all (pairsListed Minus alphabet inputs) 0 (elementCount alphabet) (every-sound (pairsListed Minus alphabet inputs) 0 (elementCount alphabet) t)))

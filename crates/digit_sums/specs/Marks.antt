@@ -7,12 +7,13 @@ use Prim.Native.Nat.{ℕ, zero, suc}
 use lib.ListN.{getD}
 use lib.Dec.{ltb}
 use lib.IntN.{ℤ}
+use Rattle.layout_rules.specs.Section.{Section}
 use Rattle.ring.specs.Tests.{same}
 use Rattle.digit_rules.specs.Record.{recordAt, elementCount}
 use Rattle.slots.specs.Slot.{slotOf}
 
 -- the first input digit that equals x, of at most n from one on along the links; the count where there is none
-unfoldable pub followed : List ℕ → List ℕ → List ℤ → ℕ → ℕ → ℕ
+unfoldable pub followed : Section → List ℕ → List ℤ → ℕ → ℕ → ℕ
 followed inputs links x zero at = elementCount inputs
 followed inputs links x (suc n) at =
     elim (ltb at (elementCount inputs)) [
@@ -21,9 +22,9 @@ followed inputs links x (suc n) at =
     ]
 
 -- the same from the first of the slot
-unfoldable pub located : List ℕ → List ℕ → List ℕ → List ℤ → ℕ
+unfoldable pub located : Section → List ℕ → List ℕ → List ℤ → ℕ
 located inputs heads links x = followed inputs links x 136 (getD heads (slotOf x) 0)
 
 -- marks at input indexes: each input digit that is marked is found at its own index
-pub record Marked (inputs : List ℕ) (find : List ℤ → ℕ) (marks : List ℕ) : Type 0 where
+pub record Marked (inputs : Section) (find : List ℤ → ℕ) (marks : List ℕ) : Type 0 where
   pub marked : (k : ℕ) → ¬ (getD marks k 0 ≡ 0) → find (recordAt inputs k) ≡ k

@@ -6,6 +6,7 @@ ghost use Rattle.lists.specs.Scan.{firstFailing};
 ghost use Rattle.layout_rules.specs.Directory.{expectedStart, pairAllowed, directoryCheck};
 ghost use Rattle.layout_rules.specs.Length.{leastRecords, mostRecords, lengthAllowed, lengthCheck};
 use faults::Refusal;
+use ring::Degree;
 
 // The least and the most records of each section.
 const LEAST: [usize; 5] = [2, 2, 1, 1, 1];
@@ -99,11 +100,11 @@ fn most_records(section: usize) -> usize
     MOST[section]
 }
 
-fn length_allowed(section: usize, n: usize) -> bool
+fn length_allowed(degree: Degree, section: usize, n: usize) -> bool
     requires { ⌜ section < 5 ⌝ }
-    ensures { λ r. ⌜ r ≡ lengthAllowed section n ⌝ }
+    ensures { λ r. ⌜ r ≡ lengthAllowed degree section n ⌝ }
 {
-    let size = layout::size_of_record(section);
+    let size = layout::size_of_record(degree, section);
     if n % size != 0 {
         return false;
     }
@@ -113,13 +114,14 @@ fn length_allowed(section: usize, n: usize) -> bool
     n <= most_records(section) * size
 }
 
-// Rule 3: the lengths of the five sections, from a file or not.
+// Rule 3: the lengths of the five sections, from a file or not. The first tells the degree that the others are judged by.
 pub fn lengths(given: [usize; 5]) -> Refusal
     ensures { λ r. ⌜ r ≡ lengthCheck given ⌝ }
 {
+    let degree = layout::degree_of(given[0]);
     let mut section = 0;
     while section < 5 {
-        if !length_allowed(section, given[section]) {
+        if !length_allowed(degree, section, given[section]) {
             return Refusal {
                 number: 3,
                 place: section,

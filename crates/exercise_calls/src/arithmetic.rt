@@ -1,25 +1,40 @@
 // Elements: products, expanding bases, midpoints.
-ghost use Prim.Native.Nat.{_≤_};
+ghost use Prim.Native.Nat.{_≤_, _^_};
 ghost use lib.IntN.{natAbs};
-ghost use Rattle.ring.specs.Tests.{BaseLimits};
+ghost use Rattle.ring.specs.declared.Degree.the-variants.{Two};
+ghost use Rattle.ring.specs.Tests.{Within, BaseSizes};
 use crate::output;
 use midpoint::Element;
+use ring::Degree;
 
-// u + v·ω times a + b·ω, of small numbers.
-fn product(s: i64, t: i64, u: i64, v: i64, a: i64, b: i64) -> Element
-    requires { ⌜ BaseLimits s t u v × (natAbs a ≤ 1024) × (natAbs b ≤ 1024) ⌝ }
+// A part of a product of small numbers: it fits.
+fn narrow(part: i64) -> i32
+    requires { ⌜ natAbs part ≤ 2 ^ 55 ⌝ }
 {
-    let y = elements::times_base(elements::base_matrix(s, t, u, v), [a, b]);
+    if 1000000 < magnitude::size(part) {
+        return 0;
+    }
+    part as i32
+}
+
+// The product of two elements of degree two, by the parts of ω², those of the first and those of the second.
+fn product(omega: [i64; 4], beta: [i64; 4], x: [i64; 4]) -> Element
+    requires { ⌜ BaseSizes Two omega beta × Within 64 x ⌝ }
+{
+    let degree = Degree::Two;
+    let y = elements::times_base(degree, elements::base_matrix(degree, omega, beta), x);
     Element {
-        a: y[0] as i32,
-        b: y[1] as i32,
+        a: narrow(y[0]),
+        b: narrow(y[1]),
+        c: narrow(y[2]),
+        d: narrow(y[3]),
     }
 }
 
 // M1 and M2
 pub fn products() {
-    output::element(b"M1", product(0, -1, -1, 1, 1, 1));
-    output::element(b"M2", product(-1, -1, 1, 1, 1, 1));
+    output::element(b"M1", product([-1, 0, 0, 0], [-1, 1, 0, 0], [1, 1, 0, 0]));
+    output::element(b"M2", product([-1, -1, 0, 0], [1, 1, 0, 0], [1, 1, 0, 0]));
 }
 
 // M3 to M6
@@ -33,7 +48,15 @@ pub fn bases() {
 fn between(a: i32, b: i32, c: i32, d: i32) {
     output::element(
         b"midpoint",
-        midpoint::midpoint(Element { a, b }, Element { a: c, b: d }),
+        midpoint::midpoint(
+            Element { a, b, c: 0, d: 0 },
+            Element {
+                a: c,
+                b: d,
+                c: 0,
+                d: 0,
+            },
+        ),
     );
 }
 

@@ -6,6 +6,7 @@ use native.Mathlib.Decide.{ℕ-discrete}
 use native.Mathlib.Omega.{arith}
 use lib.ListN.{getD, set, length-set, length-replicate, getD-replicate}
 use lib.Seq.{getD-set-same, getD-set-other}
+use Rattle.layout_rules.specs.Section.{Section}
 use Rattle.ring.specs.declared.Operation.{Operation}
 use Rattle.ring.specs.declared.Operation.the-variants.{Plus}
 use Rattle.ring.proofs.Element.{plus-comm}
@@ -14,7 +15,7 @@ use Rattle.digit_rules.specs.Digits.{indexIn, pairIndex}
 use Rattle.place_rules.proofs.Part.{row-next}
 use Rattle.input_rows.specs.Known.{Known, knownAt, KnownRun}
 
-module _ (op : Operation) (alphabet inputs : List ℕ) where
+module _ (op : Operation) (alphabet inputs : Section) where
   pub known-none : Known op alphabet inputs (replicate 256 255)
   known-none =
       record { long = length-replicate {A = ℕ} 256 255; right = λ i j h l other. absurd (other (getD-replicate 256 (16 * i + j) 255 0 (omega arith))) }
@@ -30,7 +31,7 @@ module _ (op : Operation) (alphabet inputs : List ℕ) where
       }
 
 -- the digits of a sum may change places
-pub either-order : (op : Operation) (alphabet inputs : List ℕ) (i j : ℕ) → op ≡ Plus → pairIndex op alphabet inputs i j ≡ pairIndex op alphabet inputs j i
+pub either-order : (op : Operation) (alphabet inputs : Section) (i j : ℕ) → op ≡ Plus → pairIndex op alphabet inputs i j ≡ pairIndex op alphabet inputs j i
 unfolding pairIndex
 either-order op alphabet inputs i j sum =
     ap (λ (o : Operation). pairIndex o alphabet inputs i j) sum ∙ ap (indexIn inputs (elementCount inputs)) (plus-comm (recordAt alphabet i) (recordAt alphabet j)) ∙ sym (ap (λ (o : Operation). pairIndex o alphabet inputs j i) sum)

@@ -3,12 +3,13 @@ use mathlib.Core.Path.{_≡_}
 use mathlib.Core.List.{List}
 use Prim.Native.Nat.{ℕ, _+_, _*_, _<_, _≤_}
 use lib.ListN.{length, getD}
+use Rattle.layout_rules.specs.Section.{Section}
 use Rattle.ring.specs.declared.Operation.{Operation}
 use Rattle.digit_rules.specs.Digits.{pairIndex}
 use Rattle.place_rules.specs.Helpers.{partRow}
 
 -- at 16 times one digit plus the other stands 255, or the input index of what the operation makes of them
-pub record Known (op : Operation) (alphabet inputs known : List ℕ) : Type 0 where
+pub record Known (op : Operation) (alphabet inputs : Section) (known : List ℕ) : Type 0 where
   pub long : length known ≡ 256
   pub right : (i j : ℕ) → i < 16 → j < 16 → ¬ (getD known (16 * i + j) 0 ≡ 255) → getD known (16 * i + j) 0 ≡ pairIndex op alphabet inputs i j
 

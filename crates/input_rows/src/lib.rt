@@ -2,12 +2,14 @@
 ghost use mathlib.Core.Path.{_≡_};
 ghost use Prim.Native.Nat.{ℕ, _+_, _*_, _≤_, _<_};
 ghost use lib.ListN.{getD};
+ghost use Rattle.layout_rules.specs.Section.{ofDegree};
 ghost use Rattle.digit_rules.specs.Record.{elementCount};
 ghost use Rattle.digit_rules.specs.Digits.{pairIndex};
 ghost use Rattle.row_rules.specs.Changed.{changed};
 ghost use Rattle.place_rules.specs.Place.{inputAt};
 ghost use Rattle.place_rules.specs.Helpers.{partRow};
 ghost use Rattle.input_rows.specs.Known.{Known, KnownRun};
+use ring::Degree;
 use ring::Operation;
 use row_rules::Change;
 
@@ -22,6 +24,7 @@ fn pair_at(change: Change, first: &[u8], second: &[u8], place: usize) -> usize
 
 // The input index of what the operation makes of two digits, which then stands in `known`, for a sum in either order.
 fn learn(
+    degree: Degree,
     operation: Operation,
     alphabet: &[u8],
     inputs: &[u8],
@@ -29,13 +32,13 @@ fn learn(
     lower: usize,
     known: &mut [u8; 256],
 ) -> u8
-    requires sizes { ⌜ (elementCount (now alphabet) ≤ 16) × (elementCount (now inputs) < 256) ⌝ }
-    requires indexes { ⌜ (upper < elementCount (now alphabet)) × (lower < elementCount (now alphabet)) ⌝ }
-    requires known { ⌜ Known operation (now alphabet) (now inputs) (now known) ⌝ }
-    ensures index { λ r. ⌜ r ≡ pairIndex operation (now (alphabet .entry)) (now (inputs .entry)) upper lower ⌝ }
-    ensures known { λ r. ⌜ Known operation (now (alphabet .entry)) (now (inputs .entry)) (now (known .exit)) ⌝ }
+    requires sizes { ⌜ (elementCount (ofDegree degree (now alphabet)) ≤ 16) × (elementCount (ofDegree degree (now inputs)) < 256) ⌝ }
+    requires indexes { ⌜ (upper < elementCount (ofDegree degree (now alphabet))) × (lower < elementCount (ofDegree degree (now alphabet))) ⌝ }
+    requires known { ⌜ Known operation (ofDegree degree (now alphabet)) (ofDegree degree (now inputs)) (now known) ⌝ }
+    ensures index { λ r. ⌜ r ≡ pairIndex operation (ofDegree degree (now (alphabet .entry))) (ofDegree degree (now (inputs .entry))) upper lower ⌝ }
+    ensures known { λ r. ⌜ Known operation (ofDegree degree (now (alphabet .entry))) (ofDegree degree (now (inputs .entry))) (now (known .exit)) ⌝ }
 {
-    let index = digits::pair_index(operation, alphabet, inputs, upper, lower) as u8;
+    let index = digits::pair_index(degree, operation, alphabet, inputs, upper, lower) as u8;
     known[16 * upper + lower] = index;
     match operation {
         Operation::Plus => {
@@ -78,6 +81,7 @@ fn known_run(
 // The input indexes at the places from `from` up to `end`; zeros elsewhere. A pair of digits is looked for once; between two that are new
 // lies a run of known ones, and of such runs long rows are made.
 pub fn input_row(
+    degree: Degree,
     operation: Operation,
     alphabet: &[u8],
     inputs: &[u8],
@@ -87,11 +91,11 @@ pub fn input_row(
     from: usize,
     end: usize,
 ) -> [u8; 256]
-    requires { ⌜ (from ≤ end) × (end ≤ 256) × (elementCount (now inputs) < 256)
-        × ((k : ℕ) → k < end → getD (changed change 0 (now first)) k 0 < elementCount (now alphabet))
-        × ((k : ℕ) → k < end → getD (changed change 1 (now second)) k 0 < elementCount (now alphabet))
-        × (elementCount (now alphabet) ≤ 16) ⌝ }
-    ensures { λ r. ⌜ r ≡ partRow (inputAt operation (now (alphabet .entry)) (now (inputs .entry)) (changed change 0 (now (first .entry)))
+    requires { ⌜ (from ≤ end) × (end ≤ 256) × (elementCount (ofDegree degree (now inputs)) < 256)
+        × ((k : ℕ) → k < end → getD (changed change 0 (now first)) k 0 < elementCount (ofDegree degree (now alphabet)))
+        × ((k : ℕ) → k < end → getD (changed change 1 (now second)) k 0 < elementCount (ofDegree degree (now alphabet)))
+        × (elementCount (ofDegree degree (now alphabet)) ≤ 16) ⌝ }
+    ensures { λ r. ⌜ r ≡ partRow (inputAt operation (ofDegree degree (now (alphabet .entry))) (ofDegree degree (now (inputs .entry))) (changed change 0 (now (first .entry)))
         (changed change 1 (now (second .entry)))) from end ⌝ }
 {
     let mut row = [0u8; 256];
@@ -100,7 +104,15 @@ pub fn input_row(
     while place < end {
         let upper = rows::byte_at(change, 0, first, place) as usize;
         let lower = rows::byte_at(change, 1, second, place) as usize;
-        row[place] = learn(operation, alphabet, inputs, upper, lower, &mut known);
+        row[place] = learn(
+            degree,
+            operation,
+            alphabet,
+            inputs,
+            upper,
+            lower,
+            &mut known,
+        );
         place = known_run(change, first, second, place + 1, end, &known, &mut row);
     }
     row

@@ -4,18 +4,43 @@ ghost use mathlib.Core.Path.{_≡_};
 ghost use Prim.Native.Nat.{_+_, _≤_, _<_};
 ghost use lib.ListN.{length};
 ghost use lib.IntN.{natAbs};
+ghost use Rattle.ring.specs.declared.Degree.the-variants.{Two, Three, Four};
+ghost use Rattle.ring.specs.Degree.{partCount};
 ghost use Rattle.layout_rules.specs.Number.{unsignedAt, signedAt};
-ghost use Rattle.layout_rules.specs.Section.{recordSize, recordCount, sectionStart, sectionLength, sectionEnd, sectionLengths};
+ghost use Rattle.layout_rules.specs.Section.{degreeOf, elementSize, recordSize, ofDegree, recordCount, sectionStart, sectionLength, sectionEnd, degreeIn, sectionLengths};
+use ring::Degree;
 
-// The degree of the ring; every record size goes through it.
-pub const DEGREE: usize = 2;
+// The bytes of a record of each section, by degree. The base section is two elements.
+const TWO: [usize; 5] = [4, 4, 4, 8, 1];
 
-pub const ELEMENT: usize = 2 * DEGREE;
+const THREE: [usize; 5] = [6, 6, 6, 10, 1];
 
-const LEAF: usize = 4 + ELEMENT;
+const FOUR: [usize; 5] = [8, 8, 8, 12, 1];
 
-// The bytes of a record of each section. The base section is two elements.
-const RECORDS: [usize; 5] = [ELEMENT, ELEMENT, ELEMENT, LEAF, 1];
+// The degree that the base section's length tells: two for every length, until job 8 is whole.
+pub fn degree_of(length: usize) -> Degree
+    ensures { λ r. ⌜ r ≡ degreeOf length ⌝ }
+{
+    Degree::Two
+}
+
+// How many parts an element has, and how many bytes.
+pub fn part_count(degree: Degree) -> usize
+    ensures count { λ r. ⌜ r ≡ partCount degree ⌝ }
+    ensures within { λ r. ⌜ r ≤ 4 ⌝ }
+{
+    match degree {
+        Degree::Two => 2,
+        Degree::Three => 3,
+        Degree::Four => 4,
+    }
+}
+
+pub fn element_size(degree: Degree) -> usize
+    ensures { λ r. ⌜ r ≡ elementSize degree ⌝ }
+{
+    2 * part_count(degree)
+}
 
 // The unsigned 16-bit number at a place.
 pub fn unsigned(bytes: &[u8], at: usize) -> usize
@@ -73,17 +98,54 @@ pub fn section_lengths(file: &[u8]) -> [usize; 5]
     ]
 }
 
-pub fn size_of_record(section: usize) -> usize
-    requires { ⌜ section < 5 ⌝ }
-    ensures { λ r. ⌜ r ≡ recordSize section ⌝ }
+// The degree of a file, of any bytes: its directory needn't be whole.
+pub fn degree_in(file: &[u8]) -> Degree
+    ensures { λ r. ⌜ r ≡ degreeIn (now (file .entry)) ⌝ }
 {
-    RECORDS[section]
+    degree_of(octets::wide(octets::byte_at(file, 2)) + 256 * octets::wide(octets::byte_at(file, 3)))
 }
 
-// How many records a section's part has.
-pub fn record_count(part: &[u8], section: usize) -> usize
+fn size_at_two(section: usize) -> usize
     requires { ⌜ section < 5 ⌝ }
-    ensures { λ r. ⌜ r ≡ recordCount section (now (part .entry)) ⌝ }
+    ensures { λ r. ⌜ r ≡ recordSize Two section ⌝ }
 {
-    part.len() / size_of_record(section)
+    TWO[section]
+}
+
+fn size_at_three(section: usize) -> usize
+    requires { ⌜ section < 5 ⌝ }
+    ensures { λ r. ⌜ r ≡ recordSize Three section ⌝ }
+{
+    THREE[section]
+}
+
+fn size_at_four(section: usize) -> usize
+    requires { ⌜ section < 5 ⌝ }
+    ensures { λ r. ⌜ r ≡ recordSize Four section ⌝ }
+{
+    FOUR[section]
+}
+
+pub fn size_of_record(degree: Degree, section: usize) -> usize
+    requires { ⌜ section < 5 ⌝ }
+    ensures { λ r. ⌜ r ≡ recordSize degree section ⌝ }
+{
+    match degree {
+        Degree::Two => size_at_two(section),
+        Degree::Three => size_at_three(section),
+        Degree::Four => size_at_four(section),
+    }
+}
+
+// How many records a section's part has. Each degree divides by sizes of its own, which are constants where the section is.
+pub fn record_count(degree: Degree, part: &[u8], section: usize) -> usize
+    requires { ⌜ section < 5 ⌝ }
+    ensures { λ r. ⌜ r ≡ recordCount section (ofDegree degree (now (part .entry))) ⌝ }
+{
+    let bytes = part.len();
+    match degree {
+        Degree::Two => bytes / size_at_two(section),
+        Degree::Three => bytes / size_at_three(section),
+        Degree::Four => bytes / size_at_four(section),
+    }
 }

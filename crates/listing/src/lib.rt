@@ -1,14 +1,18 @@
 // The lines of a table as the program `show` writes them, each written from the start of a lent buffer.
 ghost use mathlib.Core.Path.{_≡_};
-ghost use Prim.Native.Nat.{_+_, _≤_, _<_};
+ghost use Prim.Native.Nat.{_+_, _*_, _≤_, _<_};
 ghost use lib.ListN.{length};
 ghost use Rattle.lists.specs.Overwrite.{overwrite};
+ghost use Rattle.layout_rules.specs.Section.{ofDegree};
+ghost use Rattle.ring.specs.Degree.{partCount};
+ghost use Rattle.ring.specs.declared.Degree.the-variants.{Two};
 ghost use Rattle.ring.specs.Tests.{Within};
 ghost use Rattle.digit_rules.specs.Record.{recordAt, elementCount};
 ghost use Rattle.digit_rules.specs.Digits.{BasePart};
 ghost use Rattle.listing_rules.specs.Element.{elementText};
-ghost use Rattle.listing_rules.specs.Listing.{ringLine, limitedBase, expandingWord, normLineOf, itemText};
+ghost use Rattle.listing_rules.specs.Listing.{ringLine, limitedBase, expandingWord, normLineOf, allowedWord, determinantLine, determinantOf, itemText};
 ghost use Rattle.listing_rules.specs.Listing.{columnsFor, wordShown, widest};
+use ring::Degree;
 
 // The base section.
 const BASE: usize = 0;
@@ -16,26 +20,28 @@ const BASE: usize = 0;
 // Where the base section starts in a file.
 const START: usize = 20;
 
-// Writes the line of ω² and the base; the count of its bytes.
-pub fn ring_line(base: &[u8], out: &mut [u8]) -> usize
-    requires { ⌜ (length (now base) ≡ 8) × (64 ≤ length (now out)) ⌝ }
-    ensures count { λ r. ⌜ r ≡ length (ringLine (now (base .entry))) ⌝ }
-    ensures buffer { λ r. ⌜ now (out .exit) ≡ overwrite (now (out .entry)) 0 (ringLine (now (base .entry))) ⌝ }
-    ensures within { λ r. ⌜ r ≤ 64 ⌝ }
+// Writes the line of ω to the power of the degree, and of the base; the count of its bytes.
+pub fn ring_line(degree: Degree, base: &[u8], out: &mut [u8]) -> usize
+    requires { ⌜ (length (now base) ≡ 4 * partCount degree) × (80 ≤ length (now out)) ⌝ }
+    ensures count { λ r. ⌜ r ≡ length (ringLine (ofDegree degree (now (base .entry)))) ⌝ }
+    ensures buffer { λ r. ⌜ now (out .exit) ≡ overwrite (now (out .entry)) 0 (ringLine (ofDegree degree (now (base .entry)))) ⌝ }
+    ensures within { λ r. ⌜ r ≤ 80 ⌝ }
 {
-    let omega = digits::record_at(base, 0);
-    let ring = octets::put(out, 0, b"omega^2 = ");
-    let comma = element_text::put_element(out, ring, [omega[1], omega[0]]);
+    let omega = digits::turned(degree, digits::record_at(degree, base, 0));
+    let equals = text::put_item(out, 0, b"omega^", layout::part_count(degree));
+    let ring = octets::put(out, equals, b" = ");
+    let comma = element_text::put_element(out, ring, omega);
     let number = octets::put(out, comma, b", base ");
-    let end = element_text::put_element(out, number, digits::record_at(base, 1));
+    let end = element_text::put_element(out, number, digits::record_at(degree, base, 1));
     octets::put(out, end, b"\n")
 }
 
 // Whether a base section has its length and numbers inside their size limits.
-pub fn is_limited(base: &[u8]) -> bool
-    ensures { λ r. ⌜ r ≡ limitedBase (now (base .entry)) ⌝ }
+pub fn is_limited(degree: Degree, base: &[u8]) -> bool
+    ensures { λ r. ⌜ r ≡ limitedBase (ofDegree degree (now (base .entry))) ⌝ }
 {
-    base.len() == 8 && limits::limits_in(base, START, BASE).number == 0
+    base.len() == 4 * layout::part_count(degree)
+        && limits::limits_in(degree, base, START, BASE).number == 0
 }
 
 // Writes whether the base is expanding, and the line's end; the next place.
@@ -50,11 +56,11 @@ fn put_expanding(expanding: bool, at: usize, out: &mut [u8]) -> usize
     octets::put(out, at, b", not expanding\n")
 }
 
-// Writes the line of T and N; the count of its bytes.
-pub fn norm_line(base: &[u8], out: &mut [u8]) -> usize
-    requires { ⌜ BasePart (now base) × (64 ≤ length (now out)) ⌝ }
-    ensures count { λ r. ⌜ r ≡ length (normLineOf (now (base .entry))) ⌝ }
-    ensures buffer { λ r. ⌜ now (out .exit) ≡ overwrite (now (out .entry)) 0 (normLineOf (now (base .entry))) ⌝ }
+// Writes the line of T and N at degree two; the count of its bytes.
+fn trace_line(base: &[u8], out: &mut [u8]) -> usize
+    requires { ⌜ BasePart (ofDegree Two (now base)) × (64 ≤ length (now out)) ⌝ }
+    ensures count { λ r. ⌜ r ≡ length (normLineOf (ofDegree Two (now (base .entry)))) ⌝ }
+    ensures buffer { λ r. ⌜ now (out .exit) ≡ overwrite (now (out .entry)) 0 (normLineOf (ofDegree Two (now (base .entry)))) ⌝ }
     ensures within { λ r. ⌜ r ≤ 64 ⌝ }
 {
     let s = layout::signed(base, 0);
@@ -68,23 +74,62 @@ pub fn norm_line(base: &[u8], out: &mut [u8]) -> usize
     put_expanding(base_tests::is_expanding(s, t, u, v), end, out)
 }
 
+// Writes what rule 6 says above degree two, where it refuses, and the line's end; the next place.
+fn put_allowed(allowed: bool, at: usize, out: &mut [u8]) -> usize
+    requires { ⌜ at + 15 ≤ length (now out) ⌝ }
+    ensures end { λ r. ⌜ r ≡ at + length (allowedWord allowed) ⌝ }
+    ensures buffer { λ r. ⌜ now (out .exit) ≡ overwrite (now (out .entry)) at (allowedWord allowed) ⌝ }
+{
+    if allowed {
+        return octets::put(out, at, b"\n");
+    }
+    octets::put(out, at, b", refused by 6\n")
+}
+
+// Writes the line of N above degree two; the count of its bytes.
+fn determinant_line(degree: Degree, base: &[u8], out: &mut [u8]) -> usize
+    requires { ⌜ BasePart (ofDegree degree (now base)) × (64 ≤ length (now out)) ⌝ }
+    ensures count { λ r. ⌜ r ≡ length (determinantLine (determinantOf (ofDegree degree (now (base .entry))))) ⌝ }
+    ensures buffer { λ r. ⌜ now (out .exit) ≡ overwrite (now (out .entry)) 0 (determinantLine (determinantOf (ofDegree degree (now (base .entry))))) ⌝ }
+    ensures within { λ r. ⌜ r ≤ 64 ⌝ }
+{
+    let norm = base_tests::determinant(degree, digits::base_of(degree, base));
+    let number = octets::put(out, 0, b"N = ");
+    let end = element_text::put_element(out, number, [norm, 0, 0, 0]);
+    put_allowed(1 < magnitude::size(norm), end, out)
+}
+
+// Writes the line of the base's numbers; the count of its bytes.
+pub fn norm_line(degree: Degree, base: &[u8], out: &mut [u8]) -> usize
+    requires { ⌜ BasePart (ofDegree degree (now base)) × (64 ≤ length (now out)) ⌝ }
+    ensures count { λ r. ⌜ r ≡ length (normLineOf (ofDegree degree (now (base .entry)))) ⌝ }
+    ensures buffer { λ r. ⌜ now (out .exit) ≡ overwrite (now (out .entry)) 0 (normLineOf (ofDegree degree (now (base .entry)))) ⌝ }
+    ensures within { λ r. ⌜ r ≤ 64 ⌝ }
+{
+    match degree {
+        Degree::Two => trace_line(base, out),
+        Degree::Three => determinant_line(degree, base, out),
+        Degree::Four => determinant_line(degree, base, out),
+    }
+}
+
 // Writes a digit of a section of elements, behind a space; the count of its bytes.
-pub fn item(part: &[u8], k: usize, out: &mut [u8]) -> usize
-    requires { ⌜ (k < elementCount (now part)) × (16 ≤ length (now out)) ⌝ }
-    ensures count { λ r. ⌜ r ≡ length (itemText (recordAt (now (part .entry)) k)) ⌝ }
-    ensures buffer { λ r. ⌜ now (out .exit) ≡ overwrite (now (out .entry)) 0 (itemText (recordAt (now (part .entry)) k)) ⌝ }
-    ensures within { λ r. ⌜ r ≤ 16 ⌝ }
+pub fn item(degree: Degree, part: &[u8], k: usize, out: &mut [u8]) -> usize
+    requires { ⌜ (k < elementCount (ofDegree degree (now part))) × (32 ≤ length (now out)) ⌝ }
+    ensures count { λ r. ⌜ r ≡ length (itemText (recordAt (ofDegree degree (now (part .entry))) k)) ⌝ }
+    ensures buffer { λ r. ⌜ now (out .exit) ≡ overwrite (now (out .entry)) 0 (itemText (recordAt (ofDegree degree (now (part .entry))) k)) ⌝ }
+    ensures within { λ r. ⌜ r ≤ 32 ⌝ }
 {
     let at = octets::put(out, 0, b" ");
-    element_text::put_element(out, at, digits::record_at(part, k))
+    element_text::put_element(out, at, digits::record_at(degree, part, k))
 }
 
 // The word of a leaf as it is shown: an empty part in the place of one that points outside section 4 or is longer than a word may be.
-pub fn word_shown<'a>(leaves: &[u8], words: &'a [u8], leaf: usize) -> &'a [u8]
-    ensures word { λ r. ⌜ now r ≡ wordShown (now (leaves .entry)) (now (words .entry)) leaf ⌝ }
+pub fn word_shown<'a>(degree: Degree, leaves: &[u8], words: &'a [u8], leaf: usize) -> &'a [u8]
+    ensures word { λ r. ⌜ now r ≡ wordShown (ofDegree degree (now (leaves .entry))) (now (words .entry)) leaf ⌝ }
     ensures within { λ r. ⌜ length (now r) ≤ 8 ⌝ }
 {
-    let word = leaves::word(leaves, words, leaf);
+    let word = leaves::word(degree, leaves, words, leaf);
     if 8 < word.len() {
         return &words[0..0];
     }
@@ -92,15 +137,15 @@ pub fn word_shown<'a>(leaves: &[u8], words: &'a [u8], leaf: usize) -> &'a [u8]
 }
 
 // How many columns the words of a table get: as many as the longest that is shown.
-pub fn columns(leaves: &[u8], words: &[u8]) -> usize
-    ensures count { λ r. ⌜ r ≡ columnsFor (now (leaves .entry)) (now (words .entry)) ⌝ }
+pub fn columns(degree: Degree, leaves: &[u8], words: &[u8]) -> usize
+    ensures count { λ r. ⌜ r ≡ columnsFor (ofDegree degree (now (leaves .entry))) (now (words .entry)) ⌝ }
     ensures within { λ r. ⌜ r ≤ 8 ⌝ }
 {
-    let count = leaves::leaf_count(leaves);
+    let count = leaves::leaf_count(degree, leaves);
     let mut most = 1;
     let mut leaf = 0;
     while leaf < count {
-        let length = word_shown(leaves, words, leaf).len();
+        let length = word_shown(degree, leaves, words, leaf).len();
         if most < length {
             most = length;
         }
@@ -110,26 +155,28 @@ pub fn columns(leaves: &[u8], words: &[u8]) -> usize
 }
 
 // The length of an element's text.
-fn text_length(x: [i64; 2]) -> usize
+fn text_length(x: [i64; 4]) -> usize
     requires { ⌜ Within 32768 x ⌝ }
     ensures count { λ r. ⌜ r ≡ length (elementText x) ⌝ }
-    ensures within { λ r. ⌜ r ≤ 13 ⌝ }
+    ensures within { λ r. ⌜ r ≤ 31 ⌝ }
 {
-    let mut text = [0u8; 16];
+    let mut text = [0u8; 32];
     element_text::put_element(&mut text, 0, x)
 }
 
-// The longest text among the elements of records of a size, each so many bytes behind its record's start.
-pub fn width(part: &[u8], size: usize, skip: usize) -> usize
-    requires { ⌜ (0 < size) × (skip + 4 ≤ size) ⌝ }
-    ensures count { λ r. ⌜ r ≡ widest (now (part .entry)) size skip ⌝ }
-    ensures within { λ r. ⌜ r ≤ 13 ⌝ }
+// The longest text among the elements of a section's records, each of which ends its record.
+pub fn width(degree: Degree, part: &[u8], section: usize) -> usize
+    requires { ⌜ section < 4 ⌝ }
+    ensures count { λ r. ⌜ r ≡ widest section (ofDegree degree (now (part .entry))) ⌝ }
+    ensures within { λ r. ⌜ r ≤ 31 ⌝ }
 {
+    let size = layout::size_of_record(degree, section);
+    let skip = size - layout::element_size(degree);
     let count = part.len() / size;
     let mut longest = 0;
     let mut k = 0;
     while k < count {
-        let length = text_length(digits::element(part, k * size + skip));
+        let length = text_length(digits::element(degree, part, k * size + skip));
         if longest < length {
             longest = length;
         }

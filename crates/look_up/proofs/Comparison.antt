@@ -9,6 +9,7 @@ use native.Mathlib.Omega.{arith}
 use lib.ListN.{getD}
 use lib.Dec.{eqb, ltb}
 use borrow.Author.Tests.{lt-ltb, le-ltb, eqb-true}
+use Rattle.layout_rules.specs.Section.{Section}
 use Rattle.lists.specs.Scan.{firstFailing}
 use Rattle.lists.proofs.Scan.{scan-passed}
 use Rattle.numeration.specs.Code.{Lower, Begins}
@@ -31,12 +32,12 @@ module _ (v w : ℕ → ℕ) (n i : ℕ) (first : i ≡ firstFailing (λ i. eqb 
   lower-same h = rw (← first, le-ltb i n h)
 
 -- the words of two leaves, and a window with the word of one, by their places as they were read
-pub words-read : (leaves words : List ℕ) (k l a b n : ℕ) → a ≡ wordStart leaves k → b ≡ wordStart leaves l → n ≡ min (wordLength leaves k) (wordLength leaves l)
+pub words-read : (leaves : Section) (words : List ℕ) (k l a b n : ℕ) → a ≡ wordStart leaves k → b ≡ wordStart leaves l → n ≡ min (wordLength leaves k) (wordLength leaves l)
     → lower (λ i. getD words (a + i) 0) (λ i. getD words (b + i) 0) n ≡ precedes (codeOf leaves words) k l
 unfolding precedes
 words-read leaves words k l a b n starts others reach = rw (starts, others, reach)
 
-pub window-read : (leaves words window : List ℕ) (k start n : ℕ) → start ≡ wordStart leaves k → n ≡ min (wordLength leaves k) 8
+pub window-read : (leaves : Section) (words window : List ℕ) (k start n : ℕ) → start ≡ wordStart leaves k → n ≡ min (wordLength leaves k) 8
     → lower (λ i. getD window (0 + i) 0) (λ i. getD words (start + i) 0) n ≡ above (codeOf leaves words) window k
 unfolding above
 window-read leaves words window k start n starts reach = rw (starts, reach) (simp zero-add)
@@ -57,14 +58,14 @@ module _ (v w : ℕ → ℕ) (n : ℕ) (short : n ≤ 8) (dv : Digits 256 v 8) (
         | no h ↦ le-ltb (number 256 v 8) (aligned 256 w n) (omega arith) ∙ sym (not-lower (omega arith) _ refl)
       ]
 
-pub numbers-read : (leaves words window : List ℕ) (k start n x y : ℕ) → start ≡ wordStart leaves k → n ≡ wordLength leaves k → n ≤ 8 → ((i : ℕ) → getD window i 0 < 256) → ((i : ℕ) → getD words i 0 < 256)
+pub numbers-read : (leaves : Section) (words window : List ℕ) (k start n x y : ℕ) → start ≡ wordStart leaves k → n ≡ wordLength leaves k → n ≤ 8 → ((i : ℕ) → getD window i 0 < 256) → ((i : ℕ) → getD words i 0 < 256)
     → x ≡ number 256 (λ i. getD window (0 + i) 0) 8 → y ≡ aligned 256 (λ i. getD words (start + i) 0) n → ltb x y ≡ above (codeOf leaves words) window k
 numbers-read leaves words window k start n x y starts long short bytes others wx wy =
     ap₂ ltb wx wy ∙ numbers-lower (λ i. getD window (0 + i) 0) (λ i. getD words (start + i) 0) n short (λ i _. bytes (0 + i)) (λ i _. others (start + i))
     ∙ window-read leaves words window k start (min n 8) starts (ap (λ (l : ℕ). min l 8) long)
 
 -- a word that differs from the window nowhere begins it
-pub begins-read : (leaves words window : List ℕ) (k start n i : ℕ) → start ≡ wordStart leaves k → n ≡ wordLength leaves k → i ≡ firstFailing (λ j. eqb (getD words (start + j) 0) (getD window (0 + j) 0)) 0 n → n ≤ i
+pub begins-read : (leaves : Section) (words window : List ℕ) (k start n i : ℕ) → start ≡ wordStart leaves k → n ≡ wordLength leaves k → i ≡ firstFailing (λ j. eqb (getD words (start + j) 0) (getD window (0 + j) 0)) 0 n → n ≤ i
     → Begins (codeOf leaves words) k (digits window)
 begins-read leaves words window k start n i starts long first h j l =
     ap (λ (a : ℕ). getD words (a + j) 0) (sym starts) ∙ eqb-true _ _ (scan-passed (λ j. eqb (getD words (start + j) 0) (getD window (0 + j) 0)) 0 n j (omega arith) (omega arith)) ∙ ap (digits window) (zero-add j)

@@ -5,6 +5,7 @@ use mathlib.Core.List.{List}
 use Prim.Native.Nat.{ℕ, _+_, _-_, _<_, _≤_, min}
 use native.Mathlib.Decide.{decLt}
 use native.Mathlib.Omega.{arith}
+use Rattle.layout_rules.specs.Section.{Section}
 use Rattle.lists.proofs.Test.{clash}
 use Rattle.numeration.specs.Code.{Code, Lower, Precedes, Begins}
 use Rattle.numeration.proofs.Agreement.{lower-sound, lower-complete}
@@ -124,5 +125,5 @@ module _ {A : Type 0} (c : Code A) (window : List ℕ) where
       }
 
 -- the leaf looked up, given back with its length
-pub with-length-found : (leaves words window : List ℕ) (leaf r size : ℕ) → LookedUp (codeOf leaves words) window leaf → r ≡ leaf → size ≡ lengthGiven leaves leaf → LookedUp (codeOf leaves words) window r × (size ≡ lengthGiven leaves r)
+pub with-length-found : (leaves : Section) (words window : List ℕ) (leaf r size : ℕ) → LookedUp (codeOf leaves words) window leaf → r ≡ leaf → size ≡ lengthGiven leaves leaf → LookedUp (codeOf leaves words) window r × (size ≡ lengthGiven leaves r)
 with-length-found leaves words window leaf r size found same e = (subst (LookedUp (codeOf leaves words) window) (sym same) found, e ∙ ap (lengthGiven leaves) (sym same))

@@ -4,6 +4,7 @@ ghost use Prim.Native.Nat.{_+_, _-_, _<_, _≤_};
 ghost use mathlib.Core.Bool.{true};
 ghost use lib.ListN.{length, getD};
 ghost use lib.Dec.{eqb};
+ghost use Rattle.layout_rules.specs.Section.{ofDegree};
 ghost use Rattle.lists.specs.Scan.{firstFailing};
 ghost use Rattle.numeration.specs.Code.{Begins};
 ghost use Rattle.numeration.specs.Prefix as prefixes;
@@ -11,6 +12,7 @@ ghost use Rattle.leaf_rules.specs.Leaf.{leafCount, codeOf};
 ghost use Rattle.leaf_rules.specs.Given.{lengthGiven};
 ghost use Rattle.leaf_rules.specs.Window as windows;
 ghost use Rattle.look_up.specs.Search as searches;
+use ring::Degree;
 
 // The most digits of a word, and the digits of a window.
 const LONGEST: usize = 8;
@@ -63,12 +65,12 @@ fn is_inside(words: &[u8], start: usize, length: usize) -> bool
 }
 
 // Whether a leaf's word is above the window at the first place where they differ.
-fn above(leaves: &[u8], words: &[u8], window: &[u8; 8], leaf: usize) -> bool
-    requires { ⌜ leaf < leafCount (now leaves) ⌝ }
-    ensures { λ r. ⌜ r ≡ searches.above (codeOf (now (leaves .entry)) (now (words .entry))) (now (window .entry)) leaf ⌝ }
+fn above(degree: Degree, leaves: &[u8], words: &[u8], window: &[u8; 8], leaf: usize) -> bool
+    requires { ⌜ leaf < leafCount (ofDegree degree (now leaves)) ⌝ }
+    ensures { λ r. ⌜ r ≡ searches.above (codeOf (ofDegree degree (now (leaves .entry))) (now (words .entry))) (now (window .entry)) leaf ⌝ }
 {
-    let start = leaves::word_start(leaves, leaf);
-    let length = leaves::word_length(leaves, leaf);
+    let start = leaves::word_start(degree, leaves, leaf);
+    let length = leaves::word_length(degree, leaves, leaf);
     if is_inside(words, start, length) {
         return word_numbers::eight(window, 0) < word_numbers::word_number(words, start, length);
     }
@@ -76,11 +78,18 @@ fn above(leaves: &[u8], words: &[u8], window: &[u8; 8], leaf: usize) -> bool
 }
 
 // Where the search goes on: in the lower half, or in the upper one. One number is chosen, without a jump that could be guessed wrong.
-fn next_low(leaves: &[u8], words: &[u8], window: &[u8; 8], low: usize, half: usize) -> usize
-    requires { ⌜ low + half < leafCount (now leaves) ⌝ }
-    ensures { λ r. ⌜ r ≡ searches.nextLow (codeOf (now (leaves .entry)) (now (words .entry))) (now (window .entry)) low half ⌝ }
+fn next_low(
+    degree: Degree,
+    leaves: &[u8],
+    words: &[u8],
+    window: &[u8; 8],
+    low: usize,
+    half: usize,
+) -> usize
+    requires { ⌜ low + half < leafCount (ofDegree degree (now leaves)) ⌝ }
+    ensures { λ r. ⌜ r ≡ searches.nextLow (codeOf (ofDegree degree (now (leaves .entry))) (now (words .entry))) (now (window .entry)) low half ⌝ }
 {
-    if above(leaves, words, window, low + half) {
+    if above(degree, leaves, words, window, low + half) {
         low
     } else {
         low + half
@@ -88,97 +97,125 @@ fn next_low(leaves: &[u8], words: &[u8], window: &[u8; 8], low: usize, half: usi
 }
 
 // The number of the leaf whose word begins the window, by binary search of the ordered words, in a part that has it.
-fn search_part(leaves: &[u8], words: &[u8], window: &[u8; 8], from: usize, count: usize) -> usize
-    requires { ⌜ searches.Between (codeOf (now leaves) (now words)) (now window) from (from + count) ⌝ }
-    ensures { λ r. ⌜ windows.LookedUp (codeOf (now (leaves .entry)) (now (words .entry))) (now (window .entry)) r ⌝ }
+fn search_part(
+    degree: Degree,
+    leaves: &[u8],
+    words: &[u8],
+    window: &[u8; 8],
+    from: usize,
+    count: usize,
+) -> usize
+    requires { ⌜ searches.Between (codeOf (ofDegree degree (now leaves)) (now words)) (now window) from (from + count) ⌝ }
+    ensures { λ r. ⌜ windows.LookedUp (codeOf (ofDegree degree (now (leaves .entry))) (now (words .entry))) (now (window .entry)) r ⌝ }
 {
     let mut low = from;
     let mut size = count;
     while 1 < size {
         let half = size / 2;
-        low = next_low(leaves, words, window, low, half);
+        low = next_low(degree, leaves, words, window, low, half);
         size -= half;
     }
     low
 }
 
 // A leaf with the length that its record gives its word.
-fn with_length(leaves: &[u8], leaf: usize) -> Found
+fn with_length(degree: Degree, leaves: &[u8], leaf: usize) -> Found
     ensures leaf { λ r. ⌜ r .leaf ≡ leaf ⌝ }
-    ensures length { λ r. ⌜ r .length ≡ lengthGiven (now (leaves .entry)) leaf ⌝ }
+    ensures length { λ r. ⌜ r .length ≡ lengthGiven (ofDegree degree (now (leaves .entry))) leaf ⌝ }
 {
     Found {
         leaf,
-        length: leaves::length(leaves, leaf),
+        length: leaves::length(degree, leaves, leaf),
     }
 }
 
 // The leaf whose word begins the window.
-pub fn look_up(leaves: &[u8], words: &[u8], window: [u8; 8]) -> Found
-    ensures leaf { λ r. ⌜ windows.LookedUp (codeOf (now (leaves .entry)) (now (words .entry))) window (r .leaf) ⌝ }
-    ensures length { λ r. ⌜ r .length ≡ lengthGiven (now (leaves .entry)) (r .leaf) ⌝ }
+pub fn look_up(degree: Degree, leaves: &[u8], words: &[u8], window: [u8; 8]) -> Found
+    ensures leaf { λ r. ⌜ windows.LookedUp (codeOf (ofDegree degree (now (leaves .entry))) (now (words .entry))) window (r .leaf) ⌝ }
+    ensures length { λ r. ⌜ r .length ≡ lengthGiven (ofDegree degree (now (leaves .entry))) (r .leaf) ⌝ }
 {
-    let leaf = search_part(leaves, words, &window, 0, leaves::leaf_count(leaves));
-    with_length(leaves, leaf)
+    let leaf = search_part(
+        degree,
+        leaves,
+        words,
+        &window,
+        0,
+        leaves::leaf_count(degree, leaves),
+    );
+    with_length(degree, leaves, leaf)
 }
 
 // Whether the leaf that begins the window must be among those from low up to high.
-fn is_between(leaves: &[u8], words: &[u8], window: &[u8; 8], low: usize, high: usize) -> bool
-    ensures { λ r. ⌜ (r ≡ true → searches.Between (codeOf (now (leaves .entry)) (now (words .entry))) (now (window .entry)) low high) ⌝ }
+fn is_between(
+    degree: Degree,
+    leaves: &[u8],
+    words: &[u8],
+    window: &[u8; 8],
+    low: usize,
+    high: usize,
+) -> bool
+    ensures { λ r. ⌜ (r ≡ true → searches.Between (codeOf (ofDegree degree (now (leaves .entry))) (now (words .entry))) (now (window .entry)) low high) ⌝ }
 {
-    let count = leaves::leaf_count(leaves);
+    let count = leaves::leaf_count(degree, leaves);
     if high <= low {
         return false;
     }
     if count < high {
         return false;
     }
-    if above(leaves, words, window, low) {
+    if above(degree, leaves, words, window, low) {
         return false;
     }
     if count <= high {
         return true;
     }
-    above(leaves, words, window, high)
+    above(degree, leaves, words, window, high)
 }
 
 // The look-up with a part of the leaves that may have the one: all are searched where it can't be told.
 pub fn look_up_within(
+    degree: Degree,
     leaves: &[u8],
     words: &[u8],
     window: [u8; 8],
     low: usize,
     high: usize,
 ) -> Found
-    ensures leaf { λ r. ⌜ windows.LookedUp (codeOf (now (leaves .entry)) (now (words .entry))) window (r .leaf) ⌝ }
-    ensures length { λ r. ⌜ r .length ≡ lengthGiven (now (leaves .entry)) (r .leaf) ⌝ }
+    ensures leaf { λ r. ⌜ windows.LookedUp (codeOf (ofDegree degree (now (leaves .entry))) (now (words .entry))) window (r .leaf) ⌝ }
+    ensures length { λ r. ⌜ r .length ≡ lengthGiven (ofDegree degree (now (leaves .entry))) (r .leaf) ⌝ }
 {
-    if is_between(leaves, words, &window, low, high) {
-        let leaf = search_part(leaves, words, &window, low, high - low);
-        return with_length(leaves, leaf);
+    if is_between(degree, leaves, words, &window, low, high) {
+        let leaf = search_part(degree, leaves, words, &window, low, high - low);
+        return with_length(degree, leaves, leaf);
     }
-    look_up(leaves, words, window)
+    look_up(degree, leaves, words, window)
 }
 
 // Whether a leaf's word begins the window.
-fn begins(leaves: &[u8], words: &[u8], window: &[u8; 8], leaf: usize) -> bool
-    requires { ⌜ leaf < leafCount (now leaves) ⌝ }
-    ensures { λ r. ⌜ (r ≡ true → Begins (codeOf (now (leaves .entry)) (now (words .entry))) leaf (windows.digits (now (window .entry)))) ⌝ }
+fn begins(degree: Degree, leaves: &[u8], words: &[u8], window: &[u8; 8], leaf: usize) -> bool
+    requires { ⌜ leaf < leafCount (ofDegree degree (now leaves)) ⌝ }
+    ensures { λ r. ⌜ (r ≡ true → Begins (codeOf (ofDegree degree (now (leaves .entry))) (now (words .entry))) leaf (windows.digits (now (window .entry)))) ⌝ }
 {
-    let start = leaves::word_start(leaves, leaf);
-    let n = leaves::word_length(leaves, leaf);
+    let start = leaves::word_start(degree, leaves, leaf);
+    let n = leaves::word_length(degree, leaves, leaf);
     n <= first_difference(words, start, window, 0, n)
 }
 
 // The look-up with a guess: the search is only made where the guessed leaf doesn't begin the window.
-pub fn look_up_from(leaves: &[u8], words: &[u8], window: [u8; 8], guess: usize) -> Found
-    ensures leaf { λ r. ⌜ windows.LookedUp (codeOf (now (leaves .entry)) (now (words .entry))) window (r .leaf) ⌝ }
-    ensures length { λ r. ⌜ r .length ≡ lengthGiven (now (leaves .entry)) (r .leaf) ⌝ }
+pub fn look_up_from(
+    degree: Degree,
+    leaves: &[u8],
+    words: &[u8],
+    window: [u8; 8],
+    guess: usize,
+) -> Found
+    ensures leaf { λ r. ⌜ windows.LookedUp (codeOf (ofDegree degree (now (leaves .entry))) (now (words .entry))) window (r .leaf) ⌝ }
+    ensures length { λ r. ⌜ r .length ≡ lengthGiven (ofDegree degree (now (leaves .entry))) (r .leaf) ⌝ }
 {
-    if guess < leaves::leaf_count(leaves) {
-        if begins(leaves, words, &window, guess) {
-            return with_length(leaves, guess);
+    if guess < leaves::leaf_count(degree, leaves) {
+        if begins(degree, leaves, words, &window, guess) {
+            return with_length(degree, leaves, guess);
         }
     }
-    look_up(leaves, words, window)
+    look_up(degree, leaves, words, window)
 }

@@ -11,6 +11,7 @@ use lib.Dec.{ltb}
 use lib.ListN.{length, getD, set, List·getD-eq-default}
 use lib.Seq.{getD-set-same, getD-set-other}
 use borrow.Author.Tests.{lt-ltb, le-ltb, ltb-true}
+use Rattle.layout_rules.specs.Section.{Section}
 use Rattle.lists.proofs.Test.{same-outcome}
 use Rattle.ring.specs.Tests.{same}
 use Rattle.ring.proofs.Element.{same-refl, same→≡}
@@ -22,7 +23,7 @@ use Rattle.slots.specs.Slot.{slotOf}
 use Rattle.pair_digits.specs.Slots.{SlottedBefore, Slotted}
 
 -- one more digit, in a slot that was empty
-pub slot-next : (alphabet slots : List ℕ) (n slot : ℕ) → slot ≡ slotOf (recordAt alphabet n) → 255 ≤ getD slots slot 0 → n ≤ 255 → SlottedBefore alphabet slots n → SlottedBefore alphabet (set slots slot n) (n + 1)
+pub slot-next : (alphabet : Section) (slots : List ℕ) (n slot : ℕ) → slot ≡ slotOf (recordAt alphabet n) → 255 ≤ getD slots slot 0 → n ≤ 255 → SlottedBefore alphabet slots n → SlottedBefore alphabet (set slots slot n) (n + 1)
 slot-next alphabet slots n slot is empty small before k h =
     elim (decLt k n) [
       | yes l ↦ elim (ℕ-discrete (slotOf (recordAt alphabet k)) slot) [
@@ -39,7 +40,7 @@ slot-next alphabet slots n slot is empty small before k h =
           | no l ↦ absurd (omega (arith, List·getD-eq-default slots 0 {n = slot} (omega arith)))
         ]
 
-module _ (alphabet slots : List ℕ) (known : Slotted alphabet slots) (x : List ℤ) (k : ℕ) (at : k ≡ getD slots (slotOf x) 0) where
+module _ (alphabet : Section) (slots : List ℕ) (known : Slotted alphabet slots) (x : List ℤ) (k : ℕ) (at : k ≡ getD slots (slotOf x) 0) where
   abbrev index : ℕ
   index = indexIn alphabet (elementCount alphabet) x
 

@@ -3,12 +3,13 @@ use mathlib.Core.Path.{_≡_}
 use mathlib.Core.List.{List}
 use Prim.Native.Nat.{ℕ, _<_}
 use lib.ListN.{getD}
+use Rattle.layout_rules.specs.Section.{Section}
 use Rattle.digit_rules.specs.Record.{recordAt, elementCount}
 use Rattle.slots.specs.Slot.{slotOf}
 
 -- the slot of each of the first n alphabet digits has its number
-abbrev pub SlottedBefore : List ℕ → List ℕ → ℕ → Type 0
+abbrev pub SlottedBefore : Section → List ℕ → ℕ → Type 0
 SlottedBefore alphabet slots n = (k : ℕ) → k < n → getD slots (slotOf (recordAt alphabet k)) 0 ≡ k
 
-abbrev pub Slotted : List ℕ → List ℕ → Type 0
+abbrev pub Slotted : Section → List ℕ → Type 0
 Slotted alphabet slots = SlottedBefore alphabet slots (elementCount alphabet)

@@ -8,6 +8,7 @@ use native.Mathlib.Nat.{add-mul, mul-assoc, one-le-pow, mul-lt-mul-of-pos-right}
 use lib.ListN.{getD}
 use lib.Dec.{eqb}
 use borrow.Author.Tests.{eqb-true}
+use Rattle.layout_rules.specs.Section.{Section}
 use Rattle.lists.specs.Scan.{firstFailing, every}
 use Rattle.lists.proofs.Scan.{every-sound}
 use lib.Pow.{pow-add}
@@ -67,7 +68,7 @@ last-number w k behind e =
     ap (λ (x : ℕ). bitOr (number 256 w k * x) behind) bits ∙ or-shifted (number 256 w k) (8 * (8 - k)) behind (omega arith) ∙ ap (λ (x : ℕ). number 256 w k * x + behind) (sym bits) in
     omega arith
 
-module _ (leaves words : List ℕ) (ready : WordsOrdered leaves words) where
+module _ (leaves : Section) (words : List ℕ) (ready : WordsOrdered leaves words) where
   abbrev N : ℕ
   N = leafCount leaves
 
@@ -134,7 +135,7 @@ module _ (leaves words : List ℕ) (ready : WordsOrdered leaves words) where
           ]
         ]
 
-pub ready-words : (leaves words : List ℕ) (m : ℕ) → LeavesFormed leaves words m → ((i : ℕ) → getD words i 0 < 256) → WordsOrdered leaves words
+pub ready-words : (leaves : Section) (words : List ℕ) (m : ℕ) → LeavesFormed leaves words m → ((i : ℕ) → getD words i 0 < 256) → WordsOrdered leaves words
 ready-words leaves words m is bytes =
     record {
       some = is .some;

@@ -7,9 +7,10 @@ use lib.IntN.{ℤ}
 use lib.ListN.{getD}
 use lib.Bits.{bitAnd}
 use borrow.Author.Count.{below-more}
+use Rattle.ring.specs.Degree.{partCount}
 use Rattle.lists.proofs.Test.{clash}
 use Rattle.ring.specs.Element.{plus}
-use Rattle.layout_rules.specs.Section.{degree}
+use Rattle.layout_rules.specs.Section.{Section}
 use Rattle.digit_rules.specs.Record.{recordAt}
 use Rattle.numeration.specs.Elements.{elements}
 use Rattle.numeration.specs.Pairs.{Fits}
@@ -25,10 +26,10 @@ use Rattle.pair_sets.specs.Runs.{AllPass}
 use Rattle.weight_sets.specs.Weights.{WeightsNumbered, Good}
 use Rattle.weight_sets.proofs.Bits.{has-part}
 
-module _ (leaves words : List ℕ) (m : ℕ) (input : 0 < m) (is : LeavesFormed leaves words m) (matrix : List (List ℤ)) (inputs alphabet numbers first : List ℕ) (count : ℕ) (numbered : WeightsNumbered leaves numbers first count (leafCount leaves)) where
+module _ (leaves : Section) (words : List ℕ) (m : ℕ) (input : 0 < m) (is : LeavesFormed leaves words m) (matrix : List (List ℤ)) (inputs alphabet : Section) (numbers first : List ℕ) (count : ℕ) (numbered : WeightsNumbered leaves numbers first count (leafCount leaves)) where
   module _ (u : ℕ) (hu : u < leafCount leaves) (lower known : ℕ) (covered : (l : ℕ) → l < leafCount leaves → Fits (codeOf leaves words) u l → Has lower (getD numbers l 0)) (among : bitAnd lower known ≡ lower) (good : Good alphabet leaves first (upperPart matrix inputs leaves words u) known) where
     abbrev passes : ℕ → Bool
-    passes l = pairPasses (elements degree matrix) (recordAt inputs) (codeOf leaves words) (inAlphabet alphabet) u l
+    passes l = pairPasses (elements (partCount (leaves .degree)) matrix) (recordAt inputs) (codeOf leaves words) (inAlphabet alphabet) u l
 
     fitting : (l : ℕ) → l < leafCount leaves → fits (codeOf leaves words) u l ≡ true → passes l ≡ true
     unfolding fits
@@ -44,7 +45,7 @@ module _ (leaves words : List ℕ) (m : ℕ) (input : 0 < m) (is : LeavesFormed 
       where
         go : (b : Bool) → fits (codeOf leaves words) u l ≡ b → passes l ≡ true
         go true e = fitting l hl e
-        go false e = unfit-passes (elements degree matrix) (recordAt inputs) (codeOf leaves words) (inAlphabet alphabet) u l (λ fit. clash (agree-complete _ _ _ fit) e)
+        go false e = unfit-passes (elements (partCount (leaves .degree)) matrix) (recordAt inputs) (codeOf leaves words) (inAlphabet alphabet) u l (λ fit. clash (agree-complete _ _ _ fit) e)
 
     pub all-next : AllPass matrix alphabet inputs leaves words u → AllPass matrix alphabet inputs leaves words (u + 1)
     all-next before = below-more _ _ before upper-all

@@ -4,6 +4,7 @@ ghost use mathlib.Core.Bool.{true};
 ghost use mathlib.Core.List.{List};
 ghost use Prim.Native.Nat.{ℕ, _+_, _-_, _<_, _≤_, _^_, pred};
 ghost use lib.ListN.{length, getD};
+ghost use Rattle.layout_rules.specs.Section.{ofDegree};
 ghost use Rattle.ring.specs.Tests.{RowsWithin};
 ghost use Rattle.digit_rules.specs.BaseMatrix.{baseMatrix};
 ghost use Rattle.digit_rules.specs.Digits.{BasePart};
@@ -14,6 +15,7 @@ ghost use Rattle.prefix_rules.specs.Check.{leafCheck};
 ghost use Rattle.weight_sets.specs.Bits.{Has};
 ghost use Rattle.pair_sets.specs.Runs.{WordsOrdered, Keyed, InRun, AllPass};
 ghost use Rattle.weight_sets.specs.Weights.{WeightsNumbered, Covers};
+use ring::Degree;
 
 // The fewest leaves that are looked at, few leaves, the most leaves, and the most different weights.
 const FEWEST: usize = 32;
@@ -36,16 +38,16 @@ struct Run {
 }
 
 // The words of all leaves as numbers.
-fn keys_of(leaves: &[u8], words: &[u8], keys: &mut [u64])
-    requires room { ⌜ leafCount (now leaves) ≤ length (now keys) ⌝ }
-    requires ordered { ⌜ WordsOrdered (now leaves) (now words) ⌝ }
-    ensures { λ r. ⌜ Keyed (now (leaves .entry)) (now (words .entry)) (now (keys .exit)) (leafCount (now (leaves .entry))) ⌝ }
+fn keys_of(degree: Degree, leaves: &[u8], words: &[u8], keys: &mut [u64])
+    requires room { ⌜ leafCount (ofDegree degree (now leaves)) ≤ length (now keys) ⌝ }
+    requires ordered { ⌜ WordsOrdered (ofDegree degree (now leaves)) (now words) ⌝ }
+    ensures { λ r. ⌜ Keyed (ofDegree degree (now (leaves .entry))) (now (words .entry)) (now (keys .exit)) (leafCount (ofDegree degree (now (leaves .entry)))) ⌝ }
 {
-    let count = leaves::leaf_count(leaves);
+    let count = leaves::leaf_count(degree, leaves);
     let mut leaf = 0;
     while leaf < count {
-        let start = leaves::word_start(leaves, leaf);
-        let length = leaves::word_length(leaves, leaf);
+        let start = leaves::word_start(degree, leaves, leaf);
+        let length = leaves::word_length(degree, leaves, leaf);
         keys[leaf] = word_numbers::word_number(words, start, length);
         leaf += 1;
     }
@@ -120,6 +122,7 @@ fn one_by_one(keys: &[u64], numbers: &[u8], count: usize, run: Run, last: u64) -
 
 // The weights of all lower leaves that fit an upper one. All leaves fit one whose word has one digit.
 fn fitting(
+    degree: Degree,
     leaves: &[u8],
     keys: &[u64],
     numbers: &[u8],
@@ -128,20 +131,20 @@ fn fitting(
     upper: usize,
     guess: usize,
 ) -> Run
-    requires room { ⌜ (leafCount (now leaves) ≤ length (now keys)) × (leafCount (now leaves) ≤ length (now numbers))
-        × (leafCount (now leaves) ≤ length (now sets)) ⌝ }
-    requires upper { ⌜ (upper < leafCount (now leaves)) × (1 ≤ wordLength (now leaves) upper) × (wordLength (now leaves) upper ≤ 8)
-        × (guess ≤ leafCount (now leaves)) ⌝ }
-    requires weights { ⌜ ((k : ℕ) → k < leafCount (now leaves) → getD (now numbers) k 0 < 64)
-        × Covers (now numbers) (now sets) (leafCount (now leaves)) 8
-        × ((k : ℕ) → k < leafCount (now leaves) → Has all (getD (now numbers) k 0)) ⌝ }
-    ensures end { λ r. ⌜ r .end ≤ leafCount (now (leaves .entry)) ⌝ }
-    ensures set { λ r. ⌜ (let table = now (leaves .entry) in
+    requires room { ⌜ (leafCount (ofDegree degree (now leaves)) ≤ length (now keys)) × (leafCount (ofDegree degree (now leaves)) ≤ length (now numbers))
+        × (leafCount (ofDegree degree (now leaves)) ≤ length (now sets)) ⌝ }
+    requires upper { ⌜ (upper < leafCount (ofDegree degree (now leaves))) × (1 ≤ wordLength (ofDegree degree (now leaves)) upper) × (wordLength (ofDegree degree (now leaves)) upper ≤ 8)
+        × (guess ≤ leafCount (ofDegree degree (now leaves))) ⌝ }
+    requires weights { ⌜ ((k : ℕ) → k < leafCount (ofDegree degree (now leaves)) → getD (now numbers) k 0 < 64)
+        × Covers (now numbers) (now sets) (leafCount (ofDegree degree (now leaves))) 8
+        × ((k : ℕ) → k < leafCount (ofDegree degree (now leaves)) → Has all (getD (now numbers) k 0)) ⌝ }
+    ensures end { λ r. ⌜ r .end ≤ leafCount (ofDegree degree (now (leaves .entry))) ⌝ }
+    ensures set { λ r. ⌜ (let table = ofDegree degree (now (leaves .entry)) in
         (words : List ℕ) → WordsOrdered table words → Keyed table words (now (keys .entry)) (leafCount table)
         → (l : ℕ) → l < leafCount table → Fits (codeOf table words) upper l → Has (r .set) (getD (now (numbers .entry)) l 0)) ⌝ }
 {
-    let count = leaves::leaf_count(leaves);
-    let length = leaves::word_length(leaves, upper);
+    let count = leaves::leaf_count(degree, leaves);
+    let length = leaves::word_length(degree, leaves, upper);
     if length == 1 {
         return Run {
             set: all,
@@ -157,7 +160,8 @@ fn fitting(
 
 // Whether every upper leaf gives alphabet digits with all lower leaves that fit.
 fn all_in(
-    base: [[i64; 2]; 2],
+    degree: Degree,
+    base: [[i64; 4]; 4],
     alphabet: &[u8],
     inputs: &[u8],
     leaves: &[u8],
@@ -168,30 +172,31 @@ fn all_in(
     first: &[usize],
     count: usize,
 ) -> bool
-    requires table { ⌜ RowsWithin (2 ^ 24) base × (0 < elementCount (now inputs))
-        × (leafCheck (now leaves) (now words) (elementCount (now inputs)) .number ≡ 0) ⌝ }
-    requires room { ⌜ (leafCount (now leaves) ≤ length (now keys)) × (leafCount (now leaves) ≤ length (now numbers))
-        × (leafCount (now leaves) ≤ length (now sets)) × (count ≤ 64) × (count ≤ length (now first)) ⌝ }
-    requires known { ⌜ Keyed (now leaves) (now words) (now keys) (leafCount (now leaves))
-        × WeightsNumbered (now leaves) (now numbers) (now first) count (leafCount (now leaves))
-        × Covers (now numbers) (now sets) (leafCount (now leaves)) 8 ⌝ }
-    ensures { λ r. ⌜ (r ≡ true → AllPass base (now (alphabet .entry)) (now (inputs .entry)) (now (leaves .entry))
-        (now (words .entry)) (leafCount (now (leaves .entry)))) ⌝ }
+    requires table { ⌜ RowsWithin (2 ^ 21) base × (0 < elementCount (ofDegree degree (now inputs)))
+        × (leafCheck (ofDegree degree (now leaves)) (now words) (elementCount (ofDegree degree (now inputs))) .number ≡ 0) ⌝ }
+    requires room { ⌜ (leafCount (ofDegree degree (now leaves)) ≤ length (now keys)) × (leafCount (ofDegree degree (now leaves)) ≤ length (now numbers))
+        × (leafCount (ofDegree degree (now leaves)) ≤ length (now sets)) × (count ≤ 64) × (count ≤ length (now first)) ⌝ }
+    requires known { ⌜ Keyed (ofDegree degree (now leaves)) (now words) (now keys) (leafCount (ofDegree degree (now leaves)))
+        × WeightsNumbered (ofDegree degree (now leaves)) (now numbers) (now first) count (leafCount (ofDegree degree (now leaves)))
+        × Covers (now numbers) (now sets) (leafCount (ofDegree degree (now leaves))) 8 ⌝ }
+    ensures { λ r. ⌜ (r ≡ true → AllPass base (ofDegree degree (now (alphabet .entry))) (ofDegree degree (now (inputs .entry))) (ofDegree degree (now (leaves .entry)))
+        (now (words .entry)) (leafCount (ofDegree degree (now (leaves .entry))))) ⌝ }
 {
     let mut slots = [EMPTY; SLOTS];
-    if !pair_digits::slot_digits(alphabet, &mut slots) {
+    if !pair_digits::slot_digits(degree, alphabet, &mut slots) {
         return false;
     }
     let mut made = [0; WEIGHTS];
     let mut good = [0; WEIGHTS];
-    let leaf_count = leaves::leaf_count(leaves);
+    let leaf_count = leaves::leaf_count(degree, leaves);
     let all = weight_sets::all_weights(count);
     let mut guess = 0;
     let mut upper = 0;
     while upper < leaf_count {
-        let run = fitting(leaves, keys, numbers, sets, all, upper, guess);
+        let run = fitting(degree, leaves, keys, numbers, sets, all, upper, guess);
         let number = octets::wide(numbers[upper]);
         let known = weight_sets::judged(
+            degree,
             base,
             alphabet,
             &slots,
@@ -217,6 +222,7 @@ fn all_in(
 
 // The same, with room lent for what is kept of the leaves.
 fn look(
+    degree: Degree,
     base: &[u8],
     alphabet: &[u8],
     inputs: &[u8],
@@ -226,22 +232,23 @@ fn look(
     sets: &mut [u64],
     numbers: &mut [u8],
 ) -> bool
-    requires table { ⌜ BasePart (now base) × (0 < elementCount (now inputs))
-        × (leafCheck (now leaves) (now words) (elementCount (now inputs)) .number ≡ 0) ⌝ }
-    requires room { ⌜ (leafCount (now leaves) ≤ length (now keys)) × (leafCount (now leaves) ≤ length (now sets))
-        × (leafCount (now leaves) ≤ length (now numbers)) ⌝ }
-    ensures { λ r. ⌜ (r ≡ true → AllPass (baseMatrix (now (base .entry))) (now (alphabet .entry)) (now (inputs .entry))
-        (now (leaves .entry)) (now (words .entry)) (leafCount (now (leaves .entry)))) ⌝ }
+    requires table { ⌜ BasePart (ofDegree degree (now base)) × (0 < elementCount (ofDegree degree (now inputs)))
+        × (leafCheck (ofDegree degree (now leaves)) (now words) (elementCount (ofDegree degree (now inputs))) .number ≡ 0) ⌝ }
+    requires room { ⌜ (leafCount (ofDegree degree (now leaves)) ≤ length (now keys)) × (leafCount (ofDegree degree (now leaves)) ≤ length (now sets))
+        × (leafCount (ofDegree degree (now leaves)) ≤ length (now numbers)) ⌝ }
+    ensures { λ r. ⌜ (r ≡ true → AllPass (baseMatrix (ofDegree degree (now (base .entry)))) (ofDegree degree (now (alphabet .entry))) (ofDegree degree (now (inputs .entry)))
+        (ofDegree degree (now (leaves .entry))) (now (words .entry)) (leafCount (ofDegree degree (now (leaves .entry))))) ⌝ }
 {
     let mut first = [0; WEIGHTS];
-    let count = weight_sets::number_weights(leaves, numbers, &mut first);
+    let count = weight_sets::number_weights(degree, leaves, numbers, &mut first);
     if WEIGHTS < count {
         return false;
     }
-    keys_of(leaves, words, keys);
-    weight_sets::eights(numbers, leaves::leaf_count(leaves), sets);
-    let matrix = digits::base_of(base);
+    keys_of(degree, leaves, words, keys);
+    weight_sets::eights(numbers, leaves::leaf_count(degree, leaves), sets);
+    let matrix = digits::base_of(degree, base);
     all_in(
+        degree,
         matrix,
         alphabet,
         inputs,
@@ -256,17 +263,25 @@ fn look(
 }
 
 // The same for few leaves, since cleared room costs time.
-fn look_at_few(base: &[u8], alphabet: &[u8], inputs: &[u8], leaves: &[u8], words: &[u8]) -> bool
-    requires table { ⌜ BasePart (now base) × (0 < elementCount (now inputs))
-        × (leafCheck (now leaves) (now words) (elementCount (now inputs)) .number ≡ 0) ⌝ }
-    requires few { ⌜ leafCount (now leaves) ≤ 512 ⌝ }
-    ensures { λ r. ⌜ (r ≡ true → AllPass (baseMatrix (now (base .entry))) (now (alphabet .entry)) (now (inputs .entry))
-        (now (leaves .entry)) (now (words .entry)) (leafCount (now (leaves .entry)))) ⌝ }
+fn look_at_few(
+    degree: Degree,
+    base: &[u8],
+    alphabet: &[u8],
+    inputs: &[u8],
+    leaves: &[u8],
+    words: &[u8],
+) -> bool
+    requires table { ⌜ BasePart (ofDegree degree (now base)) × (0 < elementCount (ofDegree degree (now inputs)))
+        × (leafCheck (ofDegree degree (now leaves)) (now words) (elementCount (ofDegree degree (now inputs))) .number ≡ 0) ⌝ }
+    requires few { ⌜ leafCount (ofDegree degree (now leaves)) ≤ 512 ⌝ }
+    ensures { λ r. ⌜ (r ≡ true → AllPass (baseMatrix (ofDegree degree (now (base .entry)))) (ofDegree degree (now (alphabet .entry))) (ofDegree degree (now (inputs .entry)))
+        (ofDegree degree (now (leaves .entry))) (now (words .entry)) (leafCount (ofDegree degree (now (leaves .entry))))) ⌝ }
 {
     let mut keys = [0; FEW];
     let mut sets = [0; FEW];
     let mut numbers = [0; FEW];
     look(
+        degree,
         base,
         alphabet,
         inputs,
@@ -278,17 +293,25 @@ fn look_at_few(base: &[u8], alphabet: &[u8], inputs: &[u8], leaves: &[u8], words
     )
 }
 
-fn look_at_many(base: &[u8], alphabet: &[u8], inputs: &[u8], leaves: &[u8], words: &[u8]) -> bool
-    requires table { ⌜ BasePart (now base) × (0 < elementCount (now inputs))
-        × (leafCheck (now leaves) (now words) (elementCount (now inputs)) .number ≡ 0) ⌝ }
-    requires many { ⌜ leafCount (now leaves) ≤ 4096 ⌝ }
-    ensures { λ r. ⌜ (r ≡ true → AllPass (baseMatrix (now (base .entry))) (now (alphabet .entry)) (now (inputs .entry))
-        (now (leaves .entry)) (now (words .entry)) (leafCount (now (leaves .entry)))) ⌝ }
+fn look_at_many(
+    degree: Degree,
+    base: &[u8],
+    alphabet: &[u8],
+    inputs: &[u8],
+    leaves: &[u8],
+    words: &[u8],
+) -> bool
+    requires table { ⌜ BasePart (ofDegree degree (now base)) × (0 < elementCount (ofDegree degree (now inputs)))
+        × (leafCheck (ofDegree degree (now leaves)) (now words) (elementCount (ofDegree degree (now inputs))) .number ≡ 0) ⌝ }
+    requires many { ⌜ leafCount (ofDegree degree (now leaves)) ≤ 4096 ⌝ }
+    ensures { λ r. ⌜ (r ≡ true → AllPass (baseMatrix (ofDegree degree (now (base .entry)))) (ofDegree degree (now (alphabet .entry))) (ofDegree degree (now (inputs .entry)))
+        (ofDegree degree (now (leaves .entry))) (now (words .entry)) (leafCount (ofDegree degree (now (leaves .entry))))) ⌝ }
 {
     let mut keys = [0; LEAVES];
     let mut sets = [0; LEAVES];
     let mut numbers = [0; LEAVES];
     look(
+        degree,
         base,
         alphabet,
         inputs,
@@ -301,21 +324,28 @@ fn look_at_many(base: &[u8], alphabet: &[u8], inputs: &[u8], leaves: &[u8], word
 }
 
 // Whether every fitting pair is seen to give an alphabet digit. Of so few leaves that the pairs are judged sooner it says nothing.
-pub fn all_pass(base: &[u8], alphabet: &[u8], inputs: &[u8], leaves: &[u8], words: &[u8]) -> bool
-    requires table { ⌜ BasePart (now base) × (0 < elementCount (now inputs))
-        × (leafCheck (now leaves) (now words) (elementCount (now inputs)) .number ≡ 0) ⌝ }
-    ensures { λ r. ⌜ (r ≡ true → AllPass (baseMatrix (now (base .entry))) (now (alphabet .entry)) (now (inputs .entry))
-        (now (leaves .entry)) (now (words .entry)) (leafCount (now (leaves .entry)))) ⌝ }
+pub fn all_pass(
+    degree: Degree,
+    base: &[u8],
+    alphabet: &[u8],
+    inputs: &[u8],
+    leaves: &[u8],
+    words: &[u8],
+) -> bool
+    requires table { ⌜ BasePart (ofDegree degree (now base)) × (0 < elementCount (ofDegree degree (now inputs)))
+        × (leafCheck (ofDegree degree (now leaves)) (now words) (elementCount (ofDegree degree (now inputs))) .number ≡ 0) ⌝ }
+    ensures { λ r. ⌜ (r ≡ true → AllPass (baseMatrix (ofDegree degree (now (base .entry)))) (ofDegree degree (now (alphabet .entry))) (ofDegree degree (now (inputs .entry)))
+        (ofDegree degree (now (leaves .entry))) (now (words .entry)) (leafCount (ofDegree degree (now (leaves .entry))))) ⌝ }
 {
-    let count = leaves::leaf_count(leaves);
+    let count = leaves::leaf_count(degree, leaves);
     if count < FEWEST {
         return false;
     }
     if count <= FEW {
-        return look_at_few(base, alphabet, inputs, leaves, words);
+        return look_at_few(degree, base, alphabet, inputs, leaves, words);
     }
     if count <= LEAVES {
-        return look_at_many(base, alphabet, inputs, leaves, words);
+        return look_at_many(degree, base, alphabet, inputs, leaves, words);
     }
     false
 }

@@ -4,6 +4,8 @@ use mathlib.Core.List.{List}
 use Prim.Native.Nat.{ℕ}
 use native.Mathlib.Nat.{le-refl}
 use native.Mathlib.Omega.{arith}
+use Rattle.ring.specs.declared.Degree.{Degree}
+use Rattle.layout_rules.specs.Section.{Section, ofDegree}
 use Rattle.lists.proofs.Scan.{every-complete}
 use Rattle.faults.specs.Check.{none}
 use Rattle.digit_rules.specs.BaseMatrix.{baseMatrix}
@@ -13,7 +15,14 @@ use Rattle.table_rules.specs.Pairs.{pairCheck}
 use Rattle.table_rules.proofs.Bad.{UppersPass, pair-none, pairs-kept}
 use Rattle.pair_sets.specs.Runs.{AllPass}
 
-module _ (base alphabet inputs leaves words : List ℕ) (all : AllPass (baseMatrix base) alphabet inputs leaves words (leafCount leaves)) where
+-- sections of one degree
+module _ (d : Degree) (base₀ leaves₀ : List ℕ) (alphabet inputs : Section) (words : List ℕ) (all : AllPass (baseMatrix (ofDegree d base₀)) alphabet inputs (ofDegree d leaves₀) words (leafCount (ofDegree d leaves₀))) where
+  abbrev base : Section
+  base = ofDegree d base₀
+
+  abbrev leaves : Section
+  leaves = ofDegree d leaves₀
+
   uppers : UppersPass base alphabet inputs leaves words (leafCount leaves)
   unfolding upperPasses
   uppers u h = every-complete _ 0 (leafCount leaves) (λ l low high. all u h l (omega arith))

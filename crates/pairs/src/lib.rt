@@ -1,8 +1,9 @@
 // Rule 14: the fitting pairs of leaves.
 ghost use mathlib.Core.Path.{_≡_};
 ghost use lib.ListN.{length, getD};
+ghost use Rattle.ring.specs.Degree.{partCount};
 ghost use Rattle.ring.specs.Tests.{RowsWithin};
-ghost use Rattle.layout_rules.specs.Section.{degree};
+ghost use Rattle.layout_rules.specs.Section.{ofDegree};
 ghost use Rattle.digit_rules.specs.Digits.{BasePart};
 ghost use Rattle.digit_rules.specs.Record.{recordAt, elementCount};
 ghost use Rattle.numeration.specs.LeafOf.{agree};
@@ -17,6 +18,7 @@ ghost use Prim.Native.Nat.{_+_, _<_, _^_, min, pred};
 ghost use Rattle.lists.specs.Span.{span};
 ghost use Rattle.lists.specs.Scan.{firstFailing};
 use faults::Refusal;
+use ring::Degree;
 use table_rules::Pair;
 
 // The count of slots for alphabet digits, and the mark of an empty one.
@@ -67,7 +69,8 @@ fn fit(upper: &[u8], lower: &[u8]) -> bool
 // The lowest lower leaf that fits and gives no alphabet digit, or the leaf count. Those that fit are neighbours, from the leaf of the
 // upper word's tail on, which may be the guessed one.
 fn bad_lower(
-    base: [[i64; 2]; 2],
+    degree: Degree,
+    base: [[i64; 4]; 4],
     alphabet: &[u8],
     known: bool,
     slots: &[u8; SLOTS],
@@ -77,27 +80,27 @@ fn bad_lower(
     upper: usize,
     guess: usize,
 ) -> Run
-    requires table { ⌜ RowsWithin (2 ^ 24) base × (0 < elementCount (now inputs))
-        × (leafCheck (now leaves) (now words) (elementCount (now inputs)) .number ≡ 0) ⌝ }
-    requires upper { ⌜ upper < leafCount (now leaves) ⌝ }
-    requires slots { ⌜ (known ≡ true → Slotted (now alphabet) (now slots)) ⌝ }
-    ensures { λ r. ⌜ r .bad ≡ firstFailing (pairPasses (elements degree base) (recordAt (now (inputs .entry)))
-        (codeOf (now (leaves .entry)) (now (words .entry))) (inAlphabet (now (alphabet .entry))) upper) 0
-        (leafCount (now (leaves .entry))) ⌝ }
+    requires table { ⌜ RowsWithin (2 ^ 21) base × (0 < elementCount (ofDegree degree (now inputs)))
+        × (leafCheck (ofDegree degree (now leaves)) (now words) (elementCount (ofDegree degree (now inputs))) .number ≡ 0) ⌝ }
+    requires upper { ⌜ upper < leafCount (ofDegree degree (now leaves)) ⌝ }
+    requires slots { ⌜ (known ≡ true → Slotted (ofDegree degree (now alphabet)) (now slots)) ⌝ }
+    ensures { λ r. ⌜ r .bad ≡ firstFailing (pairPasses (elements (partCount degree) base) (recordAt (ofDegree degree (now (inputs .entry))))
+        (codeOf (ofDegree degree (now (leaves .entry))) (now (words .entry))) (inAlphabet (ofDegree degree (now (alphabet .entry)))) upper) 0
+        (leafCount (ofDegree degree (now (leaves .entry)))) ⌝ }
 {
-    let count = leaves::leaf_count(leaves);
-    let top = leaves::word(leaves, words, upper);
-    let part = pair_digits::upper_part(base, inputs, leaves, words, upper);
-    let lowest = look_up::look_up_from(leaves, words, tail_window(top), guess);
+    let count = leaves::leaf_count(degree, leaves);
+    let top = leaves::word(degree, leaves, words, upper);
+    let part = pair_digits::upper_part(degree, base, inputs, leaves, words, upper);
+    let lowest = look_up::look_up_from(degree, leaves, words, tail_window(top), guess);
     let mut lower = lowest.leaf;
     while lower < count {
-        if !fit(top, leaves::word(leaves, words, lower)) {
+        if !fit(top, leaves::word(degree, leaves, words, lower)) {
             return Run {
                 bad: count,
                 end: lower,
             };
         }
-        if !pair_digits::gives_digit(alphabet, known, slots, part, leaves, lower) {
+        if !pair_digits::gives_digit(degree, alphabet, known, slots, part, leaves, lower) {
             return Run {
                 bad: lower,
                 end: lower,
@@ -112,19 +115,27 @@ fn bad_lower(
 }
 
 // The lowest upper leaf that fails with some lower leaf, and the lowest such lower leaf; the leaf count twice where none fails.
-pub fn bad_pair(base: &[u8], alphabet: &[u8], inputs: &[u8], leaves: &[u8], words: &[u8]) -> Pair
-    requires table { ⌜ BasePart (now base) × (0 < elementCount (now inputs))
-        × (leafCheck (now leaves) (now words) (elementCount (now inputs)) .number ≡ 0) ⌝ }
-    ensures { λ r. ⌜ r ≡ badPair (now (base .entry)) (now (alphabet .entry)) (now (inputs .entry)) (now (leaves .entry)) (now (words .entry)) ⌝ }
+pub fn bad_pair(
+    degree: Degree,
+    base: &[u8],
+    alphabet: &[u8],
+    inputs: &[u8],
+    leaves: &[u8],
+    words: &[u8],
+) -> Pair
+    requires table { ⌜ BasePart (ofDegree degree (now base)) × (0 < elementCount (ofDegree degree (now inputs)))
+        × (leafCheck (ofDegree degree (now leaves)) (now words) (elementCount (ofDegree degree (now inputs))) .number ≡ 0) ⌝ }
+    ensures { λ r. ⌜ r ≡ badPair (ofDegree degree (now (base .entry))) (ofDegree degree (now (alphabet .entry))) (ofDegree degree (now (inputs .entry))) (ofDegree degree (now (leaves .entry))) (now (words .entry)) ⌝ }
 {
-    let matrix = digits::base_of(base);
+    let matrix = digits::base_of(degree, base);
     let mut slots = [EMPTY; SLOTS];
-    let known = pair_digits::slot_digits(alphabet, &mut slots);
-    let count = leaves::leaf_count(leaves);
+    let known = pair_digits::slot_digits(degree, alphabet, &mut slots);
+    let count = leaves::leaf_count(degree, leaves);
     let mut guess = 0;
     let mut upper = 0;
     while upper < count {
         let run = bad_lower(
+            degree,
             matrix,
             alphabet,
             known,
@@ -149,19 +160,26 @@ pub fn bad_pair(base: &[u8], alphabet: &[u8], inputs: &[u8], leaves: &[u8], word
 }
 
 // Rule 14. The scan that names the leaves is only made where the quick look says nothing.
-pub fn pairs(base: &[u8], alphabet: &[u8], inputs: &[u8], leaves: &[u8], words: &[u8]) -> Refusal
-    requires table { ⌜ BasePart (now base) × (0 < elementCount (now inputs))
-        × (leafCheck (now leaves) (now words) (elementCount (now inputs)) .number ≡ 0) ⌝ }
-    ensures { λ r. ⌜ r ≡ pairCheck (now (base .entry)) (now (alphabet .entry)) (now (inputs .entry)) (now (leaves .entry)) (now (words .entry)) ⌝ }
+pub fn pairs(
+    degree: Degree,
+    base: &[u8],
+    alphabet: &[u8],
+    inputs: &[u8],
+    leaves: &[u8],
+    words: &[u8],
+) -> Refusal
+    requires table { ⌜ BasePart (ofDegree degree (now base)) × (0 < elementCount (ofDegree degree (now inputs)))
+        × (leafCheck (ofDegree degree (now leaves)) (now words) (elementCount (ofDegree degree (now inputs))) .number ≡ 0) ⌝ }
+    ensures { λ r. ⌜ r ≡ pairCheck (ofDegree degree (now (base .entry))) (ofDegree degree (now (alphabet .entry))) (ofDegree degree (now (inputs .entry))) (ofDegree degree (now (leaves .entry))) (now (words .entry)) ⌝ }
 {
-    if pair_sets::all_pass(base, alphabet, inputs, leaves, words) {
+    if pair_sets::all_pass(degree, base, alphabet, inputs, leaves, words) {
         return Refusal {
             number: 0,
             place: 0,
         };
     }
-    let found = bad_pair(base, alphabet, inputs, leaves, words);
-    if found.upper < leaves::leaf_count(leaves) {
+    let found = bad_pair(degree, base, alphabet, inputs, leaves, words);
+    if found.upper < leaves::leaf_count(degree, leaves) {
         return Refusal {
             number: 14,
             place: found.upper,

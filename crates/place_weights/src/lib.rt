@@ -3,12 +3,14 @@
 ghost use mathlib.Core.Path.{_≡_};
 ghost use mathlib.Core.Bool.{true};
 ghost use Prim.Native.Nat.{_+_, _<_, _≤_, max};
+ghost use Rattle.layout_rules.specs.Section.{ofDegree};
 ghost use Rattle.lists.specs.Span.{span};
 ghost use Rattle.numeration.specs.Code.{Begins};
 ghost use Rattle.numeration.specs.Conversion.{window};
 ghost use Rattle.leaf_rules.specs.Leaf.{leafCount, wordLength, codeOf};
 ghost use Rattle.place_rules.specs.Helpers.{Begun, IsLeaf, Counted};
 use look_up::Found;
+use ring::Degree;
 
 // The slots that leaves are kept in by the windows they begin, and one more than the first digits of windows.
 pub const WINDOWS: usize = 256;
@@ -51,15 +53,16 @@ fn window_below(row: &[u8], place: usize) -> [u8; 8]
 }
 
 // The leaf that begins the window below a place.
-pub fn leaf_into(leaves: &[u8], words: &[u8], row: &[u8], place: usize) -> Found
-    requires { ⌜ Begun (now leaves) (now words) (now row) ⌝ }
-    ensures { λ r. ⌜ IsLeaf (now (leaves .entry)) (now (words .entry)) (now (row .entry)) place (r .leaf) (r .length) ⌝ }
+pub fn leaf_into(degree: Degree, leaves: &[u8], words: &[u8], row: &[u8], place: usize) -> Found
+    requires { ⌜ Begun (ofDegree degree (now leaves)) (now words) (now row) ⌝ }
+    ensures { λ r. ⌜ IsLeaf (ofDegree degree (now (leaves .entry))) (now (words .entry)) (now (row .entry)) place (r .leaf) (r .length) ⌝ }
 {
-    look_up::look_up(leaves, words, window_below(row, place))
+    look_up::look_up(degree, leaves, words, window_below(row, place))
 }
 
 // Whether a leaf's word begins the window below a place, of which the first digit is given.
 fn begins_below(
+    degree: Degree,
     leaves: &[u8],
     words: &[u8],
     row: &[u8],
@@ -67,14 +70,14 @@ fn begins_below(
     first: u8,
     leaf: usize,
 ) -> bool
-    requires { ⌜ (leaf < leafCount (now leaves)) × (first ≡ window (now row) place 0) ⌝ }
-    ensures { λ r. ⌜ (r ≡ true → Begins (codeOf (now (leaves .entry)) (now (words .entry))) leaf (window (now (row .entry)) place)) ⌝ }
+    requires { ⌜ (leaf < leafCount (ofDegree degree (now leaves))) × (first ≡ window (now row) place 0) ⌝ }
+    ensures { λ r. ⌜ (r ≡ true → Begins (codeOf (ofDegree degree (now (leaves .entry))) (now (words .entry))) leaf (window (now (row .entry)) place)) ⌝ }
 {
-    let start = leaves::word_start(leaves, leaf);
+    let start = leaves::word_start(degree, leaves, leaf);
     if octets::byte_at(words, start) != first {
         return false;
     }
-    let n = leaves::word_length(leaves, leaf);
+    let n = leaves::word_length(degree, leaves, leaf);
     let mut k = 1;
     while k < n {
         if octets::byte_at(words, start + k) != digit_below(row, place, k) {
@@ -88,6 +91,7 @@ fn begins_below(
 // The leaf that begins the window below a place: the guessed one where it does, whose word is counted in the reach already, else by a search
 // of the leaves from one up to another, or of all where that doesn't help.
 fn leaf_below(
+    degree: Degree,
     leaves: &[u8],
     words: &[u8],
     row: &[u8],
@@ -98,19 +102,20 @@ fn leaf_below(
     high: u16,
     reach: usize,
 ) -> Tried
-    requires { ⌜ Begun (now leaves) (now words) (now row) × (first ≡ window (now row) place 0)
-        × (guess < leafCount (now leaves) → wordLength (now leaves) guess ≤ reach) ⌝ }
-    ensures leaf { λ r. ⌜ IsLeaf (now (leaves .entry)) (now (words .entry)) (now (row .entry)) place (r .leaf)
-        (wordLength (now (leaves .entry)) (r .leaf)) ⌝ }
-    ensures reach { λ r. ⌜ r .reach ≡ max reach (wordLength (now (leaves .entry)) (r .leaf)) ⌝ }
+    requires { ⌜ Begun (ofDegree degree (now leaves)) (now words) (now row) × (first ≡ window (now row) place 0)
+        × (guess < leafCount (ofDegree degree (now leaves)) → wordLength (ofDegree degree (now leaves)) guess ≤ reach) ⌝ }
+    ensures leaf { λ r. ⌜ IsLeaf (ofDegree degree (now (leaves .entry))) (now (words .entry)) (now (row .entry)) place (r .leaf)
+        (wordLength (ofDegree degree (now (leaves .entry))) (r .leaf)) ⌝ }
+    ensures reach { λ r. ⌜ r .reach ≡ max reach (wordLength (ofDegree degree (now (leaves .entry))) (r .leaf)) ⌝ }
 {
     let leaf = guess as usize;
-    if leaf < leaves::leaf_count(leaves) {
-        if begins_below(leaves, words, row, place, first, leaf) {
+    if leaf < leaves::leaf_count(degree, leaves) {
+        if begins_below(degree, leaves, words, row, place, first, leaf) {
             return Tried { leaf, reach };
         }
     }
     let below = look_up::look_up_within(
+        degree,
         leaves,
         words,
         window_below(row, place),
@@ -137,6 +142,7 @@ fn window_slot(row: &[u8], place: usize, first: u8, single: bool) -> usize
 // The leaf that begins the window below a place. The one that was found last for a window of the same slot is tried before the search,
 // which is among the leaves with the window's first digit.
 pub fn leaf_tried(
+    degree: Degree,
     leaves: &[u8],
     words: &[u8],
     row: &[u8],
@@ -147,16 +153,17 @@ pub fn leaf_tried(
     found: &mut [u16; WINDOWS],
     reach: usize,
 ) -> Tried
-    requires window { ⌜ Begun (now leaves) (now words) (now row) × (first ≡ window (now row) place 0) ⌝ }
-    requires found { ⌜ (leafCount (now leaves) < 65536) × Counted (now leaves) (now found) reach ⌝ }
-    ensures leaf { λ r. ⌜ IsLeaf (now (leaves .entry)) (now (words .entry)) (now (row .entry)) place (r .leaf)
-        (wordLength (now (leaves .entry)) (r .leaf)) ⌝ }
-    ensures reach { λ r. ⌜ r .reach ≡ max reach (wordLength (now (leaves .entry)) (r .leaf)) ⌝ }
-    ensures found { λ r. ⌜ Counted (now (leaves .entry)) (now (found .exit)) (r .reach) ⌝ }
+    requires window { ⌜ Begun (ofDegree degree (now leaves)) (now words) (now row) × (first ≡ window (now row) place 0) ⌝ }
+    requires found { ⌜ (leafCount (ofDegree degree (now leaves)) < 65536) × Counted (ofDegree degree (now leaves)) (now found) reach ⌝ }
+    ensures leaf { λ r. ⌜ IsLeaf (ofDegree degree (now (leaves .entry))) (now (words .entry)) (now (row .entry)) place (r .leaf)
+        (wordLength (ofDegree degree (now (leaves .entry))) (r .leaf)) ⌝ }
+    ensures reach { λ r. ⌜ r .reach ≡ max reach (wordLength (ofDegree degree (now (leaves .entry))) (r .leaf)) ⌝ }
+    ensures found { λ r. ⌜ Counted (ofDegree degree (now (leaves .entry))) (now (found .exit)) (r .reach) ⌝ }
 {
     let slot = window_slot(row, place, first, single);
     let digit = octets::wide(first);
     let below = leaf_below(
+        degree,
         leaves,
         words,
         row,
@@ -173,17 +180,17 @@ pub fn leaf_tried(
 
 // For each first digit below a count the leaf that begins a window of it and zeros, which is the first with that digit, and behind them
 // the leaf count. The search of a window tries them, so that nothing depends on what they are.
-pub fn first_leaves(leaves: &[u8], words: &[u8], inputs: usize) -> [u16; STARTS] {
+pub fn first_leaves(degree: Degree, leaves: &[u8], words: &[u8], inputs: usize) -> [u16; STARTS] {
     let mut starts = [0u16; STARTS];
     if 255 < inputs {
         return starts;
     }
     let mut digit = 0;
     while digit < inputs {
-        let lowest = look_up::look_up(leaves, words, [digit as u8, 0, 0, 0, 0, 0, 0, 0]);
+        let lowest = look_up::look_up(degree, leaves, words, [digit as u8, 0, 0, 0, 0, 0, 0, 0]);
         starts[digit] = (lowest.leaf % 65536) as u16;
         digit += 1;
     }
-    starts[inputs] = (leaves::leaf_count(leaves) % 65536) as u16;
+    starts[inputs] = (leaves::leaf_count(degree, leaves) % 65536) as u16;
     starts
 }

@@ -7,6 +7,7 @@ use native.Mathlib.Nat.{add-zero, add-assoc, sub-zero}
 use native.Mathlib.Omega.{arith}
 use lib.ListN.{length, set, length-set}
 use lib.IntN.{ℤ}
+use Rattle.layout_rules.specs.Section.{Section}
 use Rattle.lists.specs.Span.{span}
 use Rattle.lists.specs.Scan.{firstFailing}
 use Rattle.lists.specs.Overwrite.{overwrite}
@@ -23,7 +24,7 @@ use Rattle.place_rules.specs.Place.{indexAt, digitAllowed}
 use Rattle.lists.proofs.Entries.{first-written}
 use Rattle.place_rules.proofs.Place.{index-in, index-out}
 
-module _ (o : Operations (List ℤ)) (alphabet inputs leaves words row : List ℕ) (from count : ℕ) (entry : List ℕ) where
+module _ (o : Operations (List ℤ)) (alphabet inputs leaves : Section) (words row : List ℕ) (from count : ℕ) (entry : List ℕ) where
   abbrev pub allowed : ℕ → Bool
   allowed k = digitAllowed o alphabet inputs leaves words row (from + k)
 

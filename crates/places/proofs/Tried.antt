@@ -7,6 +7,7 @@ use native.Mathlib.Omega.{arith}
 use lib.ListN.{length, getD, set, replicate, length-set, List·getD-eq-default}
 use lib.Seq.{getD-set-same, getD-set-other}
 use lib.IntN.{ℤ}
+use Rattle.layout_rules.specs.Section.{Section}
 use Rattle.ring.specs.Tests.{same}
 use Rattle.digit_rules.specs.Record.{recordAt, elementCount}
 use Rattle.digit_rules.proofs.Index.{index-is, index-first}
@@ -14,7 +15,7 @@ use Rattle.place_rules.specs.Place.{alphabetIndex}
 use Rattle.places.specs.Helpers.{Firsts}
 use Rattle.lists.proofs.Entries.{zeros-at}
 
-module _ (alphabet : List ℕ) where
+module _ (alphabet : Section) where
   abbrev IsFirst : ℕ → Type 0
   IsFirst k = k < elementCount alphabet → alphabetIndex alphabet (recordAt alphabet k) ≡ k
 

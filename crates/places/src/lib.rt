@@ -2,11 +2,12 @@
 ghost use mathlib.Core.Path.{_≡_};
 ghost use Prim.Native.Nat.{_+_, _≤_, _<_, _^_};
 ghost use lib.ListN.{length};
+ghost use Rattle.ring.specs.Degree.{partCount};
 ghost use Rattle.lists.specs.Span.{span};
 ghost use Rattle.lists.specs.Scan.{firstFailing};
 ghost use Rattle.lists.specs.Overwrite.{overwrite};
 ghost use Rattle.ring.specs.Tests.{Within, RowsWithin};
-ghost use Rattle.layout_rules.specs.Section.{degree};
+ghost use Rattle.layout_rules.specs.Section.{ofDegree};
 ghost use Rattle.digit_rules.specs.Record.{recordAt, elementCount};
 ghost use Rattle.numeration.specs.Code.{Inputs};
 ghost use Rattle.numeration.specs.Conversion.{outDigit};
@@ -16,6 +17,7 @@ ghost use Rattle.leaf_rules.specs.Leaf.{leafCount, codeOf};
 ghost use Rattle.place_rules.specs.Place.{alphabetIndex, indexAt, digitAllowed};
 ghost use Rattle.place_rules.specs.Helpers.{Begun};
 ghost use Rattle.places.specs.Helpers.{Firsts};
+use ring::Degree;
 
 // Fewer places than this are an edit's.
 const FEW: usize = 16;
@@ -25,20 +27,20 @@ const DIGITS: usize = 256;
 
 // The alphabet index of an element, or the alphabet's size. The digit in the element's slot is tried before the search, and a digit
 // that was found is put there.
-fn index_of(alphabet: &[u8], x: [i64; 2], slots: &mut [u8; DIGITS]) -> usize
-    requires { ⌜ Within (2 ^ 42) x × (elementCount (now alphabet) ≤ 256) × Firsts (now alphabet) (now slots) ⌝ }
-    ensures index { λ r. ⌜ r ≡ alphabetIndex (now (alphabet .entry)) x ⌝ }
-    ensures slots { λ r. ⌜ Firsts (now (alphabet .entry)) (now (slots .exit)) ⌝ }
+fn index_of(degree: Degree, alphabet: &[u8], x: [i64; 4], slots: &mut [u8; DIGITS]) -> usize
+    requires { ⌜ Within (2 ^ 42) x × (elementCount (ofDegree degree (now alphabet)) ≤ 256) × Firsts (ofDegree degree (now alphabet)) (now slots) ⌝ }
+    ensures index { λ r. ⌜ r ≡ alphabetIndex (ofDegree degree (now (alphabet .entry))) x ⌝ }
+    ensures slots { λ r. ⌜ Firsts (ofDegree degree (now (alphabet .entry))) (now (slots .exit)) ⌝ }
 {
-    let size = layout::record_count(alphabet, 1);
+    let size = layout::record_count(degree, alphabet, 1);
     let slot = slots::slot_of(x);
     let last = octets::wide(slots[slot]);
     if last < size {
-        if elements::equal(digits::record_at(alphabet, last), x) {
+        if elements::equal(digits::record_at(degree, alphabet, last), x) {
             return last;
         }
     }
-    let index = digits::find(alphabet, size, x);
+    let index = digits::find(degree, alphabet, size, x);
     if index < size {
         slots[slot] = index as u8;
     }
@@ -47,22 +49,29 @@ fn index_of(alphabet: &[u8], x: [i64; 2], slots: &mut [u8; DIGITS]) -> usize
 
 // The alphabet index of the digit that comes out, or the alphabet's size.
 fn out_index(
-    base: [[i64; 2]; 2],
+    degree: Degree,
+    base: [[i64; 4]; 4],
     alphabet: &[u8],
     inputs: &[u8],
     input: usize,
-    below: [i64; 2],
-    own: [i64; 2],
+    below: [i64; 4],
+    own: [i64; 4],
     slots: &mut [u8; DIGITS],
 ) -> usize
-    requires sizes { ⌜ RowsWithin (2 ^ 24) base × (input < elementCount (now inputs)) × Within 32768 below × Within 32768 own ⌝ }
-    requires alphabet { ⌜ (elementCount (now alphabet) ≤ 256) × Firsts (now alphabet) (now slots) ⌝ }
-    ensures index { λ r. ⌜ r ≡ alphabetIndex (now (alphabet .entry))
-        (outDigit (elements degree base) (recordAt (now (inputs .entry)) input) below own) ⌝ }
-    ensures slots { λ r. ⌜ Firsts (now (alphabet .entry)) (now (slots .exit)) ⌝ }
+    requires sizes { ⌜ RowsWithin (2 ^ 21) base × (input < elementCount (ofDegree degree (now inputs))) × Within 32768 below × Within 32768 own ⌝ }
+    requires alphabet { ⌜ (elementCount (ofDegree degree (now alphabet)) ≤ 256) × Firsts (ofDegree degree (now alphabet)) (now slots) ⌝ }
+    ensures index { λ r. ⌜ r ≡ alphabetIndex (ofDegree degree (now (alphabet .entry)))
+        (outDigit (elements (partCount degree) base) (recordAt (ofDegree degree (now (inputs .entry))) input) below own) ⌝ }
+    ensures slots { λ r. ⌜ Firsts (ofDegree degree (now (alphabet .entry))) (now (slots .exit)) ⌝ }
 {
-    let digit = converted_digit::out_digit(base, digits::record_at(inputs, input), below, own);
-    index_of(alphabet, digit, slots)
+    let digit = converted_digit::out_digit(
+        degree,
+        base,
+        digits::record_at(degree, inputs, input),
+        below,
+        own,
+    );
+    index_of(degree, alphabet, digit, slots)
 }
 
 // How many first digits are looked up beforehand: none for the few places of an edit, or where a first digit alone tells the leaf, since
@@ -94,7 +103,8 @@ fn reach_below(from: usize, length: usize) -> usize
 // Writes the alphabet indexes of the digits at the places from `from` on, up to the first digit that isn't in the alphabet, at most
 // `count` of them.
 pub fn convert(
-    base: [[i64; 2]; 2],
+    degree: Degree,
+    base: [[i64; 4]; 4],
     alphabet: &[u8],
     inputs: &[u8],
     leaves: &[u8],
@@ -104,30 +114,31 @@ pub fn convert(
     count: usize,
     out: &mut [u8],
 ) -> Written
-    requires { ⌜ RowsWithin (2 ^ 24) base × (elementCount (now alphabet) ≤ 256) × (0 < elementCount (now inputs))
-        × Inputs (elementCount (now inputs)) (now row) × Begun (now leaves) (now words) (now row) × (from + count < 65536)
-        × (count ≤ length (now out)) × (leafCount (now leaves) < 65536) ⌝ }
-    ensures count { λ r. ⌜ (let allowed = digitAllowed (elements degree base) (now (alphabet .entry)) (now (inputs .entry))
-        (now (leaves .entry)) (now (words .entry)) (now (row .entry)) in
+    requires { ⌜ RowsWithin (2 ^ 21) base × (elementCount (ofDegree degree (now alphabet)) ≤ 256) × (0 < elementCount (ofDegree degree (now inputs)))
+        × Inputs (elementCount (ofDegree degree (now inputs))) (now row) × Begun (ofDegree degree (now leaves)) (now words) (now row) × (from + count < 65536)
+        × (count ≤ length (now out)) × (leafCount (ofDegree degree (now leaves)) < 65536) ⌝ }
+    ensures count { λ r. ⌜ (let allowed = digitAllowed (elements (partCount degree) base) (ofDegree degree (now (alphabet .entry))) (ofDegree degree (now (inputs .entry)))
+        (ofDegree degree (now (leaves .entry))) (now (words .entry)) (now (row .entry)) in
         r .count ≡ firstFailing (λ k. allowed (from + k)) 0 count) ⌝ }
-    ensures reach { λ r. ⌜ r .reach ≡ reachOf (codeOf (now (leaves .entry)) (now (words .entry))) (now (row .entry)) from (r .count) ⌝ }
-    ensures buffer { λ r. ⌜ (let index = indexAt (elements degree base) (now (alphabet .entry)) (now (inputs .entry))
-        (now (leaves .entry)) (now (words .entry)) (now (row .entry)) in
+    ensures reach { λ r. ⌜ r .reach ≡ reachOf (codeOf (ofDegree degree (now (leaves .entry))) (now (words .entry))) (now (row .entry)) from (r .count) ⌝ }
+    ensures buffer { λ r. ⌜ (let index = indexAt (elements (partCount degree) base) (ofDegree degree (now (alphabet .entry))) (ofDegree degree (now (inputs .entry)))
+        (ofDegree degree (now (leaves .entry))) (now (words .entry)) (now (row .entry)) in
         now (out .exit) ≡ overwrite (now (out .entry)) 0 (span (λ k. index (from + k)) 0 (r .count))) ⌝ }
 {
-    let size = layout::record_count(alphabet, 1);
-    let single = words.len() <= leaves::leaf_count(leaves);
-    let ahead = digits_ahead(count, single, layout::record_count(inputs, 2));
-    let starts = place_weights::first_leaves(leaves, words, ahead);
+    let size = layout::record_count(degree, alphabet, 1);
+    let single = words.len() <= leaves::leaf_count(degree, leaves);
+    let ahead = digits_ahead(count, single, layout::record_count(degree, inputs, 2));
+    let starts = place_weights::first_leaves(degree, leaves, words, ahead);
     let mut found = [place_weights::NO_LEAF; place_weights::WINDOWS];
     let mut slots = [0u8; DIGITS];
-    let lowest = place_weights::leaf_into(leaves, words, row, from);
-    let mut below = leaves::weight(leaves, lowest.leaf);
+    let lowest = place_weights::leaf_into(degree, leaves, words, row, from);
+    let mut below = leaves::weight(degree, leaves, lowest.leaf);
     let mut reach = reach_below(from, lowest.length);
     let mut k = 0;
     while k < count {
         let first = octets::byte_at(row, from + k);
         let upper = place_weights::leaf_tried(
+            degree,
             leaves,
             words,
             row,
@@ -138,9 +149,18 @@ pub fn convert(
             &mut found,
             reach,
         );
-        let own = leaves::weight(leaves, upper.leaf);
+        let own = leaves::weight(degree, leaves, upper.leaf);
         let input = first as usize;
-        let index = out_index(base, alphabet, inputs, input, below, own, &mut slots);
+        let index = out_index(
+            degree,
+            base,
+            alphabet,
+            inputs,
+            input,
+            below,
+            own,
+            &mut slots,
+        );
         if size <= index {
             return Written { count: k, reach };
         }

@@ -9,6 +9,7 @@ use native.Mathlib.Numerals.{add-one}
 use native.Mathlib.Omega.{arith}
 use lib.ListN.{length, getD}
 use borrow.Author.Tests.{lt-ltb, le-ltb, le-leb, eq-eqb}
+use Rattle.layout_rules.specs.Section.{Section}
 use Rattle.lists.proofs.Scan.{scan-all}
 use Rattle.faults.specs.declared.Refusal.{Refusal}
 use Rattle.faults.proofs.Check.{judge-kept, once-kept, then-next}
@@ -31,13 +32,13 @@ pub one-more : (P : ℕ → Type 0) (i : ℕ) → ((k : ℕ) → k < i → P k) 
 one-more P i so-far here k h = elim (ℕ-discrete k i) [ yes e ↦ subst P (sym e) here | no e ↦ so-far k (omega arith) ]
 
 -- a leaf that lies where it must, the last one's end apart
-pub record Near (leaves : List ℕ) (n k : ℕ) : Type 0 where
+pub record Near (leaves : Section) (n k : ℕ) : Type 0 where
   pub some : 1 ≤ wordLength leaves k
   pub short : wordLength leaves k ≤ 8
   pub follows : wordStart leaves k ≡ expectedWordStart leaves k
   pub inside : wordEnd leaves k ≤ n
 
-placed-allowed : (leaves : List ℕ) (n k : ℕ) → Placed leaves n k → leafAllowed leaves n k ≡ true
+placed-allowed : (leaves : Section) (n k : ℕ) → Placed leaves n k → leafAllowed leaves n k ≡ true
 unfolding leafAllowed
 placed-allowed leaves n k p =
     elim (decLt (k + 1) (leafCount leaves)) [
@@ -46,11 +47,11 @@ placed-allowed leaves n k p =
     ]
 
 -- the end of a word is where the next one must start
-pub end-expected : (leaves : List ℕ) (k end : ℕ) → end ≡ wordEnd leaves k → end ≡ expectedWordStart leaves (k + 1)
+pub end-expected : (leaves : Section) (k end : ℕ) → end ≡ wordEnd leaves k → end ≡ expectedWordStart leaves (k + 1)
 unfolding expectedWordStart
 end-expected leaves k end e = e ∙ ap (expectedWordStart leaves) (sym (add-one k))
 
-pub near-allowed : (leaves : List ℕ) (n count end : ℕ) → count ≡ leafCount leaves → ((k : ℕ) → k < count → Near leaves n k) → end ≡ expectedWordStart leaves count → end ≡ n
+pub near-allowed : (leaves : Section) (n count end : ℕ) → count ≡ leafCount leaves → ((k : ℕ) → k < count → Near leaves n k) → end ≡ expectedWordStart leaves count → end ≡ n
     → (k : ℕ) → k < leafCount leaves → leafAllowed leaves n k ≡ true
 near-allowed leaves n count end all near e whole k h =
     let p = near k (omega arith) in
@@ -59,7 +60,7 @@ near-allowed leaves n count end all near e whole k h =
 
 -- the leaves below a number, as far as the quick look keeps them: where the next must start, what its number must reach, and how many
 -- strings of eight they begin
-pub record SoFar (leaves words : List ℕ) (m leaf end floor strings : ℕ) : Type 0 where
+pub record SoFar (leaves : Section) (words : List ℕ) (m leaf end floor strings : ℕ) : Type 0 where
   pub within : leaf ≤ leafCount leaves
   pub ends : end ≡ expectedWordStart leaves leaf
   pub near : (k : ℕ) → k < leaf → Near leaves (length words) k
@@ -68,7 +69,7 @@ pub record SoFar (leaves words : List ℕ) (m leaf end floor strings : ℕ) : Ty
   pub counted : strings ≡ sum (stringsOf (codeOf leaves words) m) leaf
   pub small : strings ≤ leaf * 860542568759296
 
-pub so-far-first : (leaves words : List ℕ) (m : ℕ) → SoFar leaves words m 0 0 0 0
+pub so-far-first : (leaves : Section) (words : List ℕ) (m : ℕ) → SoFar leaves words m 0 0 0 0
 unfolding expectedWordStart floorOf sum
 so-far-first leaves words m =
     record { within = omega arith; ends = refl; near = λ k h. absurd (nothing k h); floors = refl; rising = λ k h. absurd (nothing k h); counted = refl; small = omega arith }
@@ -100,7 +101,7 @@ unfolding aligned number
 first-digit w = omega arith
 
 -- one leaf more
-module _ (leaves words : List ℕ) (m leaf end floor strings start size number unit share : ℕ) (so-far : SoFar leaves words m leaf end floor strings) (h : leaf < leafCount leaves)
+module _ (leaves : Section) (words : List ℕ) (m leaf end floor strings start size number unit share : ℕ) (so-far : SoFar leaves words m leaf end floor strings) (h : leaf < leafCount leaves)
     (starts : start ≡ wordStart leaves leaf) (sizes : size ≡ wordLength leaves leaf) (lies : (start ≡ end) × (1 ≤ size) × (size ≤ 8) × (start + size ≤ length words))
     (numbers : number ≡ aligned 256 (λ i. getD words (start + i) 0) size) (units : unit ≡ 256 ^ (8 - size)) (shares : share ≡ m ^ (8 - size)) (few : m ≤ 136) where
   same-number : number ≡ wordNumberOf (codeOf leaves words) leaf
@@ -126,7 +127,7 @@ module _ (leaves words : List ℕ) (m leaf end floor strings start size number u
       }
 
 -- all leaves
-pub all-kept : (leaves words : List ℕ) (m leaf end floor strings : ℕ) → SoFar leaves words m leaf end floor strings → leafCount leaves ≤ leaf → end ≡ length words → strings ≡ m ^ 8
+pub all-kept : (leaves : Section) (words : List ℕ) (m leaf end floor strings : ℕ) → SoFar leaves words m leaf end floor strings → leafCount leaves ≤ leaf → end ≡ length words → strings ≡ m ^ 8
     → ((k : ℕ) → k < leafCount leaves → leafAllowed leaves (length words) k ≡ true) × Numbered (codeOf leaves words) m
 all-kept leaves words m leaf end floor strings is h whole all =
     let e : leaf ≡ leafCount leaves = omega (arith, is .within) in (
@@ -135,12 +136,12 @@ all-kept leaves words m leaf end floor strings is h whole all =
     )
 
 -- leaves that lie one after the other
-module _ (leaves words : List ℕ) (placed : (k : ℕ) → k < leafCount leaves → leafAllowed leaves (length words) k ≡ true) where
+module _ (leaves : Section) (words : List ℕ) (placed : (k : ℕ) → k < leafCount leaves → leafAllowed leaves (length words) k ≡ true) where
   pub is-placed : (k : ℕ) → k < leafCount leaves → Placed leaves (length words) k
   is-placed k h = leaf-says leaves (length words) k (placed k h)
 
 -- rules 9 to 12 from the quick look
-pub code-kept : (leaves words : List ℕ) (m : ℕ) → 0 < m → m ≤ 136 → ((k : ℕ) → k < leafCount leaves → leafAllowed leaves (length words) k ≡ true)
+pub code-kept : (leaves : Section) (words : List ℕ) (m : ℕ) → 0 < m → m ≤ 136 → ((k : ℕ) → k < leafCount leaves → leafAllowed leaves (length words) k ≡ true)
     → ((k : ℕ) → k < length words → getD words k 0 < m) → Numbered (codeOf leaves words) m → CodeKept leaves words m
 unfolding placeCheck wordIndexCheck orderCheck coverCheck
 code-kept leaves words m input few placed inputs is =
@@ -174,7 +175,7 @@ code-kept leaves words m input few placed inputs is =
         absurd (none (has-leaf (codeOf leaves words) m input (omega arith) short digits is w below))
 
 -- and then rule 13 is what is left
-pub kept-last : (leaves words : List ℕ) (m : ℕ) → CodeKept leaves words m → zeroCheck leaves ≡ leafCheck leaves words m
+pub kept-last : (leaves : Section) (words : List ℕ) (m : ℕ) → CodeKept leaves words m → zeroCheck leaves ≡ leafCheck leaves words m
 unfolding leafCheck
 kept-last leaves words m k =
     sym (then-next _ _ (k .nine) ∙ then-next _ _ (k .ten) ∙ then-next _ _ (k .eleven) ∙ then-next _ _ (k .twelve))

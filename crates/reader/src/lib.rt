@@ -2,7 +2,7 @@
 ghost use mathlib.Core.Path.{_≡_};
 ghost use Prim.Native.Nat.{_<_};
 ghost use Rattle.layout_rules.specs.Directory.{directoryCheck};
-ghost use Rattle.layout_rules.specs.Section.{partOf};
+ghost use Rattle.layout_rules.specs.Section.{bytesOf};
 ghost use Rattle.reader_rules.specs.TableFacts.{partFacts, tableFacts};
 ghost use Rattle.reader_rules.specs.Check.{layoutCheck, digitCheckOf, leafCheckOf, tableCheck, readAs, readOutcome};
 use faults::Fault;
@@ -14,7 +14,7 @@ use reader_rules::Table;
 // A section as that part of the file.
 pub fn section(file: &[u8], number: usize) -> &[u8]
     requires { ⌜ (directoryCheck (now file) .number ≡ 0) × (number < 5) ⌝ }
-    ensures { λ r. ⌜ now r ≡ partOf (now (file .entry)) number ⌝ }
+    ensures { λ r. ⌜ now r ≡ bytesOf (now (file .entry)) number ⌝ }
 {
     let start = layout::section_start(file, number);
     let end = layout::section_end(file, number);
@@ -41,7 +41,8 @@ fn digit_rules(file: &[u8]) -> Refusal
     requires { ⌜ layoutCheck (now file) .number ≡ 0 ⌝ }
     ensures { λ r. ⌜ r ≡ digitCheckOf (now (file .entry)) ⌝ }
 {
-    digit_check::digits(section(file, 0), section(file, 1), section(file, 2))
+    let degree = layout::degree_in(file);
+    digit_check::digits(degree, section(file, 0), section(file, 1), section(file, 2))
 }
 
 // Rules 9 to 13.
@@ -49,8 +50,9 @@ fn leaf_rules(file: &[u8]) -> Refusal
     requires { ⌜ layoutCheck (now file) .number ≡ 0 ⌝ }
     ensures { λ r. ⌜ r ≡ leafCheckOf (now (file .entry)) ⌝ }
 {
-    let inputs = layout::record_count(section(file, 2), 2);
-    prefix_code::prefix_code(section(file, 3), section(file, 4), inputs)
+    let degree = layout::degree_in(file);
+    let inputs = layout::record_count(degree, section(file, 2), 2);
+    prefix_code::prefix_code(degree, section(file, 3), section(file, 4), inputs)
 }
 
 // Rules 1 to 13.
@@ -72,10 +74,11 @@ fn section_facts(file: &[u8], number: usize) -> Part
     requires { ⌜ (layoutCheck (now file) .number ≡ 0) × (number < 5) ⌝ }
     ensures { λ r. ⌜ r ≡ partFacts (now (file .entry)) number ⌝ }
 {
+    let degree = layout::degree_in(file);
     Part {
         start: layout::section_start(file, number),
         end: layout::section_end(file, number),
-        count: layout::record_count(section(file, number), number),
+        count: layout::record_count(degree, section(file, number), number),
     }
 }
 
@@ -84,6 +87,7 @@ fn table_facts(file: &[u8]) -> Table
     requires { ⌜ layoutCheck (now file) .number ≡ 0 ⌝ }
     ensures { λ r. ⌜ r ≡ tableFacts (now (file .entry)) ⌝ }
 {
+    let degree = layout::degree_in(file);
     let base = section_facts(file, 0);
     let alphabet = section_facts(file, 1);
     let inputs = section_facts(file, 2);
@@ -95,7 +99,7 @@ fn table_facts(file: &[u8]) -> Table
         inputs,
         leaves,
         words,
-        depth: leaves::depth(section(file, 3)),
+        depth: leaves::depth(degree, section(file, 3)),
     }
 }
 

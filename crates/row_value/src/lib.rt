@@ -4,15 +4,17 @@ ghost use Prim.Native.Nat.{ℕ, _^_, _≤_, _<_};
 ghost use lib.ListN.{length};
 ghost use lib.IntN.{natAbs};
 ghost use lib.Dec.{leb};
+ghost use Rattle.ring.specs.Padded.{width};
 ghost use Rattle.ring.specs.Element.{zeros};
 ghost use Rattle.ring.specs.Tests.{Within, RowsWithin};
-ghost use Rattle.layout_rules.specs.Section.{degree};
+ghost use Rattle.layout_rules.specs.Section.{ofDegree};
 ghost use Rattle.midpoint.specs.Midpoint.{parts};
 ghost use Rattle.row_rules.specs.Fit.{Indexes};
 ghost use Rattle.digit_rules.specs.Record.{elementCount};
 ghost use Rattle.row_value_rules.specs.Total.{totalLimit, limited, placeDigit, worthOf};
 ghost use Rattle.row_value.specs.Answer.{outcomeOf};
 use midpoint::Element;
+use ring::Degree;
 
 // The value, or the place of the digit with which a part passed its limit.
 pub enum Worth {
@@ -30,58 +32,60 @@ fn inside(z: i64) -> bool
     z <= 2147483647
 }
 
-fn is_limited(x: [i64; 2]) -> bool
+fn is_limited(x: [i64; 4]) -> bool
     ensures { λ r. ⌜ r ≡ limited x ⌝ }
 {
-    inside(x[0]) && inside(x[1])
+    inside(x[0]) & inside(x[1]) & inside(x[2]) & inside(x[3])
 }
 
 // The digit at a place of a row.
-fn digit_at(alphabet: &[u8], row: &[u8], place: usize) -> [i64; 2]
-    requires { ⌜ (place < length (now row)) × Indexes (elementCount (now alphabet)) (now row) ⌝ }
-    ensures digit { λ r. ⌜ r ≡ placeDigit (now (alphabet .entry)) (now (row .entry)) place ⌝ }
+fn digit_at(degree: Degree, alphabet: &[u8], row: &[u8], place: usize) -> [i64; 4]
+    requires { ⌜ (place < length (now row)) × Indexes (elementCount (ofDegree degree (now alphabet))) (now row) ⌝ }
+    ensures digit { λ r. ⌜ r ≡ placeDigit (ofDegree degree (now (alphabet .entry))) (now (row .entry)) place ⌝ }
     ensures within { λ r. ⌜ Within 32768 r ⌝ }
 {
-    digits::record_at(alphabet, row[place] as usize)
+    digits::record_at(degree, alphabet, row[place] as usize)
 }
 
 // An element as callers see it.
-fn shown(x: [i64; 2]) -> Element
+fn shown(x: [i64; 4]) -> Element
     requires { ⌜ Within totalLimit x ⌝ }
     ensures { λ r. ⌜ parts r ≡ x ⌝ }
 {
     Element {
         a: x[0] as i32,
         b: x[1] as i32,
+        c: x[2] as i32,
+        d: x[3] as i32,
     }
 }
 
 // The count of places without the zeros at the top, where index 0 is the digit zero.
-fn counted_places(alphabet: &[u8], row: &[u8]) -> usize
+fn counted_places(degree: Degree, alphabet: &[u8], row: &[u8]) -> usize
     ensures within { λ r. ⌜ r ≤ length (now (row .entry)) ⌝ }
     ensures zeros { λ r. ⌜ ((k : ℕ) → r ≤ k → k < length (now (row .entry))
-        → placeDigit (now (alphabet .entry)) (now (row .entry)) k ≡ zeros degree) ⌝ }
+        → placeDigit (ofDegree degree (now (alphabet .entry))) (now (row .entry)) k ≡ zeros width) ⌝ }
 {
-    if layout::record_count(alphabet, 1) == 0 {
+    if layout::record_count(degree, alphabet, 1) == 0 {
         return row.len();
     }
-    if !elements::equal(digits::record_at(alphabet, 0), [0, 0]) {
+    if !elements::equal(digits::record_at(degree, alphabet, 0), [0, 0, 0, 0]) {
         return row.len();
     }
     octets::significant(row)
 }
 
 // The value of a row, from the top place down: base times total plus digit.
-pub fn row_value(base: [[i64; 2]; 2], alphabet: &[u8], row: &[u8]) -> Worth
-    requires { ⌜ RowsWithin (2 ^ 24) base × Indexes (elementCount (now alphabet)) (now row) ⌝ }
-    ensures { λ r. ⌜ outcomeOf r ≡ worthOf base (now (alphabet .entry)) (now (row .entry)) ⌝ }
+pub fn row_value(degree: Degree, base: [[i64; 4]; 4], alphabet: &[u8], row: &[u8]) -> Worth
+    requires { ⌜ RowsWithin (2 ^ 21) base × Indexes (elementCount (ofDegree degree (now alphabet))) (now row) ⌝ }
+    ensures { λ r. ⌜ outcomeOf r ≡ worthOf base (ofDegree degree (now (alphabet .entry))) (now (row .entry)) ⌝ }
 {
-    let mut total: [i64; 2] = [0, 0];
-    let mut left = counted_places(alphabet, row);
+    let mut total: [i64; 4] = [0, 0, 0, 0];
+    let mut left = counted_places(degree, alphabet, row);
     while 0 < left {
         let place = left - 1;
-        let product = elements::times_base(base, total);
-        let next = elements::sum(product, digit_at(alphabet, row, place));
+        let product = elements::times_base(degree, base, total);
+        let next = elements::sum(product, digit_at(degree, alphabet, row, place));
         if !is_limited(next) {
             return Worth::Over(place);
         }

@@ -18,7 +18,9 @@ fn file_pairs(file: &[u8]) -> Refusal
     requires { ⌜ tableCheck (now file) .number ≡ 0 ⌝ }
     ensures { λ r. ⌜ r ≡ pairCheckOf (now (file .entry)) ⌝ }
 {
+    let degree = layout::degree_in(file);
     pairs::pairs(
+        degree,
         reader::section(file, 0),
         reader::section(file, 1),
         reader::section(file, 2),

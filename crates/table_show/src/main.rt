@@ -4,13 +4,12 @@ ghost use mathlib.Core.Path.{_≡_};
 ghost use Prim.Native.Nat.{_≤_};
 ghost use Rattle.layout_rules.specs.Directory.{directoryCheck};
 use leaf_lines::Columns;
+use ring::Degree;
 
-// A record of a section of elements, and of the section of leaves with the bytes before its weight.
-const ELEMENT: usize = 4;
+// The sections of input digits and of leaves.
+const INPUTS: usize = 2;
 
-const LEAF: usize = 8;
-
-const WORD: usize = 4;
+const LEAVES: usize = 3;
 
 fn write(bytes: &[u8]) {
     io::write_all(libc::STDOUT_FILENO, bytes);
@@ -30,28 +29,29 @@ fn verdict(file: &[u8]) {
     written(&out, end);
 }
 
-// The ring and the base, where the section has two elements, and T and N, where its numbers are inside their limits.
-fn base(part: &[u8]) {
-    if part.len() != 8 {
+// The ring and the base, where the section has two elements, and the numbers that rule 6 goes by, where those of the section are inside
+// their limits.
+fn base(degree: Degree, part: &[u8]) {
+    if part.len() != 4 * layout::part_count(degree) {
         return;
     }
-    let mut out = [0u8; 64];
-    let ring = listing::ring_line(part, &mut out);
+    let mut out = [0u8; 80];
+    let ring = listing::ring_line(degree, part, &mut out);
     written(&out, ring);
-    if listing::is_limited(part) {
-        let norm = listing::norm_line(part, &mut out);
+    if listing::is_limited(degree, part) {
+        let norm = listing::norm_line(degree, part, &mut out);
         written(&out, norm);
     }
 }
 
 // A name and the digits of a section of elements, on one line.
-fn digits(name: &[u8], part: &[u8]) {
+fn digits(degree: Degree, name: &[u8], part: &[u8]) {
     write(name);
-    let count = part.len() / ELEMENT;
+    let count = layout::record_count(degree, part, INPUTS);
     let mut k = 0;
     while k < count {
-        let mut out = [0u8; 16];
-        let end = listing::item(part, k, &mut out);
+        let mut out = [0u8; 32];
+        let end = listing::item(degree, part, k, &mut out);
         written(&out, end);
         k += 1;
     }
@@ -59,16 +59,17 @@ fn digits(name: &[u8], part: &[u8]) {
 }
 
 // The line of one leaf.
-fn leaf(inputs: &[u8], leaves: &[u8], words: &[u8], leaf: usize, columns: Columns)
-    requires { ⌜ (columns .count ≤ 8) × (columns .digits ≤ 13) × (columns .weights ≤ 13) ⌝ }
+fn leaf(degree: Degree, inputs: &[u8], leaves: &[u8], words: &[u8], leaf: usize, columns: Columns)
+    requires { ⌜ (columns .count ≤ 8) × (columns .digits ≤ 31) × (columns .weights ≤ 31) ⌝ }
 {
-    let mut out = [0u8; 256];
-    let word = listing::word_shown(leaves, words, leaf);
+    let mut out = [0u8; 320];
+    let word = listing::word_shown(degree, leaves, words, leaf);
     let end = leaf_lines::leaf_line(
+        degree,
         inputs,
         word,
         leaf,
-        leaves::weight(leaves, leaf),
+        leaves::weight(degree, leaves, leaf),
         columns,
         &mut out,
     );
@@ -76,17 +77,17 @@ fn leaf(inputs: &[u8], leaves: &[u8], words: &[u8], leaf: usize, columns: Column
 }
 
 // The leaves, in columns that fit all of them.
-fn leaves(inputs: &[u8], leaves: &[u8], words: &[u8]) {
+fn leaves(degree: Degree, inputs: &[u8], leaves: &[u8], words: &[u8]) {
     write(b"leaves:\n");
-    let count = leaves::leaf_count(leaves);
+    let count = leaves::leaf_count(degree, leaves);
     let columns = Columns {
-        count: listing::columns(leaves, words),
-        digits: listing::width(inputs, ELEMENT, 0),
-        weights: listing::width(leaves, LEAF, WORD),
+        count: listing::columns(degree, leaves, words),
+        digits: listing::width(degree, inputs, INPUTS),
+        weights: listing::width(degree, leaves, LEAVES),
     };
     let mut k = 0;
     while k < count {
-        leaf(inputs, leaves, words, k, columns);
+        leaf(degree, inputs, leaves, words, k, columns);
         k += 1;
     }
 }
@@ -95,12 +96,15 @@ fn leaves(inputs: &[u8], leaves: &[u8], words: &[u8]) {
 fn sections(file: &[u8])
     requires { ⌜ directoryCheck (now file) .number ≡ 0 ⌝ }
 {
-    base(reader::section(file, 0));
-    digits(b"alphabet:", reader::section(file, 1));
-    digits(b"input digits:", reader::section(file, 2));
+    let part = reader::section(file, 0);
+    let degree = layout::degree_of(part.len());
+    base(degree, part);
+    digits(degree, b"alphabet:", reader::section(file, 1));
+    digits(degree, b"input digits:", reader::section(file, INPUTS));
     leaves(
-        reader::section(file, 2),
-        reader::section(file, 3),
+        degree,
+        reader::section(file, INPUTS),
+        reader::section(file, LEAVES),
         reader::section(file, 4),
     );
 }

@@ -1,5 +1,6 @@
 // The value of a row: rules 1 to 13 of the table, 20 and 21 of the row, then 28.
 ghost use mathlib.Core.Path.{_≡_};
+ghost use Rattle.layout_rules.specs.Section.{ofDegree};
 ghost use Rattle.digit_rules.specs.BaseMatrix.{baseMatrix};
 ghost use Rattle.digit_rules.specs.Digits.{BasePart};
 ghost use Rattle.digit_rules.specs.Record.{elementCount};
@@ -12,6 +13,7 @@ ghost use Rattle.value_call.specs.Answer.{valuedAs};
 use faults::Fault;
 use midpoint::Element;
 use reader_rules::Reading;
+use ring::Degree;
 use row_value::Worth;
 
 // The facts are the element.
@@ -21,11 +23,11 @@ pub enum Valued {
 }
 
 // Rule 28, and the value of a row of alphabet indexes.
-fn total(base: &[u8], alphabet: &[u8], row: &[u8]) -> Valued
-    requires { ⌜ BasePart (now base) × Indexes (elementCount (now alphabet)) (now row) ⌝ }
-    ensures { λ r. ⌜ valuedAs r ≡ worthOf (baseMatrix (now (base .entry))) (now (alphabet .entry)) (now (row .entry)) ⌝ }
+fn total(degree: Degree, base: &[u8], alphabet: &[u8], row: &[u8]) -> Valued
+    requires { ⌜ BasePart (ofDegree degree (now base)) × Indexes (elementCount (ofDegree degree (now alphabet))) (now row) ⌝ }
+    ensures { λ r. ⌜ valuedAs r ≡ worthOf (baseMatrix (ofDegree degree (now (base .entry)))) (ofDegree degree (now (alphabet .entry))) (now (row .entry)) ⌝ }
 {
-    match row_value::row_value(digits::base_of(base), alphabet, row) {
+    match row_value::row_value(degree, digits::base_of(degree, base), alphabet, row) {
         Worth::Whole(element) => Valued::Value(element),
         Worth::Over(place) => Valued::Refused(Fault::Rows { number: 28, place }),
     }
@@ -43,7 +45,13 @@ fn row_value(table: &[u8], digits: usize, row: &[u8]) -> Valued
             place: found.place,
         });
     }
-    total(reader::section(table, 0), reader::section(table, 1), row)
+    let degree = layout::degree_in(table);
+    total(
+        degree,
+        reader::section(table, 0),
+        reader::section(table, 1),
+        row,
+    )
 }
 
 // The value of a row, or the first fault: the author's of the table, or the rows'.

@@ -106,9 +106,10 @@ fn leaf_line(table: &[u8], window: [u8; 8]) -> bool {
     let Reading::Facts(_) = answer else {
         return false;
     };
+    let degree = layout::degree_in(table);
     let leaves = reader::section(table, 3);
     let words = reader::section(table, 4);
-    output::looked_up(look_up::look_up(leaves, words, window))
+    output::looked_up(look_up::look_up(degree, leaves, words, window))
 }
 
 // 19: the table, the eight bytes of the window.

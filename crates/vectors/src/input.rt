@@ -75,5 +75,7 @@ pub fn element(bytes: &[u8], at: usize) -> Element
     Element {
         a: number(bytes, at),
         b: number(bytes, at + 4),
+        c: 0,
+        d: 0,
     }
 }

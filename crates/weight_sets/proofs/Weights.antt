@@ -11,8 +11,10 @@ use lib.IntN.{ℤ}
 use lib.ListN.{length, getD, set, length-set, List·getD-eq-default, replicate, length-replicate, getD-replicate}
 use lib.Seq.{getD-set-same, getD-set-other}
 use lib.Bits.{bitOr}
+use Rattle.layout_rules.specs.Section.{Section}
 use Rattle.ring.specs.Element.{plus, minus}
-use Rattle.ring.specs.Matrix.{times}
+use Rattle.ring.specs.Degree.{partCount}
+use Rattle.ring.specs.Padded.{paddedTimes}
 use Rattle.digit_rules.specs.Record.{recordAt}
 use Rattle.leaf_rules.specs.Given.{weightGiven}
 use Rattle.table_rules.specs.Pairs.{inAlphabet}
@@ -30,7 +32,7 @@ entry-next P xs n v inside before now k h =
 
 -- ---- weight numbers
 
-module _ (leaves numbers first : List ℕ) (count leaf : ℕ) (before : WeightsNumbered leaves numbers first count leaf) (inside : leaf < length numbers) where
+module _ (leaves : Section) (numbers first : List ℕ) (count leaf : ℕ) (before : WeightsNumbered leaves numbers first count leaf) (inside : leaf < length numbers) where
   pub numbered-old : (number : ℕ) → number < count → weightGiven leaves (getD first number 0) ≡ weightGiven leaves leaf → WeightsNumbered leaves (set numbers leaf number) first count (leaf + 1)
   numbered-old number h e =
       entry-next (λ k n. (n < count) × (weightGiven leaves (getD first n 0) ≡ weightGiven leaves k)) numbers leaf number inside before (h, e)
@@ -78,7 +80,7 @@ module _ (numbers : List ℕ) (count : ℕ) where
 
 -- ---- good weights
 
-pub good-next : (alphabet leaves first : List ℕ) (part : List ℤ) (good one number : ℕ) (given : Bool) → given ≡ inAlphabet alphabet (plus part (weightGiven leaves (getD first number 0))) → ((j : ℕ) → Has one j → (given ≡ true) × (j ≡ number)) → Good alphabet leaves first part good → Good alphabet leaves first part (bitOr good one)
+pub good-next : (alphabet leaves : Section) (first : List ℕ) (part : List ℤ) (good one number : ℕ) (given : Bool) → given ≡ inAlphabet alphabet (plus part (weightGiven leaves (getD first number 0))) → ((j : ℕ) → Has one j → (given ≡ true) × (j ≡ number)) → Good alphabet leaves first part good → Good alphabet leaves first part (bitOr good one)
 good-next alphabet leaves first part good one number given is new before j h =
     ⊎-elim (before j) (λ n. let (holds, e) = new j n in ap (λ (i : ℕ). inAlphabet alphabet (plus part (weightGiven leaves (getD first i 0)))) e ∙ sym is ∙ holds) (has-either good one j h)
 
@@ -92,9 +94,9 @@ entry-there P xs n v none some =
       | no l ↦ subst P (sym (List·getD-eq-default (set xs n v) 0 (omega (arith, length-set xs n v)))) none
     ]
 
-module _ (matrix : List (List ℤ)) (alphabet inputs leaves first : List ℕ) where
+module _ (matrix : List (List ℤ)) (alphabet inputs leaves : Section) (first : List ℕ) where
   abbrev pub partOf : ℕ → ℕ → List ℤ
-  partOf d i = minus (recordAt inputs d) (times matrix (weightGiven leaves (getD first i 0)))
+  partOf d i = minus (recordAt inputs d) (paddedTimes (partCount (leaves .degree)) matrix (weightGiven leaves (getD first i 0)))
 
   pub judged-next : (made good : List ℕ) (number d g : ℕ) → Good alphabet leaves first (partOf d number) g → Judged matrix alphabet inputs leaves first made good → Judged matrix alphabet inputs leaves first (set made number (d + 1)) (set good number g)
   judged-next made good number d g new before i e is =

@@ -4,6 +4,7 @@ ghost use mathlib.Core.Bool.{true};
 ghost use mathlib.Core.List.{List};
 ghost use Prim.Native.Nat.{ℕ, _+_, _<_, _≤_, _^_};
 ghost use lib.ListN.{length, getD};
+ghost use Rattle.layout_rules.specs.Section.{ofDegree};
 ghost use Rattle.ring.specs.Tests.{Within, RowsWithin};
 ghost use Rattle.digit_rules.specs.Record.{elementCount};
 ghost use Rattle.leaf_rules.specs.Leaf.{leafCount};
@@ -12,6 +13,7 @@ ghost use Rattle.table_rules.specs.Pairs.{upperPart};
 ghost use Rattle.pair_digits.specs.Slots.{Slotted};
 ghost use Rattle.weight_sets.specs.Bits.{Has};
 ghost use Rattle.weight_sets.specs.Weights.{WeightsNumbered, Covers, Good, Judged};
+use ring::Degree;
 
 // The most different weights.
 const WEIGHTS: usize = 64;
@@ -23,18 +25,25 @@ const EMPTY: u8 = 255;
 
 // The number of a leaf's weight, of the count that are known: the one in the weight's slot, the next one where the slot is empty, or
 // too high a one where the slot has another weight.
-fn number_in(leaves: &[u8], first: &[usize], count: usize, leaf: usize, number: usize) -> usize
+fn number_in(
+    degree: Degree,
+    leaves: &[u8],
+    first: &[usize],
+    count: usize,
+    leaf: usize,
+    number: usize,
+) -> usize
     requires { ⌜ (count ≤ 64) × (count ≤ length (now first)) ⌝ }
     ensures within { λ r. ⌜ (r < 64 → r ≤ count) ⌝ }
     ensures same { λ r. ⌜ (r < count
-        → weightGiven (now (leaves .entry)) (getD (now (first .entry)) r 0) ≡ weightGiven (now (leaves .entry)) leaf) ⌝ }
+        → weightGiven (ofDegree degree (now (leaves .entry))) (getD (now (first .entry)) r 0) ≡ weightGiven (ofDegree degree (now (leaves .entry))) leaf) ⌝ }
 {
     if count <= number {
         return count;
     }
     if elements::equal(
-        leaves::weight(leaves, first[number]),
-        leaves::weight(leaves, leaf),
+        leaves::weight(degree, leaves, first[number]),
+        leaves::weight(degree, leaves, leaf),
     ) {
         return number;
     }
@@ -43,17 +52,29 @@ fn number_in(leaves: &[u8], first: &[usize], count: usize, leaf: usize, number: 
 
 // Numbers the different weights as they come up, with a leaf for each number; their count, or too high a one where there are too many
 // or two have the same slot.
-pub fn number_weights(leaves: &[u8], numbers: &mut [u8], first: &mut [usize]) -> usize
-    requires { ⌜ (leafCount (now leaves) ≤ length (now numbers)) × (64 ≤ length (now first)) ⌝ }
-    ensures { λ r. ⌜ (r ≤ 64 → WeightsNumbered (now (leaves .entry)) (now (numbers .exit)) (now (first .exit)) r (leafCount (now (leaves .entry)))) ⌝ }
+pub fn number_weights(
+    degree: Degree,
+    leaves: &[u8],
+    numbers: &mut [u8],
+    first: &mut [usize],
+) -> usize
+    requires { ⌜ (leafCount (ofDegree degree (now leaves)) ≤ length (now numbers)) × (64 ≤ length (now first)) ⌝ }
+    ensures { λ r. ⌜ (r ≤ 64 → WeightsNumbered (ofDegree degree (now (leaves .entry))) (now (numbers .exit)) (now (first .exit)) r (leafCount (ofDegree degree (now (leaves .entry))))) ⌝ }
 {
-    let leaf_count = leaves::leaf_count(leaves);
+    let leaf_count = leaves::leaf_count(degree, leaves);
     let mut slots = [EMPTY; SLOTS];
     let mut count = 0;
     let mut leaf = 0;
     while leaf < leaf_count {
-        let slot = slots::slot_of(leaves::weight(leaves, leaf));
-        let number = number_in(leaves, first, count, leaf, octets::wide(slots[slot]));
+        let slot = slots::slot_of(leaves::weight(degree, leaves, leaf));
+        let number = number_in(
+            degree,
+            leaves,
+            first,
+            count,
+            leaf,
+            octets::wide(slots[slot]),
+        );
         if WEIGHTS <= number {
             return WEIGHTS + 1;
         }
@@ -140,22 +161,23 @@ fn single_if(given: bool, number: usize) -> u64
 
 // The weights that give alphabet digits with an upper leaf's part.
 fn good_set(
+    degree: Degree,
     alphabet: &[u8],
     slots: &[u8; SLOTS],
-    part: [i64; 2],
+    part: [i64; 4],
     leaves: &[u8],
     first: &[usize],
     count: usize,
 ) -> u64
-    requires part { ⌜ Slotted (now alphabet) (now slots) × Within (2 ^ 57 + 32768) part ⌝ }
+    requires part { ⌜ Slotted (ofDegree degree (now alphabet)) (now slots) × Within (2 ^ 55 + 32768) part ⌝ }
     requires weights { ⌜ (count ≤ 64) × (count ≤ length (now first)) ⌝ }
-    ensures { λ r. ⌜ Good (now (alphabet .entry)) (now (leaves .entry)) (now (first .entry)) part r ⌝ }
+    ensures { λ r. ⌜ Good (ofDegree degree (now (alphabet .entry))) (ofDegree degree (now (leaves .entry))) (now (first .entry)) part r ⌝ }
 {
     let mut good = 0;
     let mut number = 0;
     while number < count {
         let leaf = first[number];
-        let given = pair_digits::gives_digit(alphabet, true, slots, part, leaves, leaf);
+        let given = pair_digits::gives_digit(degree, alphabet, true, slots, part, leaves, leaf);
         good = good | single_if(given, number);
         number += 1;
     }
@@ -164,7 +186,8 @@ fn good_set(
 
 // The same, judged once for each first digit and weight of an upper leaf: leaves come in the order of their first digits.
 pub fn judged(
-    base: [[i64; 2]; 2],
+    degree: Degree,
+    base: [[i64; 4]; 4],
     alphabet: &[u8],
     slots: &[u8; SLOTS],
     inputs: &[u8],
@@ -177,22 +200,22 @@ pub fn judged(
     made: &mut [usize; WEIGHTS],
     good: &mut [u64; WEIGHTS],
 ) -> u64
-    requires part { ⌜ RowsWithin (2 ^ 24) base × Slotted (now alphabet) (now slots)
-        × (getD (wordGiven (now leaves) (now words) upper) 0 0 < elementCount (now inputs)) ⌝ }
+    requires part { ⌜ RowsWithin (2 ^ 21) base × Slotted (ofDegree degree (now alphabet)) (now slots)
+        × (getD (wordGiven (ofDegree degree (now leaves)) (now words) upper) 0 0 < elementCount (ofDegree degree (now inputs))) ⌝ }
     requires number { ⌜ (number < 64) × (count ≤ 64) × (count ≤ length (now first))
-        × (weightGiven (now leaves) (getD (now first) number 0) ≡ weightGiven (now leaves) upper) ⌝ }
-    requires kept { ⌜ Judged base (now alphabet) (now inputs) (now leaves) (now first) (now made) (now good) ⌝ }
-    ensures good { λ r. ⌜ Good (now (alphabet .entry)) (now (leaves .entry)) (now (first .entry))
-        (upperPart base (now (inputs .entry)) (now (leaves .entry)) (now (words .entry)) upper) r ⌝ }
-    ensures kept { λ r. ⌜ Judged base (now (alphabet .entry)) (now (inputs .entry)) (now (leaves .entry)) (now (first .entry))
+        × (weightGiven (ofDegree degree (now leaves)) (getD (now first) number 0) ≡ weightGiven (ofDegree degree (now leaves)) upper) ⌝ }
+    requires kept { ⌜ Judged base (ofDegree degree (now alphabet)) (ofDegree degree (now inputs)) (ofDegree degree (now leaves)) (now first) (now made) (now good) ⌝ }
+    ensures good { λ r. ⌜ Good (ofDegree degree (now (alphabet .entry))) (ofDegree degree (now (leaves .entry))) (now (first .entry))
+        (upperPart base (ofDegree degree (now (inputs .entry))) (ofDegree degree (now (leaves .entry))) (now (words .entry)) upper) r ⌝ }
+    ensures kept { λ r. ⌜ Judged base (ofDegree degree (now (alphabet .entry))) (ofDegree degree (now (inputs .entry))) (ofDegree degree (now (leaves .entry))) (now (first .entry))
         (now (made .exit)) (now (good .exit)) ⌝ }
 {
-    let digit = octets::wide(octets::byte_at(leaves::word(leaves, words, upper), 0)) + 1;
+    let digit = octets::wide(octets::byte_at(leaves::word(degree, leaves, words, upper), 0)) + 1;
     if made[number] == digit {
         return good[number];
     }
-    let part = pair_digits::upper_part(base, inputs, leaves, words, upper);
-    let set = good_set(alphabet, slots, part, leaves, first, count);
+    let part = pair_digits::upper_part(degree, base, inputs, leaves, words, upper);
+    let set = good_set(degree, alphabet, slots, part, leaves, first, count);
     good[number] = set;
     made[number] = digit;
     set

@@ -1,31 +1,74 @@
--- Each part widened to 64 bits.
-use mathlib.Core.Path.{refl, ap, _∙_}
+-- Each part widened to 64 bits, and as many written as the degree says.
+use mathlib.Core.List.{List, _∷_}
+use mathlib.Core.Path.{_≡_, refl, sym, ap, _∙_}
+use Prim.Native.Nat.{ℕ, _+_}
+use native.Mathlib.Numerals.{add-one}
+use native.Mathlib.Omega.{arith}
+use lib.IntN.{ℤ}
+use lib.ListN.{take, length-take}
+use lib.Seq.{length-take-le}
+use borrow.Author.Needs.{needs}
 use Rattle.lists.proofs.Cons.{cons≡}
 use Rattle.lists.specs.Overwrite.{overwrite}
+use Rattle.ring.specs.Degree.{partCount}
 use Rattle.answer_rules.proofs.Bits.{narrow-fits, widened}
-use borrow.Author.Needs.{needs}
 use Rattle.answer_words.proofs.put_element.Statement.{statement}
 use Rattle.answer_words.proofs.put_element.Tie as tie
 
+-- a word and the first n behind it
+first-words : (n d : ℕ) (head : ℤ) (words parts : List ℤ) → n ≡ d → words ≡ parts → take (n + 1) (head ∷ words) ≡ head ∷ take d parts
+first-words n d head words parts counts are = rw (add-one n, counts, are)
+
+cast-t6 : tie.Need-cast-t6
+cast-t6 c = narrow-fits (c .before .before .args .x .a) (search needs)
+
 cast-t7 : tie.Need-cast-t7
-cast-t7 c = narrow-fits (c .before .before .before .args .x .a) (search needs)
+cast-t7 c = narrow-fits (c .before .before .before .before .args .x .b) (search needs)
 
 cast-t8 : tie.Need-cast-t8
-cast-t8 c = narrow-fits (c .before .before .before .before .before .args .x .b) (search needs)
+cast-t8 c = narrow-fits (c .before .before .before .before .before .before .args .x .c) (search needs)
+
+cast-t9 : tie.Need-cast-t9
+cast-t9 c = narrow-fits (c .before .before .before .before .before .before .before .before .args .x .d) (search needs)
+
+part-count-requires : tie.Need-part-count-requires
+part-count-requires c κs = search needs
+
+add-end : tie.Need-add-end
+add-end c = omega (arith, c .part-count .ensures .1)
+
+array-share-prefix-words : tie.Need-array-share-prefix-words
+array-share-prefix-words c = omega (arith, c .before .part-count .ensures .1)
 
 slice-aggregate-put : tie.Need-slice-aggregate-put
-slice-aggregate-put c = search needs
+slice-aggregate-put c = sym (length-take-le _ _ (omega (arith, c .before .before .part-count .ensures .1)))
 
 put-requires : tie.Need-put-requires
-put-requires c κs = search needs
+put-requires c κs = simp length-take (omega (arith, c .before .before .part-count .ensures .1, c .before .before .before .before .before .before .before .before .before .before .before .pre))
 
 same-length : tie.Need-same-length
 same-length c = search needs
 
 returns : tie.Need-returns
 returns c =
-    (refl, c .before .put .ensures ∙ ap (overwrite (c .before .before .before .before .before .before .before .before .args .answer .now) 0) (cons≡ refl (cons≡ (widened (c .before .before .before .before .before .before .before .before .args .x .a) (search needs)) (cons≡ (widened (c .before .before .before .before .before .before .before .before .args .x .b) (search needs)) refl))))
+    let s = c .before .before .before .before .before .before .before .before .before .before .before .before .before in
+    let x = s .args .x in
+    let count = c .before .before .before .before .part-count in
+    let wide = cons≡ (widened (x .a) (search needs)) (cons≡ (widened (x .b) (search needs)) (cons≡ (widened (x .c) (search needs)) (cons≡ (widened (x .d) (search needs)) refl))) in
+    (refl, c .before .put .ensures ∙ ap (overwrite (s .args .answer .now) 0) (first-words (count .result) (partCount (s .args .degree)) _ _ _ (count .ensures .0) wide))
 
 pub put-element-spec : {M : Type 1} → statement M
 put-element-spec =
-    tie.close (tie.spec cast-t7 cast-t8 slice-aggregate-put put-requires same-length returns)
+    tie.close
+    (tie.spec
+    cast-t6
+    cast-t7
+    cast-t8
+    cast-t9
+    part-count-requires
+    add-end
+    array-share-prefix-words
+    slice-aggregate-put
+    put-requires
+    same-length
+    returns)

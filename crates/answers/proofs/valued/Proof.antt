@@ -26,7 +26,7 @@ same-length c = search needs
 returns : tie.Need-returns
 returns c =
     let f = c .before .before .before .before .given .given in
-    facts-told elementWords (valuedAs (c .before .before .before .before .before .before .args .given)) (c .before .before .before .before .before .before .args .answer .now) (parts (f .0 .0)) _ _ (ap valuedAs (f .1)) (c .before .put-element .ensures .0) (c .before .put-element .ensures .1)
+    facts-told (elementWords (c .before .before .before .before .before .before .args .degree)) (valuedAs (c .before .before .before .before .before .before .args .given)) (c .before .before .before .before .before .before .args .answer .now) (parts (f .0 .0)) _ _ (ap valuedAs (f .1)) (c .before .put-element .ensures .0) (c .before .put-element .ensures .1)
 
 same-length-2 : tie.Need-same-length-2
 same-length-2 c = search needs
@@ -34,7 +34,7 @@ same-length-2 c = search needs
 returns-2 : tie.Need-returns-2
 returns-2 c =
     let f = c .before .before .before .before .given2 .given in
-    fault-told elementWords (valuedAs (c .before .before .before .before .before .before .args .given)) (c .before .before .before .before .before .before .args .answer .now) (f .0 .0) _ _ (ap valuedAs (f .1)) (c .before .refuse .ensures .0) (c .before .refuse .ensures .1)
+    fault-told (elementWords (c .before .before .before .before .before .before .args .degree)) (valuedAs (c .before .before .before .before .before .before .args .given)) (c .before .before .before .before .before .before .args .answer .now) (f .0 .0) _ _ (ap valuedAs (f .1)) (c .before .refuse .ensures .0) (c .before .refuse .ensures .1)
 
 pub valued-spec : {M : Type 1} → statement M
 valued-spec =

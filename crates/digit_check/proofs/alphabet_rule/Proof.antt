@@ -4,6 +4,7 @@ use Prim.Native.Nat.{_≤_, _-_}
 use native.Mathlib.Nat.{sub-zero}
 use borrow.Author.Tests.{not-true, not-false}
 use borrow.Author.Needs.{needs}
+use Rattle.layout_rules.specs.Section.{ofDegree}
 use Rattle.lists.proofs.Scan.{scan-on}
 use Rattle.lists.specs.Scan.{firstFailing}
 use Rattle.faults.proofs.Check.{judge-here, judge-out}
@@ -13,10 +14,10 @@ use Rattle.digit_check.proofs.alphabet_rule.Statement.{statement}
 use Rattle.digit_check.proofs.alphabet_rule.Tie as tie
 
 abbrev Inv-loop : tie.InvT-loop
-Inv-loop alphabet count digit₀ digit = (digit ≤ count) × (firstFailing (recordAllowed alphabet) digit (count - digit) ≡ firstFailing (recordAllowed alphabet) 0 count)
+Inv-loop degree alphabet count digit₀ digit = (digit ≤ count) × (firstFailing (recordAllowed (ofDegree degree alphabet)) digit (count - digit) ≡ firstFailing (recordAllowed (ofDegree degree alphabet)) 0 count)
 
 abbrev μ-loop : tie.MeasureT-loop
-μ-loop alphabet count digit₀ digit = count - digit
+μ-loop degree alphabet count digit₀ digit = count - digit
 
 record-count-requires : tie.Need-record-count-requires Inv-loop μ-loop
 record-count-requires c κs = search needs

@@ -1,4 +1,5 @@
 -- A scan over the alphabet digits: those that are left give the answer of all of them.
+use Rattle.layout_rules.specs.Section.{ofDegree}
 use Rattle.digit_rules.specs.Digits.{pairsListed}
 use Rattle.lists.specs.Scan.{firstFailing}
 use Rattle.lists.proofs.Scan.{scan-on, scan-here, scan-out}
@@ -12,10 +13,10 @@ use Rattle.digit_check.proofs.first_unlisted.Statement.{statement}
 use Rattle.digit_check.proofs.first_unlisted.Tie as tie
 
 abbrev Inv-loop : tie.InvT-loop
-Inv-loop operation alphabet inputs n i₀ i = (i ≤ n) × (firstFailing (pairsListed operation alphabet inputs) i (n - i) ≡ firstFailing (pairsListed operation alphabet inputs) 0 n)
+Inv-loop degree operation alphabet inputs n i₀ i = (i ≤ n) × (firstFailing (pairsListed operation (ofDegree degree alphabet) (ofDegree degree inputs)) i (n - i) ≡ firstFailing (pairsListed operation (ofDegree degree alphabet) (ofDegree degree inputs)) 0 n)
 
 abbrev μ-loop : tie.MeasureT-loop
-μ-loop operation alphabet inputs n i₀ i = n - i
+μ-loop degree operation alphabet inputs n i₀ i = n - i
 
 record-count-requires : tie.Need-record-count-requires Inv-loop μ-loop
 record-count-requires c κs = search needs

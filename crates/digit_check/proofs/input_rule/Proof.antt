@@ -3,16 +3,17 @@ use Prim.Native.Nat.{_≤_, _-_}
 use native.Mathlib.Nat.{sub-zero}
 use borrow.Author.Tests.{not-true, not-false}
 use borrow.Author.Needs.{needs}
+use Rattle.layout_rules.specs.Section.{ofDegree}
 use Rattle.digit_rules.proofs.Allowed.{Passed, input-broken, input-on, only-missing, inputs-kept, some-unlisted, none-unlisted}
 use Rattle.ring.specs.declared.Operation.the-variants.{Plus}
 use Rattle.digit_check.proofs.input_rule.Statement.{statement}
 use Rattle.digit_check.proofs.input_rule.Tie as tie
 
 abbrev Inv-loop : tie.InvT-loop
-Inv-loop alphabet inputs count input₀ input = (input ≤ count) × Passed alphabet inputs count input
+Inv-loop degree alphabet inputs count input₀ input = (input ≤ count) × Passed (ofDegree degree alphabet) (ofDegree degree inputs) count input
 
 abbrev μ-loop : tie.MeasureT-loop
-μ-loop alphabet inputs count input₀ input = count - input
+μ-loop degree alphabet inputs count input₀ input = count - input
 
 inputs-kept-requires : tie.Need-inputs-kept-requires Inv-loop μ-loop
 inputs-kept-requires c κs = search needs

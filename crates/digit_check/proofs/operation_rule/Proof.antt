@@ -1,4 +1,5 @@
 -- By the operation.
+use Rattle.layout_rules.specs.Section.{ofDegree}
 use Rattle.digit_rules.specs.Digits.{operationCheck}
 use Rattle.ring.specs.declared.Operation.{Operation}
 use mathlib.Core.Path.{sym, ap, _∙_}
@@ -17,10 +18,10 @@ difference-rule-requires c κs = search needs
 
 returns : tie.Need-returns
 unfolding operationCheck
-returns c = ap (λ (o : Operation). operationCheck o (c .before .before .before .before .args .alphabet .now) (c .before .before .before .before .args .inputs .now)) (sym (c .enum-told .given .1))
+returns c = ap (λ (o : Operation). operationCheck o (ofDegree (c .before .before .before .before .args .degree) (c .before .before .before .before .args .alphabet .now)) (ofDegree (c .before .before .before .before .args .degree) (c .before .before .before .before .args .inputs .now))) (sym (c .enum-told .given .1))
 
 returns-2 : tie.Need-returns-2
-returns-2 c = c .difference-rule .ensures ∙ ap (λ (o : Operation). operationCheck o (c .before .before .before .before .before .args .alphabet .now) (c .before .before .before .before .before .args .inputs .now)) (sym (c .before .enum-told2 .given .1))
+returns-2 c = c .difference-rule .ensures ∙ ap (λ (o : Operation). operationCheck o (ofDegree (c .before .before .before .before .before .args .degree) (c .before .before .before .before .before .args .alphabet .now)) (ofDegree (c .before .before .before .before .before .args .degree) (c .before .before .before .before .before .args .inputs .now))) (sym (c .before .enum-told2 .given .1))
 
 pub operation-rule-spec : {M : Type 1} → statement M
 operation-rule-spec =

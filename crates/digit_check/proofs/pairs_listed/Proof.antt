@@ -1,4 +1,5 @@
 -- A scan over the digits that one is taken with: those that are left give the answer of all of them.
+use Rattle.layout_rules.specs.Section.{ofDegree}
 use Rattle.digit_rules.proofs.Sums.{partners-most, pairs-by}
 use Rattle.digit_rules.proofs.Allowed.{pair-missing, pair-there}
 use Rattle.digit_rules.specs.Digits.{pairListed}
@@ -13,10 +14,10 @@ use Rattle.digit_check.proofs.pairs_listed.Statement.{statement}
 use Rattle.digit_check.proofs.pairs_listed.Tie as tie
 
 abbrev Inv-loop : tie.InvT-loop
-Inv-loop operation alphabet inputs i n count end j₀ j = (j ≤ end) × (firstFailing (pairListed operation alphabet inputs i) j (end - j) ≡ firstFailing (pairListed operation alphabet inputs i) 0 end)
+Inv-loop degree operation alphabet inputs i n count end j₀ j = (j ≤ end) × (firstFailing (pairListed operation (ofDegree degree alphabet) (ofDegree degree inputs) i) j (end - j) ≡ firstFailing (pairListed operation (ofDegree degree alphabet) (ofDegree degree inputs) i) 0 end)
 
 abbrev μ-loop : tie.MeasureT-loop
-μ-loop operation alphabet inputs i n count end j₀ j = end - j
+μ-loop degree operation alphabet inputs i n count end j₀ j = end - j
 
 record-count-requires : tie.Need-record-count-requires Inv-loop μ-loop
 record-count-requires c κs = search needs

@@ -2,6 +2,7 @@
 use mathlib.Core.Path.{refl}
 use Prim.Native.Nat.{_≤_, _-_}
 use native.Mathlib.Omega.{arith}
+use Rattle.layout_rules.specs.Section.{ofDegree}
 use Rattle.lists.proofs.Test.{clash}
 use borrow.Author.Tests.{not-false}
 use Rattle.digit_sums.specs.Marks.{located}
@@ -11,10 +12,10 @@ use Rattle.digit_sums.proofs.each_found.Statement.{statement}
 use Rattle.digit_sums.proofs.each_found.Tie as tie
 
 abbrev Inv-loop : tie.InvT-loop
-Inv-loop inputs heads links marks count k₀ k = (k ≤ count) × FoundBefore inputs (located inputs heads links) k
+Inv-loop degree inputs heads links marks count k₀ k = (k ≤ count) × FoundBefore (ofDegree degree inputs) (located (ofDegree degree inputs) heads links) k
 
 abbrev μ-loop : tie.MeasureT-loop
-μ-loop inputs heads links marks count k₀ k = count - k
+μ-loop degree inputs heads links marks count k₀ k = count - k
 
 record-count-requires : tie.Need-record-count-requires Inv-loop μ-loop
 record-count-requires c κs = search needs
@@ -37,7 +38,7 @@ loop-less c = omega arith
 loop-again : tie.Need-loop-again Inv-loop μ-loop
 loop-again c =
     let a = c .before .before .before .before .before .before .args in
-    (omega arith, found-next (a .inputs .now) (located (a .inputs .now) (a .heads .now) (a .links .now)) _ (c .before .before .before .loop .inv .1) (c .before .found-at .ensures (not-false _ (c .if1 .left))))
+    (omega arith, found-next (ofDegree (a .degree) (a .inputs .now)) (located (ofDegree (a .degree) (a .inputs .now)) (a .heads .now) (a .links .now)) _ (c .before .before .before .loop .inv .1) (c .before .found-at .ensures (not-false _ (c .if1 .left))))
 
 returns-2 : tie.Need-returns-2 Inv-loop μ-loop
 returns-2 c = λ yes k h. c .before .loop .inv .1 k (omega (arith, c .before .before .record-count .ensures))

@@ -1,4 +1,5 @@
 -- What is found from here with so many links left is what is found from the first one.
+use Rattle.layout_rules.specs.Section.{ofDegree}
 use Rattle.digit_sums.proofs.Marks.{follow-out, follow-here, follow-on, follow-end}
 use Rattle.digit_sums.specs.Marks.{followed}
 use denote.Ref.{now}
@@ -10,10 +11,10 @@ use Rattle.digit_sums.proofs.follow.Statement.{statement}
 use Rattle.digit_sums.proofs.follow.Tie as tie
 
 abbrev Inv-loop : tie.InvT-loop
-Inv-loop inputs links first x count at₀ left₀ at left = (left ≤ 136) × (followed inputs links x left at ≡ followed inputs links x 136 first)
+Inv-loop degree inputs links first x count at₀ left₀ at left = (left ≤ 136) × (followed (ofDegree degree inputs) links x left at ≡ followed (ofDegree degree inputs) links x 136 first)
 
 abbrev μ-loop : tie.MeasureT-loop
-μ-loop inputs links first x count at₀ left₀ at left = left
+μ-loop degree inputs links first x count at₀ left₀ at left = left
 
 record-count-requires : tie.Need-record-count-requires Inv-loop μ-loop
 record-count-requires c κs = search needs

@@ -19,7 +19,7 @@ record-at-requires : tie.Need-record-at-requires
 record-at-requires c κs = search needs
 
 locate-requires : tie.Need-locate-requires
-locate-requires c κs = (c .before .before .before .before .pre .0 .1, within-le 32768 (2 ^ 58) _ (omega arith) (c .record-at .ensures .1))
+locate-requires c κs = (c .before .before .before .before .pre .0 .1, within-le 32768 (2 ^ 56) _ (omega arith) (c .record-at .ensures .1))
 
 returns-2 : tie.Need-returns-2
 returns-2 c = λ yes. sym (ap (located _ _ _) (c .before .record-at .ensures .0)) ∙ sym (c .locate .ensures) ∙ eqb-true _ _ yes

@@ -7,10 +7,10 @@ use Rattle.digit_sums.proofs.link.Statement.{statement}
 use Rattle.digit_sums.proofs.link.Tie as tie
 
 abbrev Inv-loop : tie.InvT-loop
-Inv-loop inputs heads₀ links₀ count k₀ heads links k = k ≤ count
+Inv-loop degree inputs heads₀ links₀ count k₀ heads links k = k ≤ count
 
 abbrev μ-loop : tie.MeasureT-loop
-μ-loop inputs heads₀ links₀ count k₀ heads links k = count - k
+μ-loop degree inputs heads₀ links₀ count k₀ heads links k = count - k
 
 record-count-requires : tie.Need-record-count-requires Inv-loop μ-loop
 record-count-requires c κs = search needs
@@ -22,7 +22,7 @@ record-at-requires : tie.Need-record-at-requires Inv-loop μ-loop
 record-at-requires c κs = search needs
 
 slot-of-requires : tie.Need-slot-of-requires Inv-loop μ-loop
-slot-of-requires c κs = within-le 32768 (2 ^ 58) _ (omega arith) (c .record-at .ensures .1)
+slot-of-requires c κs = within-le 32768 (2 ^ 56) _ (omega arith) (c .record-at .ensures .1)
 
 element-copy-out-links : tie.Need-element-copy-out-links Inv-loop μ-loop
 element-copy-out-links c = omega (arith, c .slot-of .ensures .1)

@@ -4,6 +4,7 @@ use Prim.Native.Nat.{_≤_, _-_}
 use native.Mathlib.Omega.{arith}
 use native.Mathlib.Nat.{sub-zero}
 use borrow.Author.Tests.{not-false}
+use Rattle.layout_rules.specs.Section.{ofDegree}
 use Rattle.lists.proofs.Scan.{scan-on, every-out}
 use Rattle.lists.proofs.Test.{clash}
 use Rattle.lists.specs.Scan.{firstFailing, every}
@@ -15,10 +16,10 @@ use Rattle.digit_sums.proofs.mark_all.Statement.{statement}
 use Rattle.digit_sums.proofs.mark_all.Tie as tie
 
 abbrev Inv-loop : tie.InvT-loop
-Inv-loop operation alphabet inputs heads links marks₀ n i₀ marks i = (i ≤ n) × (firstFailing (pairsListed operation alphabet inputs) i (n - i) ≡ firstFailing (pairsListed operation alphabet inputs) 0 n) × Marked inputs (located inputs heads links) marks
+Inv-loop degree operation alphabet inputs heads links marks₀ n i₀ marks i = (i ≤ n) × (firstFailing (pairsListed operation (ofDegree degree alphabet) (ofDegree degree inputs)) i (n - i) ≡ firstFailing (pairsListed operation (ofDegree degree alphabet) (ofDegree degree inputs)) 0 n) × Marked (ofDegree degree inputs) (located (ofDegree degree inputs) heads links) marks
 
 abbrev μ-loop : tie.MeasureT-loop
-μ-loop operation alphabet inputs heads links marks₀ n i₀ marks i = n - i
+μ-loop degree operation alphabet inputs heads links marks₀ n i₀ marks i = n - i
 
 record-count-requires : tie.Need-record-count-requires Inv-loop μ-loop
 record-count-requires c κs = search needs

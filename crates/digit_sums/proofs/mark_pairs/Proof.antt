@@ -4,6 +4,7 @@ use mathlib.Core.Path.{_≡_, refl, sym, _∙_}
 use Prim.Native.Nat.{_≤_, _-_, _^_}
 use native.Mathlib.Omega.{arith}
 use native.Mathlib.Nat.{sub-zero}
+use Rattle.layout_rules.specs.Section.{ofDegree}
 use Rattle.lists.proofs.Scan.{scan-on, every-out}
 use Rattle.lists.proofs.Test.{clash}
 use Rattle.lists.specs.Scan.{firstFailing}
@@ -15,10 +16,10 @@ use Rattle.digit_sums.proofs.mark_pairs.Statement.{statement}
 use Rattle.digit_sums.proofs.mark_pairs.Tie as tie
 
 abbrev Inv-loop : tie.InvT-loop
-Inv-loop operation alphabet inputs heads links i end marks₀ count other₀ marks other = (other ≤ end) × (firstFailing (pairListed operation alphabet inputs i) other (end - other) ≡ firstFailing (pairListed operation alphabet inputs i) 0 end) × Marked inputs (located inputs heads links) marks
+Inv-loop degree operation alphabet inputs heads links i end marks₀ count other₀ marks other = (other ≤ end) × (firstFailing (pairListed operation (ofDegree degree alphabet) (ofDegree degree inputs) i) other (end - other) ≡ firstFailing (pairListed operation (ofDegree degree alphabet) (ofDegree degree inputs) i) 0 end) × Marked (ofDegree degree inputs) (located (ofDegree degree inputs) heads links) marks
 
 abbrev μ-loop : tie.MeasureT-loop
-μ-loop operation alphabet inputs heads links i end marks₀ count other₀ marks other = end - other
+μ-loop degree operation alphabet inputs heads links i end marks₀ count other₀ marks other = end - other
 
 record-count-requires : tie.Need-record-count-requires Inv-loop μ-loop
 record-count-requires c κs = search needs
@@ -30,7 +31,7 @@ combined-requires : tie.Need-combined-requires Inv-loop μ-loop
 combined-requires c κs = (c .before .before .before .before .before .pre .0 .0, omega (arith, c .before .before .before .before .before .pre .0 .1))
 
 locate-requires : tie.Need-locate-requires Inv-loop μ-loop
-locate-requires c κs = (c .before .before .before .before .before .before .pre .0 .2, within-le 65536 (2 ^ 58) _ (omega arith) (c .combined .ensures .1))
+locate-requires c κs = (c .before .before .before .before .before .before .pre .0 .2, within-le 65536 (2 ^ 56) _ (omega arith) (c .combined .ensures .1))
 
 returns : tie.Need-returns Inv-loop μ-loop
 returns c = (λ no. clash no refl, c .before .before .before .before .loop .inv .2)

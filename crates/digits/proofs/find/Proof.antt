@@ -3,6 +3,7 @@ use mathlib.Core.Path.{_≡_, sym, _∙_}
 use Prim.Native.Nat.{_≤_, _-_}
 use native.Mathlib.Nat.{sub-zero}
 use borrow.Author.Needs.{needs}
+use Rattle.layout_rules.specs.Section.{ofDegree}
 use Rattle.lists.proofs.Scan.{scan-on, scan-here, scan-out}
 use Rattle.lists.specs.Scan.{firstFailing}
 use Rattle.digit_rules.specs.Digits.{indexIn}
@@ -11,10 +12,10 @@ use Rattle.digits.proofs.find.Statement.{statement}
 use Rattle.digits.proofs.find.Tie as tie
 
 abbrev Inv-loop : tie.InvT-loop
-Inv-loop part n x k₀ k = (k ≤ n) × (firstFailing (differs part x) k (n - k) ≡ firstFailing (differs part x) 0 n)
+Inv-loop degree part n x k₀ k = (k ≤ n) × (firstFailing (differs (ofDegree degree part) x) k (n - k) ≡ firstFailing (differs (ofDegree degree part) x) 0 n)
 
 abbrev μ-loop : tie.MeasureT-loop
-μ-loop part n x k₀ k = n - k
+μ-loop degree part n x k₀ k = n - k
 
 loop-holds : tie.Need-loop-holds Inv-loop μ-loop
 loop-holds c = (search needs, simp sub-zero)

@@ -1,6 +1,7 @@
 -- A scan over the five lengths names the first that isn't allowed.
 use native.Mathlib.Omega.{arith}
 use Rattle.layout_rules.specs.Length.{sectionAllowed, lengthCheck}
+use Rattle.layout_rules.proofs.Length.{section-judged}
 use Rattle.faults.proofs.Check.{judge-here, judge-out}
 use Rattle.lists.proofs.Scan.{scan-on}
 use Rattle.lists.specs.Scan.{firstFailing}
@@ -11,10 +12,16 @@ use Rattle.directory.proofs.lengths.Statement.{statement}
 use Rattle.directory.proofs.lengths.Tie as tie
 
 abbrev Inv-loop : tie.InvT-loop
-Inv-loop given section₀ section = (section ≤ 5) × (firstFailing (sectionAllowed given) section (5 - section) ≡ firstFailing (sectionAllowed given) 0 5)
+Inv-loop given degree section₀ section = (section ≤ 5) × (firstFailing (sectionAllowed given) section (5 - section) ≡ firstFailing (sectionAllowed given) 0 5)
 
 abbrev μ-loop : tie.MeasureT-loop
-μ-loop given section₀ section = 5 - section
+μ-loop given degree section₀ section = 5 - section
+
+array-read-degree-of : tie.Need-array-read-degree-of Inv-loop μ-loop
+array-read-degree-of c = omega arith
+
+degree-of-requires : tie.Need-degree-of-requires Inv-loop μ-loop
+degree-of-requires c κs = tt
 
 loop-holds : tie.Need-loop-holds Inv-loop μ-loop
 loop-holds c = (omega arith, refl)
@@ -30,7 +37,7 @@ length-allowed-requires c κs = omega arith
 
 returns : tie.Need-returns Inv-loop μ-loop
 unfolding lengthCheck
-returns c = judge-here 3 (λ k. k) _ 5 _ (c .before .before .before .loop .inv .1) (c .before .before .loop-test .taken) (sym (c .before .length-allowed .ensures) ∙ not-true _ (c .if1 .taken))
+returns c = judge-here 3 (λ k. k) _ 5 _ (c .before .before .before .loop .inv .1) (c .before .before .loop-test .taken) (sym (section-judged (c .before .before .before .before .before .args .t1) _ _ _ (c .before .before .before .before .degree-of .ensures) (c .before .length-allowed .ensures)) ∙ not-true _ (c .if1 .taken))
 
 add-section : tie.Need-add-section Inv-loop μ-loop
 add-section c = omega arith
@@ -39,7 +46,7 @@ loop-less : tie.Need-loop-less Inv-loop μ-loop
 loop-less c = omega arith
 
 loop-again : tie.Need-loop-again Inv-loop μ-loop
-loop-again c = (omega arith, sym (scan-on _ _ 5 (c .before .before .loop-test .taken) (sym (c .before .length-allowed .ensures) ∙ not-false _ (c .if1 .left))) ∙ c .before .before .before .loop .inv .1)
+loop-again c = (omega arith, sym (scan-on _ _ 5 (c .before .before .loop-test .taken) (sym (section-judged (c .before .before .before .before .before .args .t1) _ _ _ (c .before .before .before .before .degree-of .ensures) (c .before .length-allowed .ensures)) ∙ not-false _ (c .if1 .left))) ∙ c .before .before .before .loop .inv .1)
 
 returns-2 : tie.Need-returns-2 Inv-loop μ-loop
 unfolding lengthCheck
@@ -51,6 +58,8 @@ lengths-spec =
     (tie.spec
     Inv-loop
     μ-loop
+    array-read-degree-of
+    degree-of-requires
     loop-holds
     mul-length-allowed
     array-read-length-allowed

@@ -1,137 +1,64 @@
--- The part without ω, the sign and the part with ω, one behind the other; a whole number is its decimal text.
-use Rattle.lists.proofs.Pieces.{last, next, put-all}
-use Rattle.listing_rules.proofs.Element.{element-whole, element-both}
-use Rattle.listing_rules.specs.Element.{omegaText, realText, signText, elementText}
-use Rattle.ring.proofs.Parts.{entry}
-use Rattle.text_rules.specs.Decimal.{decimalZ}
-use Rattle.ring.specs.Element.{part}
-use Rattle.integers.proofs.Machine.{Term, plain-fits, stored-is, stored-below}
-use mir.Val.{toZ, ofZ}
-use mir.Syntax.{w32, w64}
-use lib.ListN.{length, length-append}
-use lib.IntN.{ℤ, natAbs}
+-- The parts, or a 0 where none of them was written.
+use mathlib.Core.Path.{_≡_, ap, _∙_}
+use mathlib.Core.List.{List, [], _∷_}
+use Prim.Native.Nat.{ℕ}
 use native.Mathlib.Omega.{arith}
-use Prim.Native.Nat.{ℕ, _+_}
-use mathlib.Core.List.{List, _++_}
-use mathlib.Core.Path.{_≡_, refl, sym, ap, _∙_}
+use lib.ListN.{length}
+use Rattle.text_rules.specs.Bytes.{bytesOf}
+use Rattle.listing_rules.specs.Element.{partsText}
+use Rattle.listing_rules.proofs.Element.{element-none, element-some, element-room}
+use Rattle.lists.proofs.Pieces.{Put}
+use Rattle.lists.proofs.Overwrite.{overwrite-none}
+use Rattle.listing_rules.specs.Element.{elementText}
 use borrow.Author.Needs.{needs}
 use Rattle.element_text.proofs.put_element.Statement.{statement}
 use Rattle.element_text.proofs.put_element.Tie as tie
 
--- a part as the machine has it, in 64 bits and cast to 32
-module _ (s : tie.Start) (k : ℕ) where
-  abbrev at : Term
-  at = entry 32768 (s .args .t3) (s .pre .1) k
+-- nothing was written
+emptied : (s t a : List ℕ) (p q : ℕ) → Put s t p q a → length a ≡ 0 → t ≡ s
+emptied s t [] p q w h = w .1 ∙ overwrite-none s p
+emptied s t (b ∷ a) p q w h = absurd (omega arith)
 
-  held : toZ w64 (ofZ w64 (part (s .args .t3) k)) ≡ part (s .args .t3) k
-  held = stored-is w64 at refl
+module _ (d : tie.After-put-parts) (taken : d .put-parts .result ≡ d .before .before .before .args .at) where
+  none : length (partsText (d .before .before .before .args .x) 4) ≡ 0
+  none = omega (arith, d .put-parts .ensures .0)
 
-  narrow : toZ w32 (ofZ w32 (toZ w64 (ofZ w64 (part (s .args .t3) k)))) ≡ part (s .args .t3) k
-  narrow = ap (λ z. toZ w32 (ofZ w32 z)) held ∙ stored-is w32 at refl
+  nothing : elementText (d .before .before .before .args .x) ≡ bytesOf "0"
+  nothing = element-none (d .before .before .before .args .x) none
 
--- the text by the size of the part with ω, as it was found
-module _ (d : tie.After-size) where
-  abbrev st : tie.Start
-  st = d .before .before .before .before .before
+put-parts-requires : tie.Need-put-parts-requires
+put-parts-requires c κs = (omega (arith, element-room (c .before .before .args .x), c .before .before .pre .0), c .before .before .pre .1)
 
-  abbrev x : List ℤ
-  x = st .args .t3
+slice-aggregate-put : tie.Need-slice-aggregate-put
+slice-aggregate-put c = search needs
 
-  size-is : d .size .result ≡ natAbs (part x 1)
-  size-is = d .size .ensures ∙ ap natAbs (held st 1)
-
-  whole : d .size .result ≡ 0 → elementText x ≡ decimalZ (part x 0)
-  whole none = element-whole x (sym size-is ∙ none)
-
-  abbrev real : List ℕ
-  real = realText (part x 0)
-
-  abbrev sign : List ℕ
-  sign = signText (part x 0) (part x 1)
-
-  abbrev omegas : List ℕ
-  omegas = omegaText (d .size .result)
-
-  module _ (some : d .size .result ≡ 0 → ⊥) where
-    both : elementText x ≡ real ++ (sign ++ omegas)
-    both = element-both x (d .size .result) size-is some
-
-    lengths : length (elementText x) ≡ length real + (length sign + length omegas)
-    lengths =
-        ap length both ∙ length-append real (sign ++ omegas) ∙ ap (λ (k : ℕ). length real + k) (length-append sign omegas)
-
-array-copy-out-a : tie.Need-array-copy-out-a
-array-copy-out-a c = search needs
-
-cast-a : tie.Need-cast-a
-cast-a c = rw (held (c .before .before) 0) (plain-fits w32 (at (c .before .before) 0) refl)
-
-array-copy-out-b : tie.Need-array-copy-out-b
-array-copy-out-b c = search needs
-
-cast-b : tie.Need-cast-b
-cast-b c = rw (held (c .before .before .before) 1) (plain-fits w32 (at (c .before .before .before) 1) refl)
-
-array-copy-out-size : tie.Need-array-copy-out-size
-array-copy-out-size c = search needs
-
-size-requires : tie.Need-size-requires
-size-requires c κs = stored-below w64 (at (c .before .before .before .before) 1) refl
-
-put-signed-requires : tie.Need-put-signed-requires
-put-signed-requires c κs = rw (narrow (c .before .before .before .before .before .before .before) 0) (omega (arith, c .before .before .before .before .before .before .before .pre .0, ap length (whole (c .before .before) (c .before .if1 .taken))))
+put-requires : tie.Need-put-requires
+unfolding bytesOf
+put-requires c κs = omega (arith, c .before .before .before .before .before .before .before .before .pre .0, ap length (nothing (c .before .before .before .before .before) (c .before .before .if1 .taken)))
 
 same-length : tie.Need-same-length
 same-length c = search needs
 
 returns : tie.Need-returns
-returns c = rw (whole (c .before .before .before .before .before) (c .before .before .before .before .if1 .taken)) (rw (narrow (c .before .before .before .before .before .before .before .before .before .before) 0) at (c .before .before .put-signed .ensures))
-
-put-real-requires : tie.Need-put-real-requires
-put-real-requires c κs = rw (narrow (c .before .before .before .before .before .before .before) 0) (omega (arith, c .before .before .before .before .before .before .before .pre .0, lengths (c .before .before) (c .before .if1 .left)))
-
-put-sign-requires : tie.Need-put-sign-requires
-put-sign-requires c κs =
-    let s = c .before .before .before .before .before .before .before .before .before .before .before in
-    let first = rw (narrow s 0) at (c .before .before .before .put-real .ensures .0) in
-    rw (narrow s 0, narrow s 1) (omega (arith, s .pre .0, lengths (c .before .before .before .before .before .before) (c .before .before .before .before .before .if1 .left), first))
-
-put-omega-requires : tie.Need-put-omega-requires
-put-omega-requires c κs =
-    let s = c .before .before .before .before .before .before .before .before .before .before .before .before .before .before .before in
-    let first = rw (narrow s 0) at (c .before .before .before .before .before .before .before .put-real .ensures .0) in
-    let second = rw (narrow s 0, narrow s 1) at (c .before .before .before .put-sign .ensures .0) in
-    omega (arith, s .pre .0, lengths (c .before .before .before .before .before .before .before .before .before .before) (c .before .before .before .before .before .before .before .before .before .if1 .left), first, second)
+unfolding bytesOf
+returns c =
+    let same = emptied (c .before .before .before .before .before .before .before .before .before .before .before .args .out .now) _ (partsText (c .before .before .before .before .before .before .before .before .before .before .before .args .x) 4) (c .before .before .before .before .before .before .before .before .before .before .before .args .at) _ (c .before .before .before .before .before .before .before .before .put-parts .ensures) (none (c .before .before .before .before .before .before .before .before) (c .before .before .before .before .before .if1 .taken)) in
+    rw (nothing (c .before .before .before .before .before .before .before .before) (c .before .before .before .before .before .if1 .taken)) (rw same at (c .before .before .put .ensures))
 
 same-length-2 : tie.Need-same-length-2
 same-length-2 c = search needs
 
 returns-2 : tie.Need-returns-2
-returns-2 c =
-    let d = c .before .before .before .before .before .before .before .before .before .before .before .before .before in
-    let s = st d in
-    let first = rw (narrow s 0) at (c .before .before .before .before .before .before .before .before .before .before .put-real .ensures) in
-    let second = rw (narrow s 0, narrow s 1) at (c .before .before .before .before .before .before .put-sign .ensures) in
-    let third = c .before .before .put-omega .ensures in
-    let text = both d (c .before .before .before .before .before .before .before .before .before .before .before .before .if1 .left) in
-    let all = put-all (next (s .args .out .now) _ _ (real d) _ (s .args .at) _ _ first (next _ _ _ (sign d) (omegas d) _ _ _ second (last _ _ _ _ _ third))) (rw text at (s .pre .0)) in
-    rw text all
+returns-2 c = rw (element-some (c .before .before .before .before .before .before .args .x) (λ z. c .if1 .left (omega (arith, c .before .before .before .put-parts .ensures .0)))) (c .before .before .before .put-parts .ensures)
 
 pub put-element-spec : {M : Type 1} → statement M
 put-element-spec =
     tie.close
     (tie.spec
-    array-copy-out-a
-    cast-a
-    array-copy-out-b
-    cast-b
-    array-copy-out-size
-    size-requires
-    put-signed-requires
+    put-parts-requires
+    slice-aggregate-put
+    put-requires
     same-length
     returns
-    put-real-requires
-    put-sign-requires
-    put-omega-requires
     same-length-2
     returns-2)

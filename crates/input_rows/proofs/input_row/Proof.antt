@@ -1,5 +1,6 @@
 -- The places passed have their input indexes, and what is known stays true.
 use borrow.Author.Needs.{needs}
+use Rattle.layout_rules.specs.Section.{ofDegree}
 use Rattle.digit_rules.specs.Digits.{pairIndex}
 use mathlib.Core.Path.{_≡_, ap, ap₂, _∙_}
 use Prim.Native.Nat.{_≤_, _-_}
@@ -15,15 +16,15 @@ use Rattle.input_rows.proofs.input_row.Statement.{statement}
 use Rattle.input_rows.proofs.input_row.Tie as tie
 
 abbrev Inv-loop : tie.InvT-loop
-Inv-loop operation alphabet inputs change first second from end row₀ known₀ place₀ row known place = (from ≤ place) × (place ≤ end) × (row ≡ partRow (inputAt operation alphabet inputs (changed change 0 first) (changed change 1 second)) from place) × Known operation alphabet inputs known
+Inv-loop degree operation alphabet inputs change first second from end row₀ known₀ place₀ row known place = (from ≤ place) × (place ≤ end) × (row ≡ partRow (inputAt operation (ofDegree degree alphabet) (ofDegree degree inputs) (changed change 0 first) (changed change 1 second)) from place) × Known operation (ofDegree degree alphabet) (ofDegree degree inputs) known
 
 abbrev μ-loop : tie.MeasureT-loop
-μ-loop operation alphabet inputs change first second from end row₀ known₀ place₀ row known place = end - place
+μ-loop degree operation alphabet inputs change first second from end row₀ known₀ place₀ row known place = end - place
 
 loop-holds : tie.Need-loop-holds Inv-loop μ-loop
 loop-holds c =
     let a = c .before .before .before .before .args in
-    (omega arith, c .before .before .before .before .pre .0, row-start (inputAt (a .operation) (a .alphabet .now) (a .inputs .now) (changed (a .change) 0 (a .first .now)) (changed (a .change) 1 (a .second .now))) (a .from), known-none (a .operation) (a .alphabet .now) (a .inputs .now))
+    (omega arith, c .before .before .before .before .pre .0, row-start (inputAt (a .operation) (ofDegree (a .degree) (a .alphabet .now)) (ofDegree (a .degree) (a .inputs .now)) (changed (a .change) 0 (a .first .now)) (changed (a .change) 1 (a .second .now))) (a .from), known-none (a .operation) (ofDegree (a .degree) (a .alphabet .now)) (ofDegree (a .degree) (a .inputs .now)))
 
 byte-at-requires : tie.Need-byte-at-requires Inv-loop μ-loop
 byte-at-requires c κs = search needs
@@ -63,16 +64,16 @@ loop-again c =
     let pre = c .before .before .before .before .before .before .before .before .before .before .before .before .before .pre in
     let loop = c .before .before .before .before .before .before .before .before .loop in
     let run = c .known-run .ensures in
-    let f = inputAt (a .operation) (a .alphabet .now) (a .inputs .now) (changed (a .change) 0 (a .first .now)) (changed (a .change) 1 (a .second .now)) in
+    let f = inputAt (a .operation) (ofDegree (a .degree) (a .alphabet .now)) (ofDegree (a .degree) (a .inputs .now)) (changed (a .change) 0 (a .first .now)) (changed (a .change) 1 (a .second .now)) in
     let known = c .before .before .before .learn .ensures .1 in
-    let index = c .before .before .before .learn .ensures .0 ∙ ap₂ (pairIndex (a .operation) (a .alphabet .now) (a .inputs .now)) (c .before .before .before .before .before .before .byte-at .ensures) (c .before .before .before .before .before .byte-at2 .ensures) in
+    let index = c .before .before .before .learn .ensures .0 ∙ ap₂ (pairIndex (a .operation) (ofDegree (a .degree) (a .alphabet .now)) (ofDegree (a .degree) (a .inputs .now))) (c .before .before .before .before .before .before .byte-at .ensures) (c .before .before .before .before .before .byte-at2 .ensures) in
     let here = row-next f (a .from) (loop .place) (loop .row) (c .before .before .before .learn .result) (loop .inv .0) (omega (arith, pre .1, c .before .before .before .before .before .before .before .loop-test .taken)) (loop .inv .2) index in
     (omega (arith, run .0 .0, loop .inv .0), run .0 .1, run .1 f (a .from) (omega (arith, loop .inv .0)) here (λ k low high. known .right _ _ (omega (arith, pre .3 k (omega (arith, run .0 .1)), pre .5)) (omega (arith, pre .4 k (omega (arith, run .0 .1)), pre .5))), known)
 
 returns : tie.Need-returns Inv-loop μ-loop
 returns c =
     let a = c .before .before .before .before .before .before .args in
-    c .before .loop .inv .2 ∙ ap (partRow (inputAt (a .operation) (a .alphabet .now) (a .inputs .now) (changed (a .change) 0 (a .first .now)) (changed (a .change) 1 (a .second .now))) (a .from)) (le-antisymm (c .before .loop .inv .1) (c .loop-test .left))
+    c .before .loop .inv .2 ∙ ap (partRow (inputAt (a .operation) (ofDegree (a .degree) (a .alphabet .now)) (ofDegree (a .degree) (a .inputs .now)) (changed (a .change) 0 (a .first .now)) (changed (a .change) 1 (a .second .now))) (a .from)) (le-antisymm (c .before .loop .inv .1) (c .loop-test .left))
 
 pub input-row-spec : {M : Type 1} → statement M
 input-row-spec =

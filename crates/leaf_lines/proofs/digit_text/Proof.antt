@@ -1,4 +1,5 @@
 -- A digit of the word, `?` for a word that is empty, nothing past its end.
+use Rattle.layout_rules.specs.Section.{ofDegree}
 use Rattle.listing_rules.proofs.Lines.{digit-there, digit-unread, digit-past}
 use Rattle.text_rules.specs.Bytes.{bytesOf}
 use Rattle.lists.proofs.Overwrite.{overwrite-none}
@@ -23,7 +24,7 @@ same-length c = search needs
 returns : tie.Need-returns
 returns c =
     let a = c .before .before .before .before .before .before .before .before .before .before .args in
-    rw (digit-there (a .inputs .now) (a .word .now) (a .i) (c .before .before .before .before .before .before .if1 .taken)) (rw (c .before .before .before .before .wide .ensures .0) at (c .before .before .input-text .ensures))
+    rw (digit-there (ofDegree (a .degree) (a .inputs .now)) (a .word .now) (a .i) (c .before .before .before .before .before .before .if1 .taken)) (rw (c .before .before .before .before .wide .ensures .0) at (c .before .before .input-text .ensures))
 
 slice-aggregate-put : tie.Need-slice-aggregate-put
 slice-aggregate-put c = search needs
@@ -39,10 +40,10 @@ unfolding bytesOf
 returns-2 c =
     let a = c .before .before .before .before .before .before .before .before .before .before .args in
     let put = c .before .before .put .ensures in
-    rw (digit-unread (a .inputs .now) (a .word .now) (a .i) (c .before .before .before .before .before .before .if1 .left) (c .before .before .before .before .before .if2 .taken)) (omega (arith, put .0), put .1)
+    rw (digit-unread (ofDegree (a .degree) (a .inputs .now)) (a .word .now) (a .i) (c .before .before .before .before .before .before .if1 .left) (c .before .before .before .before .before .if2 .taken)) (omega (arith, put .0), put .1)
 
 returns-3 : tie.Need-returns-3
-returns-3 c = rw (digit-past (c .before .before .before .before .before .args .inputs .now) (c .before .before .before .before .before .args .word .now) (c .before .before .before .before .before .args .i) (c .before .if1 .left) (c .if2 .left)) (refl, sym (overwrite-none (c .before .before .before .before .before .args .out .now) 0))
+returns-3 c = rw (digit-past (ofDegree (c .before .before .before .before .before .args .degree) (c .before .before .before .before .before .args .inputs .now)) (c .before .before .before .before .before .args .word .now) (c .before .before .before .before .before .args .i) (c .before .if1 .left) (c .if2 .left)) (refl, sym (overwrite-none (c .before .before .before .before .before .args .out .now) 0))
 
 pub digit-text-spec : {M : Type 1} → statement M
 digit-text-spec =

@@ -1,4 +1,5 @@
--- Six pieces, one behind the other: at most 20, 1, 112, 3, 13 and 1 bytes.
+-- Six pieces, one behind the other: at most 20, 1, 256, 3, 31 and 1 bytes.
+use Rattle.layout_rules.specs.Section.{ofDegree}
 use lib.ListN.{length, length-append}
 use Prim.Native.Nat.{ℕ, _≤_}
 use mathlib.Core.List.{List, _++_}
@@ -19,7 +20,7 @@ use borrow.Author.Needs.{needs}
 use Rattle.leaf_lines.proofs.leaf_line.Statement.{statement}
 use Rattle.leaf_lines.proofs.leaf_line.Tie as tie
 
--- the three pieces that aren't words of the line: at most 20, 112 and 13 bytes
+-- the three pieces that aren't words of the line: at most 20, 256 and 31 bytes
 module _ (e : tie.After-shared-slice-known) where
   abbrev st : tie.Start
   st = e .before
@@ -28,7 +29,7 @@ module _ (e : tie.After-shared-slice-known) where
   number = right 4 (decimal (st .args .leaf))
 
   abbrev word : List ℕ
-  word = wordText (st .args .columns .digits) (st .args .inputs .now) (st .args .word .now) (st .args .columns .count)
+  word = wordText (st .args .columns .digits) (ofDegree (st .args .degree) (st .args .inputs .now)) (st .args .word .now) (st .args .columns .count)
 
   abbrev weight : List ℕ
   weight = right (st .args .columns .weights) (elementText (st .args .weight))
@@ -37,14 +38,14 @@ module _ (e : tie.After-shared-slice-known) where
   number-room =
       right-short 4 (decimal (st .args .leaf)) 20 (omega arith) (decimal-short 19 (st .args .leaf) (omega (arith, st .fits .leaf .fits)))
 
-  word-room : length word ≤ 112
+  word-room : length word ≤ 256
   word-room =
-      let short = word-short (st .args .inputs .now) (λ k. omega (arith, e .shared-slice-known .given k)) (st .args .columns .digits) (st .pre .1 .1 .1) in
+      let short = word-short (ofDegree (st .args .degree) (st .args .inputs .now)) (λ k. omega (arith, e .shared-slice-known .given k)) (st .args .columns .digits) (st .pre .1 .1 .1) in
       omega (arith, short (st .args .word .now) (st .args .columns .count), st .pre .1 .1 .0)
 
-  weight-room : length weight ≤ 13
+  weight-room : length weight ≤ 31
   weight-room =
-      right-short (st .args .columns .weights) (elementText (st .args .weight)) 13 (st .pre .1 .1 .2) (element-short (st .args .weight) (st .pre .1 .0))
+      right-short (st .args .columns .weights) (elementText (st .args .weight)) 31 (st .pre .1 .1 .2) (element-short (st .args .weight) (st .pre .1 .0))
 
 put-number-requires : tie.Need-put-number-requires
 put-number-requires c κs = omega (arith, number-room (c .before .before .before), c .before .before .before .before .pre .0)
@@ -116,7 +117,7 @@ returns c =
     let tail = next _ _ _ (bytesOf " | ") _ _ _ _ fourth (next _ _ _ (weight e) (bytesOf "\n") _ _ _ fifth (last _ _ _ _ _ (c .before .before .put3 .ensures))) in
     let pieces = next out _ _ (number e) _ 0 _ _ first (next _ _ _ (bytesOf ":") _ _ _ _ second (next _ _ _ (word e) _ _ _ _ third tail)) in
     let all = put-all pieces (omega (arith, number-room e, word-room e, weight-room e, front, middle, back, st e .pre .0)) in
-    put-line out _ _ _ _ 256 all refl (omega (arith, number-room e, word-room e, weight-room e, front, middle, back))
+    put-line out _ _ _ _ 320 all refl (omega (arith, number-room e, word-room e, weight-room e, front, middle, back))
 
 pub leaf-line-spec : {M : Type 1} → statement M
 leaf-line-spec =

@@ -1,4 +1,6 @@
 -- The text is made apart, since its length says where it starts.
+use Prim.Native.Nat.{_^_}
+use Rattle.ring.proofs.Element.{within-le}
 use Rattle.lists.proofs.Pieces.{put-taken}
 use Rattle.listing_rules.proofs.Element.{element-short}
 use Rattle.listing_rules.specs.Element.{elementText, right}
@@ -14,7 +16,7 @@ slice-aggregate-put-element : tie.Need-slice-aggregate-put-element
 slice-aggregate-put-element c = search needs
 
 put-element-requires : tie.Need-put-element-requires
-put-element-requires c κs = (omega (arith, element-short _ (c .before .before .pre .1)), c .before .before .pre .1)
+put-element-requires c κs = (omega (arith, element-short _ (c .before .before .pre .1)), within-le 32768 (2 ^ 62) _ (omega arith) (c .before .before .pre .1))
 
 array-share-prefix-text : tie.Need-array-share-prefix-text
 array-share-prefix-text c = omega (arith, element-short _ (c .before .before .before .before .before .pre .1), c .before .before .put-element .ensures .0)

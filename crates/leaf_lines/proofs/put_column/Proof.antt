@@ -1,4 +1,5 @@
 -- The text is made apart, since its length says where it starts; a space before it.
+use Rattle.layout_rules.specs.Section.{ofDegree}
 use lib.ListN.{length}
 use Prim.Native.Nat.{ℕ, _≤_}
 use mathlib.Core.List.{List}
@@ -20,10 +21,10 @@ module _ (e : tie.After-shared-slice-known) where
   st = e .before
 
   abbrev text : List ℕ
-  text = digitText (st .args .inputs .now) (st .args .word .now) (st .args .i)
+  text = digitText (ofDegree (st .args .degree) (st .args .inputs .now)) (st .args .word .now) (st .args .i)
 
-  text-room : length text ≤ 13
-  text-room = digit-short (st .args .inputs .now) (λ k. omega (arith, e .shared-slice-known .given k)) (st .args .word .now) (st .args .i)
+  text-room : length text ≤ 31
+  text-room = digit-short (ofDegree (st .args .degree) (st .args .inputs .now)) (λ k. omega (arith, e .shared-slice-known .given k)) (st .args .word .now) (st .args .i)
 
 slice-aggregate-digit-text : tie.Need-slice-aggregate-digit-text
 slice-aggregate-digit-text c = search needs

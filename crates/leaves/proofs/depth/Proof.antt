@@ -4,6 +4,7 @@ use mathlib.Core.Path.{_≡_, refl}
 use Prim.Native.Nat.{_≤_, _-_}
 use native.Mathlib.Omega.{arith}
 use borrow.Author.Needs.{needs}
+use Rattle.layout_rules.specs.Section.{ofDegree}
 use Rattle.numeration.specs.LeafOf.{largest}
 use Rattle.leaf_rules.specs.Leaf.{wordLength}
 use Rattle.leaf_rules.proofs.Leaf.{largest-next, depth-end}
@@ -11,10 +12,10 @@ use Rattle.leaves.proofs.depth.Statement.{statement}
 use Rattle.leaves.proofs.depth.Tie as tie
 
 abbrev Inv-loop : tie.InvT-loop
-Inv-loop leaves count longest₀ leaf₀ longest leaf = (leaf ≤ count) × (longest ≡ largest (wordLength leaves) leaf)
+Inv-loop degree leaves count longest₀ leaf₀ longest leaf = (leaf ≤ count) × (longest ≡ largest (wordLength (ofDegree degree leaves)) leaf)
 
 abbrev μ-loop : tie.MeasureT-loop
-μ-loop leaves count longest₀ leaf₀ longest leaf = count - leaf
+μ-loop degree leaves count longest₀ leaf₀ longest leaf = count - leaf
 
 leaf-count-requires : tie.Need-leaf-count-requires Inv-loop μ-loop
 leaf-count-requires c κs = search needs
@@ -34,11 +35,11 @@ loop-less c = search needs
 
 loop-again : tie.Need-loop-again Inv-loop μ-loop
 loop-again c =
-    let next = largest-next (wordLength (c .before .before .before .before .before .before .args .leaves .now)) (c .before .before .before .loop .leaf) in
+    let next = largest-next (wordLength (ofDegree (c .before .before .before .before .before .before .args .degree) (c .before .before .before .before .before .before .args .leaves .now))) (c .before .before .before .loop .leaf) in
     (search needs, ⊎-elim (λ w. omega (arith, next)) (λ w. omega (arith, next)) (c .if1 .came))
 
 returns : tie.Need-returns Inv-loop μ-loop
-returns c = depth-end (c .before .before .before .before .args .leaves .now) (c .before .loop .leaf) (c .before .loop .longest) (c .before .loop .inv .1) (omega arith)
+returns c = depth-end (ofDegree (c .before .before .before .before .args .degree) (c .before .before .before .before .args .leaves .now)) (c .before .loop .leaf) (c .before .loop .longest) (c .before .loop .inv .1) (omega arith)
 
 pub depth-spec : {M : Type 1} → statement M
 depth-spec =

@@ -1,6 +1,7 @@
 -- The part of section 4 by its bounds as read; nothing where there is no such leaf or it points outside.
 use native.Mathlib.Omega.{arith}
 use borrow.Author.Needs.{needs}
+use Rattle.layout_rules.specs.Section.{ofDegree}
 use Rattle.leaf_rules.proofs.Leaf.{word-missing, word-outside, word-read}
 use Rattle.leaves.proofs.word.Statement.{statement}
 use Rattle.leaves.proofs.word.Tie as tie
@@ -18,7 +19,7 @@ part-result-end : tie.Need-part-result-end
 part-result-end c = search needs
 
 returns : tie.Need-returns
-returns c = word-missing (c .before .before .before .before .before .args .leaves .now) (c .before .before .before .before .before .args .words .now) (c .before .before .before .before .before .args .leaf) (omega arith)
+returns c = word-missing (ofDegree (c .before .before .before .before .before .args .degree) (c .before .before .before .before .before .args .leaves .now)) (c .before .before .before .before .before .args .words .now) (c .before .before .before .before .before .args .leaf) (omega arith)
 
 word-start-requires : tie.Need-word-start-requires
 word-start-requires c κs = search needs
@@ -39,7 +40,7 @@ part-result-end-2 : tie.Need-part-result-end-2
 part-result-end-2 c = search needs
 
 returns-2 : tie.Need-returns-2
-returns-2 c = word-outside (c .before .before .before .before .before .before .before .before .args .leaves .now) (c .before .before .before .before .before .before .before .before .args .words .now) (c .before .before .before .before .before .before .before .before .args .leaf) (omega arith) (omega arith)
+returns-2 c = word-outside (ofDegree (c .before .before .before .before .before .before .before .before .args .degree) (c .before .before .before .before .before .before .before .before .args .leaves .now)) (c .before .before .before .before .before .before .before .before .args .words .now) (c .before .before .before .before .before .before .before .before .args .leaf) (omega arith) (omega arith)
 
 sub-result-3 : tie.Need-sub-result-3
 sub-result-3 c = search needs
@@ -53,7 +54,7 @@ part-result-end-3 c = search needs
 returns-3 : tie.Need-returns-3
 returns-3 c =
     let a = c .before .before .before .before .before .before .before .before .args in
-    word-read (a .leaves .now) (a .words .now) (a .leaf) _ _ (c .before .before .before .word-start .ensures .0) (c .before .before .word-length .ensures .0) (omega arith) (c .before .if2 .left)
+    word-read (ofDegree (a .degree) (a .leaves .now)) (a .words .now) (a .leaf) _ _ (c .before .before .before .word-start .ensures .0) (c .before .before .word-length .ensures .0) (omega arith) (c .before .if2 .left)
 
 pub word-spec : {M : Type 1} → statement M
 word-spec =

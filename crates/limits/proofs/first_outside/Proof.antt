@@ -1,6 +1,7 @@
 -- A scan: what is left of the numbers gives the answer of all of them.
 use mathlib.Core.Path.{_≡_, sym, _∙_}
 use native.Mathlib.Nat.{sub-zero}
+use Rattle.layout_rules.specs.Section.{ofDegree}
 use Rattle.layout_rules.proofs.Limit.{number-inside, number-outside, number-within}
 use Rattle.layout_rules.specs.Limit.{numberAllowed}
 use Rattle.lists.proofs.Scan.{scan-on, scan-here, scan-out}
@@ -13,19 +14,19 @@ use Rattle.limits.proofs.first_outside.Statement.{statement}
 use Rattle.limits.proofs.first_outside.Tie as tie
 
 abbrev Inv-loop : tie.InvT-loop
-Inv-loop part size limit count m₀ m = (m ≤ count) × (firstFailing (numberAllowed size limit part) m (count - m) ≡ firstFailing (numberAllowed size limit part) 0 count)
+Inv-loop degree part size limit count m₀ m = (m ≤ count) × (firstFailing (numberAllowed size limit (ofDegree degree part)) m (count - m) ≡ firstFailing (numberAllowed size limit (ofDegree degree part)) 0 count)
 
 abbrev μ-loop : tie.MeasureT-loop
-μ-loop part size limit count m₀ m = count - m
+μ-loop degree part size limit count m₀ m = count - m
 
 loop-holds : tie.Need-loop-holds Inv-loop μ-loop
 loop-holds c = (omega arith, simp sub-zero)
 
 number-place-requires : tie.Need-number-place-requires Inv-loop μ-loop
-number-place-requires c κs = omega (arith, number-inside (c .before .before .before .args .size) (c .before .before .before .pre .0) (length (now (c .before .before .before .args .part))) (c .before .loop .m) (omega arith))
+number-place-requires c κs = omega (arith, number-inside (c .before .before .before .args .degree) (c .before .before .before .args .size) (c .before .before .before .pre .0) (length (now (c .before .before .before .args .part))) (c .before .loop .m) (omega arith))
 
 magnitude-requires : tie.Need-magnitude-requires Inv-loop μ-loop
-magnitude-requires c κs = omega (arith, number-inside (c .before .before .before .before .args .size) (c .before .before .before .before .pre .0) (length (now (c .before .before .before .before .args .part))) (c .before .before .loop .m) (omega arith), c .number-place .ensures)
+magnitude-requires c κs = omega (arith, number-inside (c .before .before .before .before .args .degree) (c .before .before .before .before .args .size) (c .before .before .before .before .pre .0) (length (now (c .before .before .before .before .args .part))) (c .before .before .loop .m) (omega arith), c .number-place .ensures)
 
 returns : tie.Need-returns Inv-loop μ-loop
 returns c = sym (scan-here _ _ (c .before .before .before .before .before .before .args .count) (c .before .before .before .loop-test .taken) (number-outside _ _ _ _ _ _ (c .before .before .number-place .ensures) (c .before .magnitude .ensures) (c .if1 .taken))) ∙ c .before .before .before .before .loop .inv .1

@@ -11,19 +11,22 @@ use Rattle.limits.proofs.limits.Statement.{statement}
 use Rattle.limits.proofs.limits.Tie as tie
 
 abbrev Inv-loop : tie.InvT-loop
-Inv-loop file section₀ section = (section ≤ 4) × (inTurn (limitCheckOf file) section (4 - section) ≡ inTurn (limitCheckOf file) 0 4)
+Inv-loop file degree section₀ section = (section ≤ 4) × (inTurn (limitCheckOf file) section (4 - section) ≡ inTurn (limitCheckOf file) 0 4)
 
 abbrev μ-loop : tie.MeasureT-loop
-μ-loop file section₀ section = 4 - section
+μ-loop file degree section₀ section = 4 - section
+
+degree-in-requires : tie.Need-degree-in-requires Inv-loop μ-loop
+degree-in-requires c κs = tt
 
 loop-holds : tie.Need-loop-holds Inv-loop μ-loop
 loop-holds c = (omega arith, refl)
 
 section-start-requires : tie.Need-section-start-requires Inv-loop μ-loop
-section-start-requires c κs = omega (arith, laid _ (c .before .before .before .pre) .low)
+section-start-requires c κs = omega (arith, laid _ (c .before .before .before .before .pre) .low)
 
 section-end-requires : tie.Need-section-end-requires Inv-loop μ-loop
-section-end-requires c κs = omega (arith, laid _ (c .before .before .before .before .pre) .low)
+section-end-requires c κs = omega (arith, laid _ (c .before .before .before .before .before .pre) .low)
 
 sub-limits-in : tie.Need-sub-limits-in Inv-loop μ-loop
 sub-limits-in c = omega (arith, c .section-end .ensures, c .before .section-start .ensures .0)
@@ -32,14 +35,14 @@ part-limits-in-start : tie.Need-part-limits-in-start Inv-loop μ-loop
 part-limits-in-start c = omega (arith, c .section-end .ensures, c .before .section-start .ensures .0)
 
 part-limits-in-end : tie.Need-part-limits-in-end Inv-loop μ-loop
-part-limits-in-end c = omega (arith, c .section-end .ensures, laid _ (c .before .before .before .before .before .pre) .placed (c .before .before .before .loop .section) (omega arith) .inside)
+part-limits-in-end c = omega (arith, c .section-end .ensures, laid _ (c .before .before .before .before .before .before .pre) .placed (c .before .before .before .loop .section) (omega arith) .inside)
 
 limits-in-requires : tie.Need-limits-in-requires Inv-loop μ-loop
 limits-in-requires c κs = omega arith
 
 returns : tie.Need-returns Inv-loop μ-loop
 unfolding limitCheck
-returns c = sym (turn-here _ _ 4 _ (c .before .before .limits-in .ensures ∙ handed-on _ _ _ _ (c .before .before .before .before .before .section-start .ensures .0) (c .before .before .before .before .section-end .ensures)) (c .before .before .before .before .before .before .loop-test .taken) (c .if1 .taken)) ∙ c .before .before .before .before .before .before .before .loop .inv .1
+returns c = sym (turn-here _ _ 4 _ (c .before .before .limits-in .ensures ∙ handed-on _ _ _ _ _ (c .before .before .before .before .before .before .before .before .degree-in .ensures) (c .before .before .before .before .before .section-start .ensures .0) (c .before .before .before .before .section-end .ensures)) (c .before .before .before .before .before .before .loop-test .taken) (c .if1 .taken)) ∙ c .before .before .before .before .before .before .before .loop .inv .1
 
 add-section : tie.Need-add-section Inv-loop μ-loop
 add-section c = omega arith
@@ -50,7 +53,7 @@ loop-less c = omega arith
 loop-again : tie.Need-loop-again Inv-loop μ-loop
 loop-again c =
     let s = c .before .before .before .before .before .before .before in
-    (omega arith, sym (turn-on _ _ 4 _ (c .before .before .limits-in .ensures ∙ handed-on _ _ _ _ (c .before .before .before .before .before .section-start .ensures .0) (c .before .before .before .before .section-end .ensures)) (c .before .before .before .before .before .before .loop-test .taken) (c .if1 .left)) ∙ s .loop .inv .1)
+    (omega arith, sym (turn-on _ _ 4 _ (c .before .before .limits-in .ensures ∙ handed-on _ _ _ _ _ (c .before .before .before .before .before .before .before .before .degree-in .ensures) (c .before .before .before .before .before .section-start .ensures .0) (c .before .before .before .before .section-end .ensures)) (c .before .before .before .before .before .before .loop-test .taken) (c .if1 .left)) ∙ s .loop .inv .1)
 
 returns-2 : tie.Need-returns-2 Inv-loop μ-loop
 unfolding limitCheck
@@ -62,6 +65,7 @@ limits-spec =
     (tie.spec
     Inv-loop
     μ-loop
+    degree-in-requires
     loop-holds
     section-start-requires
     section-end-requires

@@ -1,14 +1,21 @@
 -- The quick look says that no number is outside; else the first that is.
 use denote.Ref.{now}
 use lib.ListN.{length}
-use mathlib.Core.Path.{refl}
+use mathlib.Core.Path.{_≡_, ap, _∙_}
+use Prim.Native.Nat.{ℕ, _<_, _≤_}
 use native.Mathlib.Omega.{arith}
-use native.Mathlib.Nat.{div-le-self}
-use Rattle.layout_rules.specs.Limit.{numberCount}
+use Rattle.lists.specs.Scan.{firstFailing}
 use Rattle.layout_rules.proofs.Limit.{size-held, section-inside, limit-small, limit-none, limit-broken, limit-kept}
 use borrow.Author.Needs.{needs}
 use Rattle.limits.proofs.limits_in.Statement.{statement}
 use Rattle.limits.proofs.limits_in.Tie as tie
+
+-- a number below a count as it was computed
+below : {m count n : ℕ} → count ≡ n → m < count → m < n
+below counts h = omega arith
+
+past : {m count n : ℕ} → count ≡ n → count ≤ m → n ≤ m
+past counts h = omega arith
 
 size-of-record-requires : tie.Need-size-of-record-requires
 size-of-record-requires c κs = search needs
@@ -17,38 +24,37 @@ size-limit-requires : tie.Need-size-limit-requires
 size-limit-requires c κs = search needs
 
 none-outside-requires : tie.Need-none-outside-requires
-none-outside-requires c κs = (size-held _ _ (c .before .before .before .pre .0) (c .before .size-of-record .ensures), limit-small _ _ (c .before .before .before .pre .0) (c .size-limit .ensures))
+none-outside-requires c κs = (size-held (c .before .before .before .args .degree) _ _ (c .before .before .before .pre .0) (c .before .size-of-record .ensures), limit-small (c .before .before .before .args .degree) _ _ (c .before .before .before .pre .0) (c .size-limit .ensures))
 
 returns : tie.Need-returns
 returns c = limit-none _ _ _ _ _ (c .before .before .before .size-of-record .ensures) (c .before .before .size-limit .ensures) (c .before .none-outside .ensures (c .if1 .taken))
 
-div-count : tie.Need-div-count
-div-count c = omega (arith, size-held _ _ (c .before .before .before .before .before .pre .0) (c .before .before .before .size-of-record .ensures))
-
-mul-count : tie.Need-mul-count
-mul-count c = omega (arith, div-le-self (length (now (c .before .before .before .before .before .args .part))) (c .before .before .before .size-of-record .result))
+number-count-requires : tie.Need-number-count-requires
+number-count-requires c κs = size-held (c .before .before .before .before .before .args .degree) _ _ (c .before .before .before .before .before .pre .0) (c .before .before .before .size-of-record .ensures)
 
 first-outside-requires : tie.Need-first-outside-requires
-unfolding numberCount
-first-outside-requires c κs = (size-held _ _ (c .before .before .before .before .before .pre .0) (c .before .before .before .size-of-record .ensures), refl)
+first-outside-requires c κs = (size-held (c .before .before .before .before .before .before .args .degree) _ _ (c .before .before .before .before .before .before .pre .0) (c .before .before .before .before .size-of-record .ensures), c .number-count .ensures)
 
 number-place-requires : tie.Need-number-place-requires
-unfolding numberCount
 number-place-requires c κs =
-    let a = c .before .before .before .before .before .before .before .args in
-    (size-held _ _ (c .before .before .before .before .before .before .before .pre .0) (c .before .before .before .before .before .size-of-record .ensures), omega (arith, section-inside _ _ (length (now (a .part))) _ (c .before .before .before .before .before .before .before .pre .0) (c .before .before .before .before .before .size-of-record .ensures) (c .if2 .taken)))
+    let s = c .before .before .before .before .before .before .before .before in
+    let sizes = c .before .before .before .before .before .before .size-of-record .ensures in
+    (size-held (s .args .degree) _ _ (s .pre .0) sizes, omega (arith, section-inside (s .args .degree) _ _ (length (now (s .args .part))) _ (s .pre .0) sizes (below (c .before .before .number-count .ensures) (c .if2 .taken))))
 
-add-t13 : tie.Need-add-t13
-unfolding numberCount
-add-t13 c = omega (arith, section-inside _ _ (length (now (c .before .before .before .before .before .before .before .before .args .part))) _ (c .before .before .before .before .before .before .before .before .pre .0) (c .before .before .before .before .before .before .size-of-record .ensures) (c .before .if2 .taken), c .number-place .ensures)
+add-t12 : tie.Need-add-t12
+add-t12 c =
+    let s = c .before .before .before .before .before .before .before .before .before in
+    omega (arith, section-inside (s .args .degree) _ _ (length (now (s .args .part))) _ (s .pre .0) (c .before .before .before .before .before .before .before .size-of-record .ensures) (below (c .before .before .before .number-count .ensures) (c .before .if2 .taken)), c .number-place .ensures, s .pre .1)
 
 returns-2 : tie.Need-returns-2
-unfolding numberCount
-returns-2 c = limit-broken _ _ _ _ _ _ (c .before .before .before .before .before .before .size-of-record .ensures) (c .before .before .before .before .before .size-limit .ensures) (c .before .before .first-outside .ensures) _ (c .number-place .ensures) (c .before .if2 .taken)
+returns-2 c =
+    let counts = c .before .before .before .number-count .ensures in
+    limit-broken _ _ _ _ _ _ (c .before .before .before .before .before .before .before .size-of-record .ensures) (c .before .before .before .before .before .before .size-limit .ensures) (c .before .before .first-outside .ensures ∙ ap (firstFailing _ 0) counts) _ (c .number-place .ensures) (below counts (c .before .if2 .taken))
 
 returns-3 : tie.Need-returns-3
-unfolding numberCount
-returns-3 c = limit-kept _ (c .before .before .before .before .before .before .before .args .start) _ _ _ _ (c .before .before .before .before .before .size-of-record .ensures) (c .before .before .before .before .size-limit .ensures) (c .before .first-outside .ensures) (c .if2 .left)
+returns-3 c =
+    let counts = c .before .before .number-count .ensures in
+    limit-kept _ (c .before .before .before .before .before .before .before .before .args .start) _ _ _ _ (c .before .before .before .before .before .before .size-of-record .ensures) (c .before .before .before .before .before .size-limit .ensures) (c .before .first-outside .ensures ∙ ap (firstFailing _ 0) counts) (past counts (c .if2 .left))
 
 pub limits-in-spec : {M : Type 1} → statement M
 limits-in-spec =
@@ -58,10 +64,9 @@ limits-in-spec =
     size-limit-requires
     none-outside-requires
     returns
-    div-count
-    mul-count
+    number-count-requires
     first-outside-requires
     number-place-requires
-    add-t13
+    add-t12
     returns-2
     returns-3)

@@ -1,4 +1,5 @@
 -- After some leaves the most is the largest of their shown words, and 1 at least.
+use Rattle.layout_rules.specs.Section.{ofDegree}
 use Rattle.listing_rules.specs.Listing.{wordShown, columnsFor}
 use Rattle.leaf_rules.proofs.Leaf.{largest-next}
 use Rattle.leaf_rules.specs.Leaf.{leafCount}
@@ -13,11 +14,11 @@ use Rattle.listing.proofs.columns.Statement.{statement}
 use Rattle.listing.proofs.columns.Tie as tie
 
 abbrev Inv-loop : tie.InvT-loop
-Inv-loop leaves words count most₀ leaf₀ most leaf =
-    (leaf ≤ count) × (most ≡ max 1 (largest (λ k. length (wordShown leaves words k)) leaf)) × (most ≤ 8)
+Inv-loop degree leaves words count most₀ leaf₀ most leaf =
+    (leaf ≤ count) × (most ≡ max 1 (largest (λ k. length (wordShown (ofDegree degree leaves) words k)) leaf)) × (most ≤ 8)
 
 abbrev μ-loop : tie.MeasureT-loop
-μ-loop leaves words count most₀ leaf₀ most leaf = count - leaf
+μ-loop degree leaves words count most₀ leaf₀ most leaf = count - leaf
 
 leaf-count-requires : tie.Need-leaf-count-requires Inv-loop μ-loop
 leaf-count-requires c κs = search needs
@@ -38,7 +39,7 @@ loop-less c = search needs
 loop-again : tie.Need-loop-again Inv-loop μ-loop
 loop-again c =
     let a = c .before .before .before .before .before .before .before .args in
-    let next = largest-next (λ k. length (wordShown (a .leaves .now) (a .words .now) k)) (c .before .before .before .loop .leaf) in
+    let next = largest-next (λ k. length (wordShown (ofDegree (a .degree) (a .leaves .now)) (a .words .now) k)) (c .before .before .before .loop .leaf) in
     let here = ap length (c .before .word-shown .ensures .0) in
     let short = c .before .word-shown .ensures .1 in
     (omega arith, ⊎-elim (λ w. omega (arith, next, here)) (λ w. omega (arith, next, here)) (c .if1 .came), ⊎-elim (λ w. omega (arith, short)) (λ w. omega arith) (c .if1 .came))
@@ -46,7 +47,7 @@ loop-again c =
 returns : tie.Need-returns Inv-loop μ-loop
 unfolding columnsFor
 returns c =
-    let all : c .before .loop .leaf ≡ leafCount (c .before .before .before .before .before .args .leaves .now) = omega arith in
+    let all : c .before .loop .leaf ≡ leafCount (ofDegree (c .before .before .before .before .before .args .degree) (c .before .before .before .before .before .args .leaves .now)) = omega arith in
     (rw all at (c .before .loop .inv .1), c .before .loop .inv .2)
 
 pub columns-spec : {M : Type 1} → statement M

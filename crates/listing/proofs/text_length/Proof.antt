@@ -1,4 +1,6 @@
--- A text has at most 13 bytes.
+-- A text has at most 31 bytes.
+use Prim.Native.Nat.{_^_}
+use Rattle.ring.proofs.Element.{within-le}
 use Rattle.listing_rules.proofs.Element.{element-short}
 use native.Mathlib.Omega.{arith}
 use borrow.Author.Needs.{needs}
@@ -9,7 +11,7 @@ slice-aggregate-put-element : tie.Need-slice-aggregate-put-element
 slice-aggregate-put-element c = search needs
 
 put-element-requires : tie.Need-put-element-requires
-put-element-requires c κs = (omega (arith, element-short _ (c .before .pre)), c .before .pre)
+put-element-requires c κs = (omega (arith, element-short _ (c .before .pre)), within-le 32768 (2 ^ 62) _ (omega arith) (c .before .pre))
 
 returns : tie.Need-returns
 returns c = (omega (arith, c .before .put-element .ensures .0), omega (arith, element-short _ (c .before .before .before .pre), c .before .put-element .ensures .0))

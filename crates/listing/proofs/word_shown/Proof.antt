@@ -1,4 +1,5 @@
 -- A word longer than eight is left out.
+use Rattle.layout_rules.specs.Section.{ofDegree}
 use Rattle.listing_rules.proofs.Lines.{word-kept, word-unread}
 use native.Mathlib.Omega.{arith}
 use mathlib.Core.Path.{sym, _∙_}
@@ -21,12 +22,12 @@ part-result-end c = search needs
 returns : tie.Need-returns
 returns c =
     let a = c .before .before .before .before .before .args in
-    (sym (word-unread (a .leaves .now) (a .words .now) (a .leaf) (rw (c .before .before .word .ensures) at (c .before .if1 .taken))), omega arith)
+    (sym (word-unread (ofDegree (a .degree) (a .leaves .now)) (a .words .now) (a .leaf) (rw (c .before .before .word .ensures) at (c .before .if1 .taken))), omega arith)
 
 returns-2 : tie.Need-returns-2
 returns-2 c =
     let a = c .before .before .before .before .args in
-    (c .before .word .ensures ∙ sym (word-kept (a .leaves .now) (a .words .now) (a .leaf) (rw (c .before .word .ensures) at (c .if1 .left))), c .if1 .left)
+    (c .before .word .ensures ∙ sym (word-kept (ofDegree (a .degree) (a .leaves .now)) (a .words .now) (a .leaf) (rw (c .before .word .ensures) at (c .if1 .left))), c .if1 .left)
 
 pub word-shown-spec : {M : Type 1} → statement M
 word-shown-spec =

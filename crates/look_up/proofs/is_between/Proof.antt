@@ -1,4 +1,5 @@
 -- The words at both ends of the part say whether the leaf must be in it.
+use Rattle.layout_rules.specs.Section.{ofDegree}
 use Rattle.look_up.proofs.Search.{between-tried}
 use Rattle.leaf_rules.specs.Leaf.{codeOf}
 use Rattle.lists.proofs.Test.{clash}
@@ -32,7 +33,7 @@ returns-3 c = λ t. clash t refl
 returns-4 : tie.Need-returns-4
 returns-4 c =
     let a = c .before .before .before .before .before .before .before .before .args in
-    λ t. between-tried (codeOf (a .leaves .now) (a .words .now)) (a .window .now) (a .low) (a .high) (omega arith) (omega (arith, c .before .before .before .before .before .leaf-count .ensures)) (sym (c .before .before .above .ensures) ∙ c .before .if3 .left) (λ h. absurd (omega (arith, c .before .before .before .before .before .leaf-count .ensures)))
+    λ t. between-tried (codeOf (ofDegree (a .degree) (a .leaves .now)) (a .words .now)) (a .window .now) (a .low) (a .high) (omega arith) (omega (arith, c .before .before .before .before .before .leaf-count .ensures)) (sym (c .before .before .above .ensures) ∙ c .before .if3 .left) (λ h. absurd (omega (arith, c .before .before .before .before .before .leaf-count .ensures)))
 
 -- src/lib.rt:207:5
 above-requires-2 : tie.Need-above-requires-2
@@ -42,7 +43,7 @@ above-requires-2 c κs = omega (arith, c .before .before .before .before .before
 returns-5 : tie.Need-returns-5
 returns-5 c =
     let a = c .before .before .before .before .before .before .before .before .before .args in
-    λ t. between-tried (codeOf (a .leaves .now) (a .words .now)) (a .window .now) (a .low) (a .high) (omega arith) (omega (arith, c .before .before .before .before .before .before .leaf-count .ensures)) (sym (c .before .before .before .above .ensures) ∙ c .before .before .if3 .left) (λ _. sym (c .above2 .ensures) ∙ t)
+    λ t. between-tried (codeOf (ofDegree (a .degree) (a .leaves .now)) (a .words .now)) (a .window .now) (a .low) (a .high) (omega arith) (omega (arith, c .before .before .before .before .before .before .leaf-count .ensures)) (sym (c .before .before .before .above .ensures) ∙ c .before .before .if3 .left) (λ _. sym (c .above2 .ensures) ∙ t)
 
 pub is-between-spec : {M : Type 1} → statement M
 is-between-spec =

@@ -1,4 +1,5 @@
 -- A guessed leaf that begins the window is the one; else the search says it.
+use Rattle.layout_rules.specs.Section.{ofDegree}
 use Rattle.look_up.proofs.Search.{begins-looked-up, with-length-found}
 use Rattle.leaf_rules.specs.Leaf.{codeOf}
 use native.Mathlib.Omega.{arith}
@@ -18,7 +19,7 @@ with-length-requires c κs = search needs
 returns : tie.Need-returns
 returns c =
     let a = c .before .before .before .before .before .before .before .before .args in
-    let leaves = a .leaves .now in
+    let leaves = ofDegree (a .degree) (a .leaves .now) in
     let words = a .words .now in
     with-length-found leaves words _ _ _ _
     (begins-looked-up (codeOf leaves words) _ (a .guess) (omega (arith, c .before .before .before .before .before .leaf-count .ensures, c .before .before .before .before .if1 .taken)) (c .before .before .begins .ensures (c .before .if2 .taken)))

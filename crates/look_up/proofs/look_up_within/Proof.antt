@@ -1,4 +1,5 @@
 -- The part is searched where it must have the leaf, else all leaves are.
+use Rattle.layout_rules.specs.Section.{ofDegree}
 use Rattle.look_up.proofs.Search.{with-length-found}
 use Rattle.look_up.specs.Search.{Between}
 use Rattle.leaf_rules.specs.Leaf.{codeOf}
@@ -19,7 +20,7 @@ search-part-requires : tie.Need-search-part-requires
 search-part-requires c κs =
     let at = c .before .before .is-between .ensures (c .before .if1 .taken) in
     let all : c .before .before .before .before .before .before .args .high ≡ c .before .before .before .before .before .before .args .low + (c .before .before .before .before .before .before .args .high - c .before .before .before .before .before .before .args .low) = omega (arith, at .rising) in
-    subst (Between (codeOf (c .before .before .before .before .before .before .args .leaves .now) (c .before .before .before .before .before .before .args .words .now)) _ (c .before .before .before .before .before .before .args .low)) all at
+    subst (Between (codeOf (ofDegree (c .before .before .before .before .before .before .args .degree) (c .before .before .before .before .before .before .args .leaves .now)) (c .before .before .before .before .before .before .args .words .now)) _ (c .before .before .before .before .before .before .args .low)) all at
 
 with-length-requires : tie.Need-with-length-requires
 with-length-requires c κs = search needs
@@ -27,7 +28,7 @@ with-length-requires c κs = search needs
 returns : tie.Need-returns
 returns c =
     let a = c .before .before .before .before .before .before .before .before .args in
-    with-length-found (a .leaves .now) (a .words .now) _ _ _ _ (c .before .search-part .ensures) (c .with-length .ensures .0) (c .with-length .ensures .1)
+    with-length-found (ofDegree (a .degree) (a .leaves .now)) (a .words .now) _ _ _ _ (c .before .search-part .ensures) (c .with-length .ensures .0) (c .with-length .ensures .1)
 
 look-up-requires : tie.Need-look-up-requires
 look-up-requires c κs = search needs

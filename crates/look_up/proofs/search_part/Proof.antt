@@ -1,4 +1,5 @@
 -- The leaf stays between the two ends; where they are one apart it is the lower one.
+use Rattle.layout_rules.specs.Section.{ofDegree}
 use Rattle.look_up.proofs.Search.{between-next, between-one}
 use Rattle.look_up.specs.Search.{Between}
 use Rattle.leaf_rules.specs.Leaf.{codeOf}
@@ -8,10 +9,10 @@ use Rattle.look_up.proofs.search_part.Statement.{statement}
 use Rattle.look_up.proofs.search_part.Tie as tie
 
 abbrev Inv-loop : tie.InvT-loop
-Inv-loop leaves words window from count low₀ size₀ low size = Between (codeOf leaves words) window low (low + size)
+Inv-loop degree leaves words window from count low₀ size₀ low size = Between (codeOf (ofDegree degree leaves) words) window low (low + size)
 
 abbrev μ-loop : tie.MeasureT-loop
-μ-loop leaves words window from count low₀ size₀ low size = size
+μ-loop degree leaves words window from count low₀ size₀ low size = size
 
 -- src/lib.rt:175:5
 loop-holds : tie.Need-loop-holds Inv-loop μ-loop

@@ -1,4 +1,5 @@
 -- The digits passed have slots of their own.
+use Rattle.layout_rules.specs.Section.{ofDegree}
 use Rattle.pair_digits.proofs.Slots.{slot-next}
 use Rattle.slots.specs.Slot.{slotOf}
 use Rattle.pair_digits.specs.Slots.{SlottedBefore}
@@ -13,10 +14,10 @@ use Rattle.pair_digits.proofs.slot_digits.Statement.{statement}
 use Rattle.pair_digits.proofs.slot_digits.Tie as tie
 
 abbrev Inv-loop : tie.InvT-loop
-Inv-loop alphabet slots₀ count digit₀ slots digit = (digit ≤ count) × SlottedBefore alphabet slots digit
+Inv-loop degree alphabet slots₀ count digit₀ slots digit = (digit ≤ count) × SlottedBefore (ofDegree degree alphabet) slots digit
 
 abbrev μ-loop : tie.MeasureT-loop
-μ-loop alphabet slots₀ count digit₀ slots digit = count - digit
+μ-loop degree alphabet slots₀ count digit₀ slots digit = count - digit
 
 record-count-requires : tie.Need-record-count-requires Inv-loop μ-loop
 record-count-requires c κs = search needs
@@ -31,7 +32,7 @@ record-at-requires : tie.Need-record-at-requires Inv-loop μ-loop
 record-at-requires c κs = omega (arith, c .before .before .before .record-count .ensures)
 
 slot-of-requires : tie.Need-slot-of-requires Inv-loop μ-loop
-slot-of-requires c κs = within-le 32768 (2 ^ 58) _ (lit≤ tt) (c .record-at .ensures .1)
+slot-of-requires c κs = within-le 32768 (2 ^ 56) _ (lit≤ tt) (c .record-at .ensures .1)
 
 element-copy-out-if2 : tie.Need-element-copy-out-if2 Inv-loop μ-loop
 element-copy-out-if2 c = omega (arith, c .slot-of .ensures .1)
@@ -57,7 +58,7 @@ loop-again c =
     let loop = c .before .before .before .before .before .loop in
     let slot-of = c .before .before .slot-of in (
       omega arith,
-      slot-next (a .alphabet .now) (loop .slots) (loop .digit) (slot-of .result) (slot-of .ensures .0 ∙ ap slotOf (c .before .before .before .record-at .ensures .0)) (omega (arith, c .if2 .left))
+      slot-next (ofDegree (a .degree) (a .alphabet .now)) (loop .slots) (loop .digit) (slot-of .result) (slot-of .ensures .0 ∙ ap slotOf (c .before .before .before .record-at .ensures .0)) (omega (arith, c .if2 .left))
           (omega arith) (loop .inv .1),
     )
 

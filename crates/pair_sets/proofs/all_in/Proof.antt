@@ -1,4 +1,5 @@
 -- All upper leaves passed so far pass: the weights of all that fit one are among those that give digits with it.
+use Rattle.layout_rules.specs.Section.{ofDegree}
 use Rattle.leaf_rules.specs.Given.{weightGiven}
 use borrow.Author.Tests.{not-false}
 use Rattle.digit_rules.specs.Record.{elementCount}
@@ -19,11 +20,11 @@ use Rattle.pair_sets.proofs.all_in.Statement.{statement}
 use Rattle.pair_sets.proofs.all_in.Tie as tie
 
 abbrev Inv-loop : tie.InvT-loop
-Inv-loop base alphabet inputs leaves words keys numbers sets first count slots made₀ good₀ leaf-count all guess₀ upper₀ made good guess upper =
-    (guess ≤ leaf-count) × AllPass base alphabet inputs leaves words upper × Judged base alphabet inputs leaves first made good
+Inv-loop degree base alphabet inputs leaves words keys numbers sets first count slots made₀ good₀ leaf-count all guess₀ upper₀ made good guess upper =
+    (guess ≤ leaf-count) × AllPass base (ofDegree degree alphabet) (ofDegree degree inputs) (ofDegree degree leaves) words upper × Judged base (ofDegree degree alphabet) (ofDegree degree inputs) (ofDegree degree leaves) first made good
 
 abbrev μ-loop : tie.MeasureT-loop
-μ-loop base alphabet inputs leaves words keys numbers sets first count slots made₀ good₀ leaf-count all guess₀ upper₀ made good guess upper =
+μ-loop degree base alphabet inputs leaves words keys numbers sets first count slots made₀ good₀ leaf-count all guess₀ upper₀ made good guess upper =
     leaf-count - upper
 
 slot-digits-requires : tie.Need-slot-digits-requires Inv-loop μ-loop
@@ -44,8 +45,8 @@ loop-holds c = (omega arith, λ u h. absurd (omega arith), λ i d e. absurd (ome
 fitting-requires : tie.Need-fitting-requires Inv-loop μ-loop
 fitting-requires c κs =
     let a = c .before .before .before .before .before .before .before .before .before .before .before .before .before .before .before .args in
-    let leaves = a .leaves .now in
-    let inputs = a .inputs .now in
+    let leaves = ofDegree (a .degree) (a .leaves .now) in
+    let inputs = ofDegree (a .degree) (a .inputs .now) in
     let words = a .words .now in
     let pre = c .before .before .before .before .before .before .before .before .before .before .before .before .before .before .before .pre in
     let leaf-count = c .before .before .before .leaf-count in (
@@ -70,8 +71,8 @@ wide-requires c κs = search needs
 judged-requires : tie.Need-judged-requires Inv-loop μ-loop
 judged-requires c κs =
     let a = c .before .before .before .before .before .before .before .before .before .before .before .before .before .before .before .before .before .before .before .before .before .args in
-    let leaves = a .leaves .now in
-    let inputs = a .inputs .now in
+    let leaves = ofDegree (a .degree) (a .leaves .now) in
+    let inputs = ofDegree (a .degree) (a .inputs .now) in
     let words = a .words .now in
     let pre = c .before .before .before .before .before .before .before .before .before .before .before .before .before .before .before .before .before .before .before .before .before .pre in
     let slot-digits = c .before .before .before .before .before .before .before .before .before .before .before .slot-digits in
@@ -107,8 +108,8 @@ loop-less c = omega arith
 loop-again : tie.Need-loop-again Inv-loop μ-loop
 loop-again c =
     let a = c .before .before .before .before .before .before .before .before .before .before .before .before .before .before .before .before .before .before .before .before .before .before .before .args in
-    let leaves = a .leaves .now in
-    let inputs = a .inputs .now in
+    let leaves = ofDegree (a .degree) (a .leaves .now) in
+    let inputs = ofDegree (a .degree) (a .inputs .now) in
     let words = a .words .now in
     let pre = c .before .before .before .before .before .before .before .before .before .before .before .before .before .before .before .before .before .before .before .before .before .before .before .pre in
     let shared-slice-known4 = c .before .before .before .before .before .before .before .before .before .before .before .before .before .before .before .before .before .before .before .shared-slice-known4 in
@@ -116,7 +117,7 @@ loop-again c =
     let loop = c .before .before .before .before .before .before .before .before .before .loop in
     let fitting = c .before .before .before .before .before .before .before .fitting in (
       omega (arith, fitting .ensures .0, leaf-count .ensures),
-      all-next leaves words (elementCount inputs) (pre .0 .1) (formed leaves words (elementCount inputs) (pre .0 .1) (pre .0 .2)) (a .base) inputs (a .alphabet .now) (a .numbers .now) (a .first .now) (a .count)
+      all-next leaves words (elementCount inputs) (pre .0 .1) (formed leaves words (elementCount inputs) (pre .0 .1) (pre .0 .2)) (a .base) inputs (ofDegree (a .degree) (a .alphabet .now)) (a .numbers .now) (a .first .now) (a .count)
           (pre .1 .1 .1) (loop .upper) (omega (arith, leaf-count .ensures)) (fitting .result .set) (c .before .judged .result)
           (fitting .ensures .1 words (ready-words leaves words (elementCount inputs) (formed leaves words (elementCount inputs) (pre .0 .1) (pre .0 .2)) (λ i. omega (arith, shared-slice-known4 .given i))) (pre .1 .1 .0))
           (omega (arith, c .if2 .left)) (c .before .judged .ensures .0) (loop .inv .1),

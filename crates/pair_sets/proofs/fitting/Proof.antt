@@ -1,4 +1,5 @@
 -- A run that starts early enough and ends late enough has all leaves that fit, and its set their weights.
+use Rattle.layout_rules.specs.Section.{ofDegree}
 use Rattle.pair_sets.proofs.Keys.{run-has}
 use Rattle.weight_sets.specs.Weights.{Covers}
 use mathlib.Core.Path.{refl, sym, ap, subst, _∙_}
@@ -53,7 +54,7 @@ returns-2 c =
     let behind = c .before .before .before .behind in
     let start-of = c .before .before .start-of in (
       omega (arith, c .one-by-one .ensures .0 .1, leaf-count .ensures),
-      λ words ready keyed. run-has (a .leaves .now) words ready upper (pre .1 .0 .0) keys numbers keyed ((getD keys upper 0 * 2 ^ 8) % 2 ^ 64) (behind .result) (start-of .result) (c .one-by-one .result .set)
+      λ words ready keyed. run-has (ofDegree (a .degree) (a .leaves .now)) words ready upper (pre .1 .0 .0) keys numbers keyed ((getD keys upper 0 * 2 ^ 8) % 2 ^ 64) (behind .result) (start-of .result) (c .one-by-one .result .set)
           (c .one-by-one .result .end) refl (behind .ensures ∙ ap (λ (n : ℕ). 256 ^ (8 - pred n)) (word-length .ensures .0))
           (λ h. let e = start-of .ensures .1 h in (omega (arith, e .0, leaf-count .ensures), e .1)) (λ h. c .one-by-one .ensures .0 .2 (omega (arith, leaf-count .ensures)))
           (c .one-by-one .ensures .1 (start-of .result) (c .before .by-eights .ensures .1 numbers (subst (λ (n : ℕ). Covers numbers (a .sets .now) n 8) (sym (leaf-count .ensures)) (pre .1 .1 .1)))),

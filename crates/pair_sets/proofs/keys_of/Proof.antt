@@ -1,4 +1,5 @@
 -- The leaves passed have their words' numbers.
+use Rattle.layout_rules.specs.Section.{ofDegree}
 use Rattle.radix.specs.Number.{aligned}
 use Rattle.pair_sets.specs.Runs.{wordNumber, Keyed}
 use Rattle.weight_sets.proofs.Weights.{entry-next}
@@ -11,10 +12,10 @@ use Rattle.pair_sets.proofs.keys_of.Statement.{statement}
 use Rattle.pair_sets.proofs.keys_of.Tie as tie
 
 abbrev Inv-loop : tie.InvT-loop
-Inv-loop leaves words keys₀ count leaf₀ keys leaf = (length keys ≡ length keys₀) × Keyed leaves words keys leaf
+Inv-loop degree leaves words keys₀ count leaf₀ keys leaf = (length keys ≡ length keys₀) × Keyed (ofDegree degree leaves) words keys leaf
 
 abbrev μ-loop : tie.MeasureT-loop
-μ-loop leaves words keys₀ count leaf₀ keys leaf = count - leaf
+μ-loop degree leaves words keys₀ count leaf₀ keys leaf = count - leaf
 
 leaf-count-requires : tie.Need-leaf-count-requires Inv-loop μ-loop
 leaf-count-requires c κs = search needs
@@ -57,7 +58,7 @@ loop-again c =
     let leaf-count = c .before .before .before .before .before .leaf-count in
     let loop = c .before .before .before .before .loop in (
       length-set (loop .keys) _ _ ∙ loop .inv .0,
-      entry-next (λ k x. x ≡ wordNumber (a .leaves .now) words k) (loop .keys) (loop .leaf) (c .word-number .result) (omega (arith, leaf-count .ensures, loop .inv .0)) (loop .inv .1)
+      entry-next (λ k x. x ≡ wordNumber (ofDegree (a .degree) (a .leaves .now)) words k) (loop .keys) (loop .leaf) (c .word-number .result) (omega (arith, leaf-count .ensures, loop .inv .0)) (loop .inv .1)
           (c .word-number .ensures ∙ (λ i. aligned 256 (λ j. getD words (c .before .before .word-start .ensures .0 i + j) 0) (c .before .word-length .ensures .0 i))),
     )
 

@@ -1,4 +1,5 @@
 -- The weights are numbered, the words are numbers and the eights cover their leaves, which is what the look at all pairs asks for.
+use Rattle.layout_rules.specs.Section.{ofDegree}
 use Rattle.pair_sets.specs.Runs.{AllPass}
 use Rattle.pair_sets.proofs.Keys.{ready-words}
 use Rattle.prefix_rules.proofs.Formed.{formed}
@@ -30,8 +31,8 @@ returns c = λ no. clash no refl
 keys-of-requires : tie.Need-keys-of-requires
 keys-of-requires c κs =
     let a = c .before .before .before .before .before .before .before .before .before .before .before .before .before .before .before .before .args in
-    let leaves = a .leaves .now in
-    let inputs = a .inputs .now in
+    let leaves = ofDegree (a .degree) (a .leaves .now) in
+    let inputs = ofDegree (a .degree) (a .inputs .now) in
     let words = a .words .now in
     let pre = c .before .before .before .before .before .before .before .before .before .before .before .before .before .before .before .before .pre in
     let shared-slice-known5 = c .before .before .before .before .before .before .before .before .before .before .before .shared-slice-known5 in
@@ -70,7 +71,7 @@ all-in-requires c κs =
     let eights = c .before .before .before .before .before .before .before .eights in
     let sets = c .before .before .before .before .before .before .sets in
     let base-of = c .before .before .before .before .base-of in (
-      (subst (RowsWithin (2 ^ 24)) (sym (base-of .ensures)) (base-within (a .base .now) (pre .0 .0)), pre .0 .1, pre .0 .2),
+      (subst (RowsWithin (2 ^ 21)) (sym (base-of .ensures)) (base-within (ofDegree (a .degree) (a .base .now)) (pre .0 .0)), pre .0 .1, pre .0 .2),
       (
         (
           omega (arith, keys .given, pre .1 .0),
@@ -95,9 +96,9 @@ same-length-4 c = search needs
 returns-2 : tie.Need-returns-2
 returns-2 c =
     let a = c .before .before .before .before .before .before .before .before .before .before .before .before .before .before .before .before .before .before .before .before .before .before .before .before .before .before .before .before .before .before .before .args in
-    let leaves = a .leaves .now in
+    let leaves = ofDegree (a .degree) (a .leaves .now) in
     let base-of = c .before .before .before .before .before .base-of in
-    λ yes. subst (λ b. AllPass b (a .alphabet .now) (a .inputs .now) leaves (a .words .now) (leafCount leaves)) (base-of .ensures) (c .all-in .ensures yes)
+    λ yes. subst (λ b. AllPass b (ofDegree (a .degree) (a .alphabet .now)) (ofDegree (a .degree) (a .inputs .now)) leaves (a .words .now) (leafCount leaves)) (base-of .ensures) (c .all-in .ensures yes)
 
 pub look-spec : {M : Type 1} → statement M
 look-spec =

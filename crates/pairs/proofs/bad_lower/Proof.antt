@@ -9,9 +9,10 @@ use lib.ListN.{length, getD}
 use borrow.Author.Count.{below-more}
 use borrow.Author.Needs.{needs}
 use borrow.Author.Tests.{not-true, not-false}
+use Rattle.ring.specs.Degree.{partCount}
 use Rattle.lists.specs.Span.{span}
 use Rattle.ring.specs.Element.{plus}
-use Rattle.layout_rules.specs.Section.{degree}
+use Rattle.layout_rules.specs.Section.{ofDegree}
 use Rattle.digit_rules.specs.Record.{recordAt, elementCount}
 use Rattle.numeration.specs.LeafOf.{agree}
 use Rattle.numeration.specs.Elements.{elements}
@@ -28,45 +29,45 @@ use Rattle.pairs.proofs.bad_lower.Statement.{statement}
 use Rattle.pairs.proofs.bad_lower.Tie as tie
 
 abbrev Inv-loop : tie.InvT-loop
-Inv-loop alphabet known slots inputs leaves words upper guess count top part lower₀ lower =
-    (lowestFit (codeOf leaves words) upper ≤ lower) × ((matrix : List (List ℤ)) → part ≡ upperPart matrix inputs leaves words upper → (j : ℕ) → j < lower → pairPasses (elements degree matrix) (recordAt inputs) (codeOf leaves words) (inAlphabet alphabet) upper j ≡ true)
+Inv-loop degree alphabet known slots inputs leaves words upper guess count top part lower₀ lower =
+    (lowestFit (codeOf (ofDegree degree leaves) words) upper ≤ lower) × ((matrix : List (List ℤ)) → part ≡ upperPart matrix (ofDegree degree inputs) (ofDegree degree leaves) words upper → (j : ℕ) → j < lower → pairPasses (elements (partCount degree) matrix) (recordAt (ofDegree degree inputs)) (codeOf (ofDegree degree leaves) words) (inAlphabet (ofDegree degree alphabet)) upper j ≡ true)
 
 abbrev μ-loop : tie.MeasureT-loop
-μ-loop alphabet known slots inputs leaves words upper guess count top part lower₀ lower = count - lower
+μ-loop degree alphabet known slots inputs leaves words upper guess count top part lower₀ lower = count - lower
 
-well : (s : tie.Start Inv-loop μ-loop) → LeavesFormed (s .args .leaves .now) (s .args .words .now) (elementCount (s .args .inputs .now))
-well s = formed (s .args .leaves .now) (s .args .words .now) (elementCount (s .args .inputs .now)) (s .pre .0 .1) (s .pre .0 .2)
+well : (s : tie.Start Inv-loop μ-loop) → LeavesFormed (ofDegree (s .args .degree) (s .args .leaves .now)) (s .args .words .now) (elementCount (ofDegree (s .args .degree) (s .args .inputs .now)))
+well s = formed (ofDegree (s .args .degree) (s .args .leaves .now)) (s .args .words .now) (elementCount (ofDegree (s .args .degree) (s .args .inputs .now))) (s .pre .0 .1) (s .pre .0 .2)
 
 -- the number of leaves, as counted
-counted : (c : tie.After-leaf-count Inv-loop μ-loop) → c .leaf-count .result ≡ leafCount (c .before .before .before .before .before .args .leaves .now)
+counted : (c : tie.After-leaf-count Inv-loop μ-loop) → c .leaf-count .result ≡ leafCount (ofDegree (c .before .before .before .before .before .args .degree) (c .before .before .before .before .before .args .leaves .now))
 counted c = c .leaf-count .ensures
 
 fit-says : (c : tie.After-fit Inv-loop μ-loop) →
     (let a = c .before .before .before .before .before .before .before .before .before .before .before .before .before .args in
-    c .fit .result ≡ fits (codeOf (a .leaves .now) (a .words .now)) (a .upper) (c .before .before .before .loop .lower))
+    c .fit .result ≡ fits (codeOf (ofDegree (a .degree) (a .leaves .now)) (a .words .now)) (a .upper) (c .before .before .before .loop .lower))
 fit-says c =
     let s = c .before .before .before .before .before .before .before .before .before .before .before .before .before in
     let word = c .before .before .before .before .before .before .before .word in
     let loop = c .before .before .before .loop in
-    let leaves = s .args .leaves .now in
+    let leaves = ofDegree (s .args .degree) (s .args .leaves .now) in
     let words = s .args .words .now in
     let top = word .ensures in
     let low = c .before .word2 .ensures in
     let h : loop .lower < leafCount leaves = omega (arith, counted (c .before .before .before .before .before .before .before .before), c .before .before .loop-test .taken) in
-    c .fit .ensures ∙ (λ i. agree (λ k. getD (top i) (k + 1) 0) (λ k. getD (low i) k 0) (min (pred (length (top i))) (length (low i)))) ∙ fit-is leaves words (elementCount (s .args .inputs .now)) (s .pre .0 .1) (well s) (s .args .upper) (s .pre .1 .0) (loop .lower) h
+    c .fit .ensures ∙ (λ i. agree (λ k. getD (top i) (k + 1) 0) (λ k. getD (low i) k 0) (min (pred (length (top i))) (length (low i)))) ∙ fit-is leaves words (elementCount (ofDegree (s .args .degree) (s .args .inputs .now))) (s .pre .0 .1) (well s) (s .args .upper) (s .pre .1 .0) (loop .lower) h
 
 pair-says : (c : tie.After-gives-digit Inv-loop μ-loop) (matrix : List (List ℤ)) →
     (let a = c .before .before .before .before .before .before .before .before .before .before .before .before .before .before .before .args in
-    c .before .before .before .before .before .before .before .before .upper-part .result ≡ upperPart matrix (a .inputs .now) (a .leaves .now) (a .words .now) (a .upper)
-    → c .gives-digit .result ≡ pairPasses (elements degree matrix) (recordAt (a .inputs .now)) (codeOf (a .leaves .now) (a .words .now)) (inAlphabet (a .alphabet .now)) (a .upper)
+    c .before .before .before .before .before .before .before .before .upper-part .result ≡ upperPart matrix (ofDegree (a .degree) (a .inputs .now)) (ofDegree (a .degree) (a .leaves .now)) (a .words .now) (a .upper)
+    → c .gives-digit .result ≡ pairPasses (elements (partCount (a .degree)) matrix) (recordAt (ofDegree (a .degree) (a .inputs .now))) (codeOf (ofDegree (a .degree) (a .leaves .now)) (a .words .now)) (inAlphabet (ofDegree (a .degree) (a .alphabet .now))) (a .upper)
     (c .before .before .before .before .before .loop .lower))
 pair-says c matrix own =
     let s = c .before .before .before .before .before .before .before .before .before .before .before .before .before .before .before in
     let d = c .before .before in
     let l = d .before .before .before .loop .lower in
-    let h : d .before .before .before .loop .lower < leafCount (s .args .leaves .now) = omega (arith, counted (d .before .before .before .before .before .before .before .before), d .before .before .loop-test .taken) in
-    c .gives-digit .ensures ∙ ap (λ p. inAlphabet (s .args .alphabet .now) (plus p (weightGiven (s .args .leaves .now) l))) own ∙ pair-is (s .args .leaves .now) (s .args .words .now)
-    (elementCount (s .args .inputs .now)) (s .pre .0 .1) (well s) (s .args .upper) (s .pre .1 .0) matrix (s .args .inputs .now) (inAlphabet (s .args .alphabet .now)) l h
+    let h : d .before .before .before .loop .lower < leafCount (ofDegree (s .args .degree) (s .args .leaves .now)) = omega (arith, counted (d .before .before .before .before .before .before .before .before), d .before .before .loop-test .taken) in
+    c .gives-digit .ensures ∙ ap (λ p. inAlphabet (ofDegree (s .args .degree) (s .args .alphabet .now)) (plus p (weightGiven (ofDegree (s .args .degree) (s .args .leaves .now)) l))) own ∙ pair-is (ofDegree (s .args .degree) (s .args .leaves .now)) (s .args .words .now)
+    (elementCount (ofDegree (s .args .degree) (s .args .inputs .now))) (s .pre .0 .1) (well s) (s .args .upper) (s .pre .1 .0) matrix (ofDegree (s .args .degree) (s .args .inputs .now)) (inAlphabet (ofDegree (s .args .degree) (s .args .alphabet .now))) l h
     (sym (fit-says d) ∙ not-false _ (c .before .if1 .left))
 
 leaf-count-requires : tie.Need-leaf-count-requires Inv-loop μ-loop
@@ -78,7 +79,7 @@ word-requires c κs = search needs
 upper-part-requires : tie.Need-upper-part-requires Inv-loop μ-loop
 upper-part-requires c κs =
     let s = (c .before .before .before .before .before .before) in
-    (s .pre .0 .0, first-input (s .args .leaves .now) (s .args .words .now) (elementCount (s .args .inputs .now)) (s .pre .0 .1) (well s) (s .args .upper) (s .pre .1 .0))
+    (s .pre .0 .0, first-input (ofDegree (s .args .degree) (s .args .leaves .now)) (s .args .words .now) (elementCount (ofDegree (s .args .degree) (s .args .inputs .now))) (s .pre .0 .1) (well s) (s .args .upper) (s .pre .1 .0))
 
 tail-window-requires : tie.Need-tail-window-requires Inv-loop μ-loop
 tail-window-requires c κs = search needs
@@ -89,13 +90,13 @@ look-up-from-requires c κs = search needs
 loop-holds : tie.Need-loop-holds Inv-loop μ-loop
 loop-holds c =
     let s = (c .before .before .before .before .before .before .before .before .before) in
-    let leaves = s .args .leaves .now in
+    let leaves = ofDegree (s .args .degree) (s .args .leaves .now) in
     let words = s .args .words .now in
-    let m = elementCount (s .args .inputs .now) in
+    let m = elementCount (ofDegree (s .args .degree) (s .args .inputs .now)) in
     let u = s .args .upper in
     let window = c .before .tail-window .ensures ∙ ap (λ w. span (λ i. getD w i 0) 1 8) (c .before .before .before .word .ensures) in
     let lowest = lowest-found leaves words m (s .pre .0 .1) (well s) u (s .pre .1 .0) (c .look-up-from .result .leaf) (subst (λ w. LookedUp (codeOf leaves words) w (c .look-up-from .result .leaf)) window (c .look-up-from .ensures .0)) in
-    (omega (arith, lowest), λ matrix own. subst (λ (l : ℕ). (j : ℕ) → j < l → pairPasses (elements degree matrix) (recordAt (s .args .inputs .now)) (codeOf leaves words) (inAlphabet (s .args .alphabet .now)) u j ≡ true) (sym lowest) (upto-lowest leaves words m (s .pre .0 .1) (well s) u (s .pre .1 .0) matrix (s .args .inputs .now) (inAlphabet (s .args .alphabet .now))))
+    (omega (arith, lowest), λ matrix own. subst (λ (l : ℕ). (j : ℕ) → j < l → pairPasses (elements (partCount (s .args .degree)) matrix) (recordAt (ofDegree (s .args .degree) (s .args .inputs .now))) (codeOf leaves words) (inAlphabet (ofDegree (s .args .degree) (s .args .alphabet .now))) u j ≡ true) (sym lowest) (upto-lowest leaves words m (s .pre .0 .1) (well s) u (s .pre .1 .0) matrix (ofDegree (s .args .degree) (s .args .inputs .now)) (inAlphabet (ofDegree (s .args .degree) (s .args .alphabet .now)))))
 
 word-requires-2 : tie.Need-word-requires-2 Inv-loop μ-loop
 word-requires-2 c κs = search needs
@@ -108,10 +109,10 @@ returns c =
     let s = c .before .before .before .before .before .before .before .before .before .before .before .before .before .before in
     let upper-part = c .before .before .before .before .before .before .before .upper-part in
     let loop = c .before .before .before .before .loop in
-    let leaves = s .args .leaves .now in
+    let leaves = ofDegree (s .args .degree) (s .args .leaves .now) in
     let count = counted (c .before .before .before .before .before .before .before .before .before) in
-    count ∙ ends-unfit leaves (s .args .words .now) (elementCount (s .args .inputs .now)) (s .pre .0 .1) (well s) (s .args .upper) (s .pre .1 .0) (s .args .base) (s .args .inputs .now)
-    (inAlphabet (s .args .alphabet .now)) (loop .lower) (loop .inv .0) (omega (arith, count, c .before .before .before .loop-test .taken))
+    count ∙ ends-unfit leaves (s .args .words .now) (elementCount (ofDegree (s .args .degree) (s .args .inputs .now))) (s .pre .0 .1) (well s) (s .args .upper) (s .pre .1 .0) (s .args .base) (ofDegree (s .args .degree) (s .args .inputs .now))
+    (inAlphabet (ofDegree (s .args .degree) (s .args .alphabet .now))) (loop .lower) (loop .inv .0) (omega (arith, count, c .before .before .before .loop-test .taken))
     (sym (fit-says (c .before)) ∙ not-true _ (c .if1 .taken)) (loop .inv .1 (s .args .base) (upper-part .ensures .0))
 
 gives-digit-requires : tie.Need-gives-digit-requires Inv-loop μ-loop
@@ -123,8 +124,8 @@ returns-2 c =
     let upper-part = c .before .before .before .before .before .before .before .before .before .upper-part in
     let loop = c .before .before .before .before .before .before .loop in
     let loop-test = c .before .before .before .before .before .loop-test in
-    ends-bad (s .args .leaves .now) (s .args .words .now) (elementCount (s .args .inputs .now)) (s .pre .0 .1) (well s) (s .args .upper) (s .pre .1 .0) (s .args .base) (s .args .inputs .now)
-    (inAlphabet (s .args .alphabet .now)) (loop .lower)
+    ends-bad (ofDegree (s .args .degree) (s .args .leaves .now)) (s .args .words .now) (elementCount (ofDegree (s .args .degree) (s .args .inputs .now))) (s .pre .0 .1) (well s) (s .args .upper) (s .pre .1 .0) (s .args .base) (ofDegree (s .args .degree) (s .args .inputs .now))
+    (inAlphabet (ofDegree (s .args .degree) (s .args .alphabet .now))) (loop .lower)
     (omega (arith, counted (c .before .before .before .before .before .before .before .before .before .before .before), loop-test .taken))
     (sym (pair-says (c .before) (s .args .base) (upper-part .ensures .0)) ∙ not-true _ (c .if2 .taken)) (loop .inv .1 (s .args .base) (upper-part .ensures .0))
 
@@ -142,7 +143,7 @@ returns-3 c =
     let s = (c .before .before .before .before .before .before .before .before .before .before .before) in
     let loop = c .before .loop in
     let count = counted (c .before .before .before .before .before .before) in
-    count ∙ ends-all (s .args .leaves .now) (s .args .words .now) (elementCount (s .args .inputs .now)) (s .pre .0 .1) (well s) (s .args .upper) (s .pre .1 .0) (s .args .base) (s .args .inputs .now) (inAlphabet (s .args .alphabet .now)) (loop .lower) (omega (arith, count, c .loop-test .left)) (loop .inv .1 (s .args .base) (c .before .before .before .before .upper-part .ensures .0))
+    count ∙ ends-all (ofDegree (s .args .degree) (s .args .leaves .now)) (s .args .words .now) (elementCount (ofDegree (s .args .degree) (s .args .inputs .now))) (s .pre .0 .1) (well s) (s .args .upper) (s .pre .1 .0) (s .args .base) (ofDegree (s .args .degree) (s .args .inputs .now)) (inAlphabet (ofDegree (s .args .degree) (s .args .alphabet .now))) (loop .lower) (omega (arith, count, c .loop-test .left)) (loop .inv .1 (s .args .base) (c .before .before .before .before .upper-part .ensures .0))
 
 pub bad-lower-spec : {M : Type 1} → statement M
 bad-lower-spec =

@@ -5,9 +5,10 @@ use native.Mathlib.Omega.{arith}
 use native.Mathlib.Nat.{not-suc-le-zero}
 use borrow.Author.Count.{below-more}
 use borrow.Author.Needs.{needs}
+use Rattle.ring.specs.Degree.{partCount}
 use Rattle.lists.specs.Scan.{firstFailing}
 use Rattle.ring.specs.Tests.{RowsWithin}
-use Rattle.layout_rules.specs.Section.{degree}
+use Rattle.layout_rules.specs.Section.{ofDegree}
 use Rattle.digit_rules.specs.Record.{recordAt}
 use Rattle.digit_rules.proofs.Base.{base-within}
 use Rattle.numeration.specs.Elements.{elements}
@@ -19,20 +20,20 @@ use Rattle.pairs.proofs.bad_pair.Statement.{statement}
 use Rattle.pairs.proofs.bad_pair.Tie as tie
 
 abbrev Inv-loop : tie.InvT-loop
-Inv-loop base alphabet inputs leaves words matrix slots known count guess₀ upper₀ guess upper = UppersPass base alphabet inputs leaves words upper
+Inv-loop degree base alphabet inputs leaves words matrix slots known count guess₀ upper₀ guess upper = UppersPass (ofDegree degree base) (ofDegree degree alphabet) (ofDegree degree inputs) (ofDegree degree leaves) words upper
 
 abbrev μ-loop : tie.MeasureT-loop
-μ-loop base alphabet inputs leaves words matrix slots known count guess₀ upper₀ guess upper = count - upper
+μ-loop degree base alphabet inputs leaves words matrix slots known count guess₀ upper₀ guess upper = count - upper
 
 -- the lowest lower leaf of the upper one, by the base's matrix
 lower-is : (c : tie.After-bad-lower Inv-loop μ-loop) →
     (let a = c .before .before .before .before .before .before .before .before .before .before .before .before .before .args in
-    c .bad-lower .result .bad ≡ badLower (a .base .now) (a .alphabet .now) (a .inputs .now) (a .leaves .now) (a .words .now) (c .before .before .before .loop .upper))
+    c .bad-lower .result .bad ≡ badLower (ofDegree (a .degree) (a .base .now)) (ofDegree (a .degree) (a .alphabet .now)) (ofDegree (a .degree) (a .inputs .now)) (ofDegree (a .degree) (a .leaves .now)) (a .words .now) (c .before .before .before .loop .upper))
 unfolding badLower
 lower-is c =
     let s = c .before .before .before .before .before .before .before .before .before .before .before .before .before in
     let base-of = c .before .before .before .before .before .before .before .base-of in
-    c .bad-lower .ensures ∙ ap (λ b. firstFailing (pairPasses (elements degree b) (recordAt (s .args .inputs .now)) (codeOf (s .args .leaves .now) (s .args .words .now)) (inAlphabet (s .args .alphabet .now)) (c .before .before .before .loop .upper)) 0 (leafCount (s .args .leaves .now))) (base-of .ensures)
+    c .bad-lower .ensures ∙ ap (λ b. firstFailing (pairPasses (elements (partCount (s .args .degree)) b) (recordAt (ofDegree (s .args .degree) (s .args .inputs .now))) (codeOf (ofDegree (s .args .degree) (s .args .leaves .now)) (s .args .words .now)) (inAlphabet (ofDegree (s .args .degree) (s .args .alphabet .now))) (c .before .before .before .loop .upper)) 0 (leafCount (ofDegree (s .args .degree) (s .args .leaves .now)))) (base-of .ensures)
 
 base-of-requires : tie.Need-base-of-requires Inv-loop μ-loop
 base-of-requires c κs = c .before .before .before .before .before .pre .0
@@ -52,8 +53,8 @@ bad-lower-requires c κs =
     let pre = c .before .before .before .before .before .before .before .before .before .before .before .before .pre in
     let base-of = c .before .before .before .before .before .before .base-of in
     let slot-digits = c .before .before .before .before .slot-digits in
-    let base = a .base .now in (
-      (subst (RowsWithin (2 ^ 24)) (sym (base-of .ensures)) (base-within base (pre .0)), pre .1, pre .2),
+    let base = ofDegree (a .degree) (a .base .now) in (
+      (subst (RowsWithin (2 ^ 21)) (sym (base-of .ensures)) (base-within base (pre .0)), pre .1, pre .2),
       (
         omega (arith, c .before .before .before .leaf-count .ensures, c .before .loop-test .taken),
         slot-digits .ensures,
@@ -65,7 +66,7 @@ returns c =
     let a = c .before .before .before .before .before .before .before .before .before .before .before .before .before .before .args in
     let leaf-count = c .before .before .before .before .before .leaf-count in
     let loop = c .before .before .before .before .loop in
-    pair-found (a .base .now) (a .alphabet .now) (a .inputs .now) (a .leaves .now) (a .words .now) (loop .upper) (c .before .bad-lower .result .bad) (omega (arith, leaf-count .ensures, c .before .before .before .loop-test .taken)) (lower-is (c .before)) (omega (arith, leaf-count .ensures, c .if1 .taken)) (loop .inv)
+    pair-found (ofDegree (a .degree) (a .base .now)) (ofDegree (a .degree) (a .alphabet .now)) (ofDegree (a .degree) (a .inputs .now)) (ofDegree (a .degree) (a .leaves .now)) (a .words .now) (loop .upper) (c .before .bad-lower .result .bad) (omega (arith, leaf-count .ensures, c .before .before .before .loop-test .taken)) (lower-is (c .before)) (omega (arith, leaf-count .ensures, c .if1 .taken)) (loop .inv)
 
 add-upper : tie.Need-add-upper Inv-loop μ-loop
 add-upper c = omega arith
@@ -76,12 +77,12 @@ loop-less c = omega arith
 loop-again : tie.Need-loop-again Inv-loop μ-loop
 loop-again c =
     let a = c .before .before .before .before .before .before .before .before .before .before .before .before .before .before .args in
-    below-more _ _ (c .before .before .before .before .loop .inv) (upper-passes (a .base .now) (a .alphabet .now) (a .inputs .now) (a .leaves .now) (a .words .now) (c .before .before .before .before .loop .upper) (omega (arith, lower-is (c .before), c .before .before .before .before .before .leaf-count .ensures, c .if1 .left)))
+    below-more _ _ (c .before .before .before .before .loop .inv) (upper-passes (ofDegree (a .degree) (a .base .now)) (ofDegree (a .degree) (a .alphabet .now)) (ofDegree (a .degree) (a .inputs .now)) (ofDegree (a .degree) (a .leaves .now)) (a .words .now) (c .before .before .before .before .loop .upper) (omega (arith, lower-is (c .before), c .before .before .before .before .before .leaf-count .ensures, c .if1 .left)))
 
 returns-2 : tie.Need-returns-2 Inv-loop μ-loop
 returns-2 c =
     let a = c .before .before .before .before .before .before .before .before .before .before .before .args in
-    (λ i. record { upper = c .before .before .leaf-count .ensures i; lower = c .before .before .leaf-count .ensures i }) ∙ pair-none (a .base .now) (a .alphabet .now) (a .inputs .now) (a .leaves .now) (a .words .now) (c .before .loop .upper) (omega (arith, c .before .before .leaf-count .ensures, c .loop-test .left)) (c .before .loop .inv)
+    (λ i. record { upper = c .before .before .leaf-count .ensures i; lower = c .before .before .leaf-count .ensures i }) ∙ pair-none (ofDegree (a .degree) (a .base .now)) (ofDegree (a .degree) (a .alphabet .now)) (ofDegree (a .degree) (a .inputs .now)) (ofDegree (a .degree) (a .leaves .now)) (a .words .now) (c .before .loop .upper) (omega (arith, c .before .before .leaf-count .ensures, c .loop-test .left)) (c .before .loop .inv)
 
 pub bad-pair-spec : {M : Type 1} → statement M
 bad-pair-spec =

@@ -1,4 +1,5 @@
 -- The quick look, or else the failing pair, says whether rule 14 is broken, and where.
+use Rattle.layout_rules.specs.Section.{ofDegree}
 use Rattle.table_rules.proofs.Bad.{pairs-broken, pairs-kept}
 use Rattle.pairs.proofs.Quick.{all-kept}
 use Prim.Native.Nat.{ℕ, _<_, _≤_}
@@ -11,7 +12,7 @@ all-pass-requires : tie.Need-all-pass-requires
 all-pass-requires c κs = search needs
 
 returns : tie.Need-returns
-returns c = let a = c .before .before .before .before .before .before .before .args in all-kept (a .base .now) (a .alphabet .now) (a .inputs .now) (a .leaves .now) (a .words .now) (c .before .all-pass .ensures (c .if1 .taken))
+returns c = let a = c .before .before .before .before .before .before .before .args in all-kept (a .degree) (a .base .now) (a .leaves .now) (ofDegree (a .degree) (a .alphabet .now)) (ofDegree (a .degree) (a .inputs .now)) (a .words .now) (c .before .all-pass .ensures (c .if1 .taken))
 
 bad-pair-requires : tie.Need-bad-pair-requires
 bad-pair-requires c κs = search needs
@@ -23,14 +24,14 @@ returns-2 : tie.Need-returns-2
 returns-2 c =
     let a′ = c .before .before .before .before .before .before .before .before .before .before .before .args in
     let bad-pair = c .before .before .before .bad-pair in
-    let a = a′ in pairs-broken (a .base .now) (a .alphabet .now) (a .inputs .now) (a .leaves .now) (a .words .now) (bad-pair .result) (bad-pair .ensures)
+    let a = a′ in pairs-broken (ofDegree (a .degree) (a .base .now)) (ofDegree (a .degree) (a .alphabet .now)) (ofDegree (a .degree) (a .inputs .now)) (ofDegree (a .degree) (a .leaves .now)) (a .words .now) (bad-pair .result) (bad-pair .ensures)
     (subst (λ (n : ℕ). bad-pair .result .upper < n) (c .before .before .leaf-count .ensures) (c .if2 .taken))
 
 returns-3 : tie.Need-returns-3
 returns-3 c =
     let a′ = c .before .before .before .before .before .before .before .before .before .before .before .args in
     let bad-pair = c .before .before .before .bad-pair in
-    let a = a′ in pairs-kept (a .base .now) (a .alphabet .now) (a .inputs .now) (a .leaves .now) (a .words .now) (bad-pair .result) (bad-pair .ensures)
+    let a = a′ in pairs-kept (ofDegree (a .degree) (a .base .now)) (ofDegree (a .degree) (a .alphabet .now)) (ofDegree (a .degree) (a .inputs .now)) (ofDegree (a .degree) (a .leaves .now)) (a .words .now) (bad-pair .result) (bad-pair .ensures)
     (subst (λ (n : ℕ). n ≤ bad-pair .result .upper) (c .before .before .leaf-count .ensures) (c .if2 .left))
 
 pub pairs-spec : {M : Type 1} → statement M

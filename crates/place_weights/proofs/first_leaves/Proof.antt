@@ -6,10 +6,10 @@ use Rattle.place_weights.proofs.first_leaves.Statement.{statement}
 use Rattle.place_weights.proofs.first_leaves.Tie as tie
 
 abbrev Inv-loop : tie.InvT-loop
-Inv-loop leaves words inputs starts₀ digit₀ starts digit = digit ≤ inputs
+Inv-loop degree leaves words inputs starts₀ digit₀ starts digit = digit ≤ inputs
 
 abbrev μ-loop : tie.MeasureT-loop
-μ-loop leaves words inputs starts₀ digit₀ starts digit = inputs - digit
+μ-loop degree leaves words inputs starts₀ digit₀ starts digit = inputs - digit
 
 returns : tie.Need-returns Inv-loop μ-loop
 returns c = tt
@@ -17,8 +17,8 @@ returns c = tt
 loop-holds : tie.Need-loop-holds Inv-loop μ-loop
 loop-holds c = omega arith
 
-cast-t9 : tie.Need-cast-t9 Inv-loop μ-loop
-cast-t9 c = omega (arith, c .before .before .if1 .left)
+cast-t10 : tie.Need-cast-t10 Inv-loop μ-loop
+cast-t10 c = omega (arith, c .before .before .if1 .left)
 
 look-up-requires : tie.Need-look-up-requires Inv-loop μ-loop
 look-up-requires c κs = tt
@@ -64,7 +64,7 @@ first-leaves-spec =
     μ-loop
     returns
     loop-holds
-    cast-t9
+    cast-t10
     look-up-requires
     cast-starts
     mul-starts

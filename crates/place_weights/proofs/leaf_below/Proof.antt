@@ -1,4 +1,5 @@
 -- The guessed leaf where it begins the window, which is counted already, else the one that the search finds.
+use Rattle.layout_rules.specs.Section.{ofDegree}
 use Rattle.place_rules.proofs.Place.{leaf-begun, leaf-found}
 use Rattle.leaf_rules.specs.Window.{LookedUp}
 use Rattle.leaf_rules.specs.Leaf.{leafCount, codeOf}
@@ -19,8 +20,8 @@ returns : tie.Need-returns
 returns c =
     let s = c .before .before .before .before .before .before .before in
     let a = s .args in
-    let listed : a .guess < leafCount (a .leaves .now) = omega (arith, c .before .before .before .leaf-count .ensures, c .before .before .if1 .taken) in
-    (leaf-begun (a .leaves .now) (a .words .now) (a .row .now) (s .pre .0) (a .place) (a .guess) _ listed (c .before .begins-below .ensures (c .if2 .taken)) refl, omega (arith, s .pre .2 listed))
+    let listed : a .guess < leafCount (ofDegree (a .degree) (a .leaves .now)) = omega (arith, c .before .before .before .leaf-count .ensures, c .before .before .if1 .taken) in
+    (leaf-begun (ofDegree (a .degree) (a .leaves .now)) (a .words .now) (a .row .now) (s .pre .0) (a .place) (a .guess) _ listed (c .before .begins-below .ensures (c .if2 .taken)) refl, omega (arith, s .pre .2 listed))
 
 window-below-requires : tie.Need-window-below-requires
 window-below-requires c κs = search needs
@@ -35,7 +36,7 @@ returns-2 : tie.Need-returns-2
 returns-2 c =
     let s = c .before .before .before .before .before .before .before .before in
     let a = s .args in
-    let leaves = a .leaves .now in
+    let leaves = ofDegree (a .degree) (a .leaves .now) in
     let words = a .words .now in
     let found = c .before .look-up-within in
     let is = leaf-found leaves words (a .row .now) (s .pre .0) (a .place) (found .result .leaf) (found .result .length)

@@ -1,5 +1,6 @@
 -- The look-up's leaf begins the window.
 use mathlib.Core.Path.{subst}
+use Rattle.layout_rules.specs.Section.{ofDegree}
 use Rattle.leaf_rules.specs.Window.{LookedUp}
 use Rattle.leaf_rules.specs.Leaf.{codeOf}
 use Rattle.place_rules.proofs.Place.{leaf-found}
@@ -16,7 +17,7 @@ look-up-requires c κs = search needs
 returns : tie.Need-returns
 returns c =
     let s = c .before .before .before .before .before in
-    let leaves = s .args .leaves .now in
+    let leaves = ofDegree (s .args .degree) (s .args .leaves .now) in
     let words = s .args .words .now in
     let found = c .look-up .result in
     leaf-found leaves words (s .args .row .now) (s .pre) (s .args .place) (found .leaf) (found .length)

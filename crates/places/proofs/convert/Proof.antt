@@ -1,4 +1,5 @@
 -- Each turn writes the index of one digit, counts the length of the word looked up for it, and hands its weight on to the next place.
+use Rattle.ring.specs.Degree.{partCount}
 use Rattle.places.proofs.Tried.{firsts-none}
 use Rattle.place_rules.proofs.Place.{window-first, index-from, leaf-weight, leaf-size}
 use Rattle.places.proofs.Loop.{Converted, converted-start, converted-next, converted-here, converted-end}
@@ -12,7 +13,7 @@ use Rattle.numeration.proofs.Leaves.{getD-inputs}
 use Rattle.numeration.proofs.Reach.{reach-none}
 use Rattle.numeration.specs.Elements.{elements}
 use Rattle.digit_rules.specs.Record.{elementCount}
-use Rattle.layout_rules.specs.Section.{degree}
+use Rattle.layout_rules.specs.Section.{ofDegree}
 use lib.Dec.{lit<}
 use native.Mathlib.Omega.{arith}
 use Prim.Native.Nat.{ℕ, _≤_, _<_, _-_, _+_}
@@ -22,30 +23,30 @@ use Rattle.places.proofs.convert.Statement.{statement}
 use Rattle.places.proofs.convert.Tie as tie
 
 abbrev Inv-loop : tie.InvT-loop
-Inv-loop base alphabet inputs leaves words row from count out₀ size single ahead starts found₀ slots₀ below₀ reach₀ k₀ out found slots below reach k =
-    Converted (elements degree base) alphabet inputs leaves words row from count out₀ out below reach k × Firsts alphabet slots × Counted leaves found reach
+Inv-loop degree base alphabet inputs leaves words row from count out₀ size single ahead starts found₀ slots₀ below₀ reach₀ k₀ out found slots below reach k =
+    Converted (elements (partCount degree) base) (ofDegree degree alphabet) (ofDegree degree inputs) (ofDegree degree leaves) words row from count out₀ out below reach k × Firsts (ofDegree degree alphabet) slots × Counted (ofDegree degree leaves) found reach
 
 abbrev μ-loop : tie.MeasureT-loop
-μ-loop base alphabet inputs leaves words row from count out₀ size single ahead starts found₀ slots₀ below₀ reach₀ k₀ out found slots below reach k = count - k
+μ-loop degree base alphabet inputs leaves words row from count out₀ size single ahead starts found₀ slots₀ below₀ reach₀ k₀ out found slots below reach k = count - k
 
 -- the weight of this place
 own : (c : tie.After-weight2 Inv-loop μ-loop) →
     (let a = c .before .before .before .before .before .before .before .before .before .before .before .before .before .before .before .before .before .before .before .before .before .args in
-    c .weight2 .result ≡ weightInto (codeOf (a .leaves .now) (a .words .now)) (a .row .now) (a .from + c .before .before .before .before .before .before .loop .k + 1))
+    c .weight2 .result ≡ weightInto (codeOf (ofDegree (a .degree) (a .leaves .now)) (a .words .now)) (a .row .now) (a .from + c .before .before .before .before .before .before .loop .k + 1))
 own c =
     let a = c .before .before .before .before .before .before .before .before .before .before .before .before .before .before .before .before .before .before .before .before .before .args in
-    c .weight2 .ensures .0 ∙ leaf-weight (a .leaves .now) (a .words .now) (a .row .now) _ _ _ (c .before .leaf-tried .ensures .0)
+    c .weight2 .ensures .0 ∙ leaf-weight (ofDegree (a .degree) (a .leaves .now)) (a .words .now) (a .row .now) _ _ _ (c .before .leaf-tried .ensures .0)
 
 -- the digit at this place
 at : (c : tie.After-out-index Inv-loop μ-loop) →
     (let a = c .before .before .before .before .before .before .before .before .before .before .before .before .before .before .before .before .before .before .before .before .before .before .before .args in
-    c .out-index .result ≡ indexAt (elements degree (a .base)) (a .alphabet .now) (a .inputs .now) (a .leaves .now) (a .words .now) (a .row .now)
+    c .out-index .result ≡ indexAt (elements (partCount (a .degree)) (a .base)) (ofDegree (a .degree) (a .alphabet .now)) (ofDegree (a .degree) (a .inputs .now)) (ofDegree (a .degree) (a .leaves .now)) (a .words .now) (a .row .now)
     (a .from + c .before .before .before .before .before .before .before .before .loop .k))
 at c =
     let a = c .before .before .before .before .before .before .before .before .before .before .before .before .before .before .before .before .before .before .before .before .before .before .before .args in
     let loop = c .before .before .before .before .before .before .before .before .loop in
     let byte-at = c .before .before .before .before .before .before .byte-at in
-    index-from (elements degree (a .base)) (a .alphabet .now) (a .inputs .now) (a .leaves .now) (a .words .now) (a .row .now) (a .from + loop .k) (byte-at .result) (c .out-index .result) (loop .below) (c .before .before .weight2 .result) (byte-at .ensures) (loop .inv .0 .weight) (own (c .before .before)) (c .out-index .ensures .0)
+    index-from (elements (partCount (a .degree)) (a .base)) (ofDegree (a .degree) (a .alphabet .now)) (ofDegree (a .degree) (a .inputs .now)) (ofDegree (a .degree) (a .leaves .now)) (a .words .now) (a .row .now) (a .from + loop .k) (byte-at .result) (c .out-index .result) (loop .below) (c .before .before .weight2 .result) (byte-at .ensures) (loop .inv .0 .weight) (own (c .before .before)) (c .out-index .ensures .0)
 
 record-count-requires : tie.Need-record-count-requires Inv-loop μ-loop
 record-count-requires c κs = lit< tt
@@ -74,14 +75,14 @@ reach-below-requires c κs = tt
 loop-holds : tie.Need-loop-holds Inv-loop μ-loop
 loop-holds c =
     let a = c .before .before .before .before .before .before .before .before .before .before .before .before .before .before .args in
-    let leaves = a .leaves .now in
+    let leaves = ofDegree (a .degree) (a .leaves .now) in
     let words = a .words .now in
     let row = a .row .now in
     let weight = c .before .weight in
     let lowest = c .before .before .leaf-into .ensures in
     let reach = c .reach-below in
     let below = reach-none (codeOf leaves words) row (a .from) (reach .result) (reach .ensures .0) (λ some. reach .ensures .1 some ∙ leaf-size leaves words row _ _ _ lowest) in
-    (converted-start (elements degree (a .base)) (a .alphabet .now) (a .inputs .now) leaves words row (a .from) (a .count) (a .out .now) (weight .result) (reach .result) (weight .ensures .0 ∙ leaf-weight leaves words row _ _ _ lowest) (weight .ensures .1) below, firsts-none (a .alphabet .now) 256, counted-none leaves 65535 (reach .result) (omega (arith, c .before .before .before .before .before .before .before .before .before .before .before .before .before .before .pre .7)))
+    (converted-start (elements (partCount (a .degree)) (a .base)) (ofDegree (a .degree) (a .alphabet .now)) (ofDegree (a .degree) (a .inputs .now)) leaves words row (a .from) (a .count) (a .out .now) (weight .result) (reach .result) (weight .ensures .0 ∙ leaf-weight leaves words row _ _ _ lowest) (weight .ensures .1) below, firsts-none (ofDegree (a .degree) (a .alphabet .now)) 256, counted-none leaves 65535 (reach .result) (omega (arith, c .before .before .before .before .before .before .before .before .before .before .before .before .before .before .pre .7)))
 
 add-byte-at : tie.Need-add-byte-at Inv-loop μ-loop
 add-byte-at c = omega (arith, c .before .before .before .before .before .before .before .before .before .before .before .before .before .before .before .before .pre .5)
@@ -115,7 +116,7 @@ out-index-requires c κs =
     let byte-at = c .before .before .before .before .before .byte-at in (
       (
         pre .0,
-        subst (λ (n : ℕ). n < elementCount (a .inputs .now)) (sym (byte-at .ensures)) (getD-inputs (elementCount (a .inputs .now)) (a .row .now) (pre .2) (pre .3) (a .from + loop .k)),
+        subst (λ (n : ℕ). n < elementCount (ofDegree (a .degree) (a .inputs .now))) (sym (byte-at .ensures)) (getD-inputs (elementCount (ofDegree (a .degree) (a .inputs .now))) (a .row .now) (pre .2) (pre .3) (a .from + loop .k)),
         loop .inv .0 .small,
         c .before .weight2 .ensures .1,
       ),
@@ -129,12 +130,12 @@ returns : tie.Need-returns Inv-loop μ-loop
 returns c =
     let a = c .before .before .before .before .before .before .before .before .before .before .before .before .before .before .before .before .before .before .before .before .before .before .before .before .args in
     let loop = c .before .before .before .before .before .before .before .before .before .loop in
-    converted-here (elements degree (a .base)) (a .alphabet .now) (a .inputs .now) (a .leaves .now) (a .words .now) (a .row .now) (a .from) (a .count) (a .out .now) (loop .out) (loop .below) (loop .reach) (loop .k) (loop .inv .0) (c .before .out-index .result) (c .before .before .before .before .before .before .before .before .loop-test .taken) (at (c .before)) (subst (λ (n : ℕ). n ≤ c .before .out-index .result) (c .before .before .before .before .before .before .before .before .before .before .before .before .before .before .before .before .before .record-count .ensures) (c .if1 .taken))
+    converted-here (elements (partCount (a .degree)) (a .base)) (ofDegree (a .degree) (a .alphabet .now)) (ofDegree (a .degree) (a .inputs .now)) (ofDegree (a .degree) (a .leaves .now)) (a .words .now) (a .row .now) (a .from) (a .count) (a .out .now) (loop .out) (loop .below) (loop .reach) (loop .k) (loop .inv .0) (c .before .out-index .result) (c .before .before .before .before .before .before .before .before .loop-test .taken) (at (c .before)) (subst (λ (n : ℕ). n ≤ c .before .out-index .result) (c .before .before .before .before .before .before .before .before .before .before .before .before .before .before .before .before .before .record-count .ensures) (c .if1 .taken))
 
 cast-out : tie.Need-cast-out Inv-loop μ-loop
 cast-out c =
     let record-count = c .before .before .before .before .before .before .before .before .before .before .before .before .before .before .before .before .before .record-count in
-    let size : record-count .result ≡ elementCount (c .before .before .before .before .before .before .before .before .before .before .before .before .before .before .before .before .before .before .before .before .before .before .before .before .args .alphabet .now) = record-count .ensures in
+    let size : record-count .result ≡ elementCount (ofDegree (c .before .before .before .before .before .before .before .before .before .before .before .before .before .before .before .before .before .before .before .before .before .before .before .before .args .degree) (c .before .before .before .before .before .before .before .before .before .before .before .before .before .before .before .before .before .before .before .before .before .before .before .before .args .alphabet .now)) = record-count .ensures in
     omega (arith, c .before .before .before .before .before .before .before .before .before .before .before .before .before .before .before .before .before .before .before .before .before .before .before .before .pre .1, c .if1 .left)
 
 slice-write-out : tie.Need-slice-write-out Inv-loop μ-loop
@@ -149,14 +150,14 @@ loop-less c = omega arith
 loop-again : tie.Need-loop-again Inv-loop μ-loop
 loop-again c =
     let a = c .before .before .before .before .before .before .before .before .before .before .before .before .before .before .before .before .before .before .before .before .before .before .before .before .args in
-    let leaves = a .leaves .now in
+    let leaves = ofDegree (a .degree) (a .leaves .now) in
     let words = a .words .now in
     let row = a .row .now in
     let loop = c .before .before .before .before .before .before .before .before .before .loop in
     let out-index = c .before .out-index in
     let leaf-tried = c .before .before .before .before .leaf-tried in
     let weight = c .before .before .before .weight2 in (
-      converted-next (elements degree (a .base)) (a .alphabet .now) (a .inputs .now) leaves words row (a .from) (a .count) (a .out .now) (loop .out) (loop .below) (loop .reach) (loop .k)
+      converted-next (elements (partCount (a .degree)) (a .base)) (ofDegree (a .degree) (a .alphabet .now)) (ofDegree (a .degree) (a .inputs .now)) leaves words row (a .from) (a .count) (a .out .now) (loop .out) (loop .below) (loop .reach) (loop .k)
           (loop .inv .0) (weight .result) (out-index .result) _ (leaf-tried .result .reach) (c .before .before .before .before .before .before .before .before .loop-test .taken) (c .before .before .before .before .before .before .before .before .before .before .before .before .before .before .before .before .before .before .before .before .before .before .before .before .pre .6) (at (c .before))
           (subst (λ (n : ℕ). out-index .result < n) (c .before .before .before .before .before .before .before .before .before .before .before .before .before .before .before .before .before .record-count .ensures) (c .if1 .left)) (own (c .before .before .before)) (weight .ensures .1) (leaf-size leaves words row _ _ _ (leaf-tried .ensures .0)) (leaf-tried .ensures .1 .0),
       out-index .ensures .1,
@@ -170,7 +171,7 @@ returns-2 : tie.Need-returns-2 Inv-loop μ-loop
 returns-2 c =
     let a = c .before .before .before .before .before .before .before .before .before .before .before .before .before .before .before .before .args in
     let loop = c .before .loop in
-    converted-end (elements degree (a .base)) (a .alphabet .now) (a .inputs .now) (a .leaves .now) (a .words .now) (a .row .now) (a .from) (a .count) (a .out .now) (loop .out) (loop .below) (loop .reach) (loop .k) (loop .inv .0) (c .loop-test .left)
+    converted-end (elements (partCount (a .degree)) (a .base)) (ofDegree (a .degree) (a .alphabet .now)) (ofDegree (a .degree) (a .inputs .now)) (ofDegree (a .degree) (a .leaves .now)) (a .words .now) (a .row .now) (a .from) (a .count) (a .out .now) (loop .out) (loop .below) (loop .reach) (loop .k) (loop .inv .0) (c .loop-test .left)
 
 pub convert-spec : {M : Type 1} → statement M
 convert-spec =

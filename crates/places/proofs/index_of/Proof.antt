@@ -3,6 +3,7 @@ use native.Mathlib.Omega.{arith}
 use Prim.Native.Nat.{ℕ, _^_}
 use lib.Dec.{lit≤}
 use mathlib.Core.Path.{sym, ap, _∙_}
+use Rattle.layout_rules.specs.Section.{ofDegree}
 use Rattle.digit_rules.specs.Record.{recordAt}
 use Rattle.digit_rules.specs.Digits.{indexIn}
 use Rattle.ring.proofs.Element.{same→≡, within-le}
@@ -15,7 +16,7 @@ record-count-requires : tie.Need-record-count-requires
 record-count-requires c κs = search needs
 
 slot-of-requires : tie.Need-slot-of-requires
-slot-of-requires c κs = within-le (2 ^ 42) (2 ^ 58) _ (lit≤ tt) (c .before .before .pre .0)
+slot-of-requires c κs = within-le (2 ^ 42) (2 ^ 56) _ (lit≤ tt) (c .before .before .pre .0)
 
 element-copy-out-wide : tie.Need-element-copy-out-wide
 element-copy-out-wide c = search needs
@@ -32,7 +33,7 @@ equal-requires c κs = search needs
 returns : tie.Need-returns
 returns c =
     let a = c .before .before .before .before .before .before .before .before .before .args in
-    let alphabet = a .alphabet .now in
+    let alphabet = ofDegree (a .degree) (a .alphabet .now) in
     let pre = c .before .before .before .before .before .before .before .before .before .pre in
     let record-count = c .before .before .before .before .before .before .before .record-count in
     let slot-of = c .before .before .before .before .before .before .slot-of in
@@ -54,7 +55,7 @@ element-write-slots c = search needs
 returns-2 : tie.Need-returns-2
 returns-2 c =
     let a = c .before .before .before .before .before .before .before .before .args in
-    let alphabet = a .alphabet .now in
+    let alphabet = ofDegree (a .degree) (a .alphabet .now) in
     let x = a .x in
     let pre = c .before .before .before .before .before .before .before .before .pre in
     let record-count = c .before .before .before .before .before .before .record-count in
@@ -64,7 +65,7 @@ returns-2 c =
 
 returns-3 : tie.Need-returns-3
 returns-3 c =
-    (c .before .find .ensures ∙ ap (λ (n : ℕ). indexIn (c .before .before .before .before .before .before .before .before .args .alphabet .now) n (c .before .before .before .before .before .before .before .before .args .x)) (c .before .before .before .before .before .before .record-count .ensures), c .before .before .before .before .before .before .before .before .pre .2)
+    (c .before .find .ensures ∙ ap (λ (n : ℕ). indexIn (ofDegree (c .before .before .before .before .before .before .before .before .args .degree) (c .before .before .before .before .before .before .before .before .args .alphabet .now)) n (c .before .before .before .before .before .before .before .before .args .x)) (c .before .before .before .before .before .before .record-count .ensures), c .before .before .before .before .before .before .before .before .pre .2)
 
 pub index-of-spec : {M : Type 1} → statement M
 index-of-spec =

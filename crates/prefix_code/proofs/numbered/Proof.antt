@@ -3,6 +3,7 @@ use mathlib.Core.Path.{refl}
 use lib.ListN.{getD}
 use native.Mathlib.Omega.{arith}
 use borrow.Author.Tests.{not-false, eqb-true}
+use Rattle.layout_rules.specs.Section.{ofDegree}
 use Rattle.lists.proofs.Test.{clash}
 use Rattle.prefix_code.proofs.Quick.{strings-room, strings-all, SoFar, so-far-first, so-far-next, floor-room, share-small, all-kept}
 use Prim.Native.Nat.{_-_}
@@ -10,10 +11,10 @@ use Rattle.prefix_code.proofs.numbered.Statement.{statement}
 use Rattle.prefix_code.proofs.numbered.Tie as tie
 
 abbrev Inv-loop : tie.InvT-loop
-Inv-loop leaves words inputs units shares count end₀ floor₀ strings₀ leaf₀ end floor strings leaf = SoFar leaves words inputs leaf end floor strings
+Inv-loop degree leaves words inputs units shares count end₀ floor₀ strings₀ leaf₀ end floor strings leaf = SoFar (ofDegree degree leaves) words inputs leaf end floor strings
 
 abbrev μ-loop : tie.MeasureT-loop
-μ-loop leaves words inputs units shares count end₀ floor₀ strings₀ leaf₀ end floor strings leaf = count - leaf
+μ-loop degree leaves words inputs units shares count end₀ floor₀ strings₀ leaf₀ end floor strings leaf = count - leaf
 
 -- src/lib.rt:54:17
 powers-requires : tie.Need-powers-requires Inv-loop μ-loop
@@ -29,7 +30,7 @@ leaf-count-requires c κs = tt
 
 -- src/lib.rt:61:5
 loop-holds : tie.Need-loop-holds Inv-loop μ-loop
-loop-holds c = so-far-first (c .before .before .before .before .before .args .leaves .now) (c .before .before .before .before .before .args .words .now) (c .before .before .before .before .before .args .inputs)
+loop-holds c = so-far-first (ofDegree (c .before .before .before .before .before .args .degree) (c .before .before .before .before .before .args .leaves .now)) (c .before .before .before .before .before .args .words .now) (c .before .before .before .before .before .args .inputs)
 
 -- src/lib.rt:62:13
 word-start-requires : tie.Need-word-start-requires Inv-loop μ-loop
@@ -91,7 +92,7 @@ add-floor c =
     let l = c .before .before .before .lies .ensures (not-false _ (c .before .before .if1 .left)) in
     omega (
       arith,
-      floor-room (a .leaves .now) (a .words .now) (a .inputs) (loop .leaf) (loop .end) (loop .floor) (loop .strings) (word-start .result) (word-length .result)
+      floor-room (ofDegree (a .degree) (a .leaves .now)) (a .words .now) (a .inputs) (loop .leaf) (loop .end) (loop .floor) (loop .strings) (word-start .result) (word-length .result)
           (c .before .word-number-by .result) (getD (powers .result) (word-length .result) 0) (getD (powers2 .result) (word-length .result) 0) (loop .inv)
           (omega (arith, leaf-count .ensures)) (word-start .ensures .0) (word-length .ensures .0) l (c .before .word-number-by .ensures) (powers .ensures (word-length .result) (l .1) (l .2))
           (powers2 .ensures (word-length .result) (l .1) (l .2)) (pre .0 .1) (pre .1),
@@ -138,7 +139,7 @@ loop-again c =
     let word-start = c .before .before .before .before .before .word-start in
     let word-length = c .before .before .before .before .word-length in
     let l = c .before .before .before .lies .ensures (not-false _ (c .before .before .if1 .left)) in
-    so-far-next (a .leaves .now) (a .words .now) (a .inputs) (loop .leaf) (loop .end) (loop .floor) (loop .strings) (word-start .result) (word-length .result)
+    so-far-next (ofDegree (a .degree) (a .leaves .now)) (a .words .now) (a .inputs) (loop .leaf) (loop .end) (loop .floor) (loop .strings) (word-start .result) (word-length .result)
     (c .before .word-number-by .result) (getD (powers .result) (word-length .result) 0) (getD (powers2 .result) (word-length .result) 0) (loop .inv)
     (omega (arith, leaf-count .ensures)) (word-start .ensures .0) (word-length .ensures .0) l (c .before .word-number-by .ensures) (powers .ensures (word-length .result) (l .1) (l .2))
     (powers2 .ensures (word-length .result) (l .1) (l .2)) (pre .0 .1) (omega (arith, c .if2 .left))
@@ -162,7 +163,7 @@ returns-4 c =
     let inputs = a .inputs in
     let powers2 = c .before .before .before .before .powers2 in
     let loop = c .before .before .loop in
-    λ t. all-kept (a .leaves .now) (a .words .now) inputs (loop .leaf) (loop .end) (loop .floor) (loop .strings) (loop .inv)
+    λ t. all-kept (ofDegree (a .degree) (a .leaves .now)) (a .words .now) inputs (loop .leaf) (loop .end) (loop .floor) (loop .strings) (loop .inv)
     (omega (arith, c .before .before .before .leaf-count .ensures, c .before .loop-test .left)) (omega (arith, c .if3 .left))
     (strings-all inputs (getD (powers2 .result) 1 0) (loop .strings) (powers2 .ensures 1 (omega arith) (omega arith)) (eqb-true _ _ t))
 

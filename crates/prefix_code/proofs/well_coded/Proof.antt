@@ -1,6 +1,7 @@
 -- Yes is said only where the counts, the word bytes and the numbers of the words all allow it.
 use mathlib.Core.Path.{refl}
 use native.Mathlib.Omega.{arith}
+use Rattle.layout_rules.specs.Section.{ofDegree}
 use Rattle.lists.proofs.Test.{clash}
 use Rattle.prefix_code.proofs.Quick.{code-kept}
 use borrow.Author.Needs.{needs}
@@ -53,7 +54,7 @@ returns-5 c =
     let if1 = c .before .before .before .before .before .before .before .if1 in
     let if2 = c .before .before .before .before .before .before .if2 in
     λ t. let n = c .numbered .ensures t in
-    code-kept (a .leaves .now) (a .words .now) (a .inputs) (omega (arith, if1 .left)) (omega (arith, if2 .left)) (n .0) (λ k h. omega (arith, c .before .before .before .highest .ensures k h, c .before .before .wide .ensures .0, c .before .if4 .left)) (n .1)
+    code-kept (ofDegree (a .degree) (a .leaves .now)) (a .words .now) (a .inputs) (omega (arith, if1 .left)) (omega (arith, if2 .left)) (n .0) (λ k h. omega (arith, c .before .before .before .highest .ensures k h, c .before .before .wide .ensures .0, c .before .if4 .left)) (n .1)
 
 pub well-coded-spec : {M : Type 1} → statement M
 well-coded-spec =

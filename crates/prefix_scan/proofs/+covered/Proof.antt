@@ -7,6 +7,7 @@ use borrow.Author.Tests.{not-true, not-false}
 use borrow.Author.Needs.{needs}
 use borrow.Fn.Kinds.{In}
 use borrow.Fn.PlainCycle.{Measures, is, falls, and}
+use Rattle.layout_rules.specs.Section.{ofDegree}
 use Rattle.leaf_rules.specs.Leaf.{codeOf}
 use Rattle.prefix_rules.proofs.Coverage.{run-high, runs-on, runs-here, runs-out, covered-empty, covered-leaf, covered-last, covered-deeper}
 use Rattle.prefix_scan.proofs.+covered.{statement}
@@ -19,7 +20,7 @@ use Rattle.prefix_scan.proofs.run_end.Reads as run-end-reads
 use Rattle.leaves.proofs.word_length.Reads as word-length-reads
 
 abbrev μ-covered : Measures 2 covered-kinds.ps ℕ
-μ-covered κs a = a .1 .1 .1 .0
+μ-covered κs a = a .1 .1 .1 .1 .0
 
 abbrev covered-at : ℕ → In 2 covered-kinds.ps
 covered-at t = and 2 covered-kinds.ps (is 2 covered-kinds.ps μ-covered t) covered.Pre
@@ -28,10 +29,10 @@ abbrev covered-below : ℕ → In 2 covered-kinds.ps
 covered-below t = and 2 covered-kinds.ps (falls 2 covered-kinds.ps _<_ μ-covered t) covered.Pre
 
 abbrev covered-Inv-loop : covered-lts.InvT-loop
-covered-Inv-loop leaves words inputs left low high place from₀ digit₀ from digit = (from ≤ high) × (spec.everyRun (codeOf leaves words) (spec.covered (codeOf leaves words) inputs (left - 1) (8 - (left - 1))) (8 - left) digit (inputs - digit) from high ≡ spec.covered (codeOf leaves words) inputs left (8 - left) low high)
+covered-Inv-loop degree leaves words inputs left low high place from₀ digit₀ from digit = (from ≤ high) × (spec.everyRun (codeOf (ofDegree degree leaves) words) (spec.covered (codeOf (ofDegree degree leaves) words) inputs (left - 1) (8 - (left - 1))) (8 - left) digit (inputs - digit) from high ≡ spec.covered (codeOf (ofDegree degree leaves) words) inputs left (8 - left) low high)
 
 abbrev covered-μ-loop : covered-lts.MeasureT-loop
-covered-μ-loop leaves words inputs left low high place from₀ digit₀ from digit = inputs - digit
+covered-μ-loop degree leaves words inputs left low high place from₀ digit₀ from digit = inputs - digit
 
 covered-sub-place : (t : ℕ) → covered-lts.Need-sub-place (
   word-length-reads.Asked,
@@ -71,7 +72,7 @@ covered-returns-2 : (t : ℕ) → covered-lts.Need-returns-2 (
   covered-below t,
   covered.Post,
 ) (covered-at t) covered.Post covered-Inv-loop covered-μ-loop
-covered-returns-2 t c = sym (covered-leaf (codeOf (c .before .before .before .before .before .args .leaves .now) (c .before .before .before .before .before .args .words .now)) _ _ _ _ _ (c .before .before .if1 .left) (omega arith))
+covered-returns-2 t c = sym (covered-leaf (codeOf (ofDegree (c .before .before .before .before .before .args .degree) (c .before .before .before .before .before .args .leaves .now)) (c .before .before .before .before .before .args .words .now)) _ _ _ _ _ (c .before .before .if1 .left) (omega arith))
 
 covered-returns-3 : (t : ℕ) → covered-lts.Need-returns-3 (
   word-length-reads.Asked,
@@ -81,7 +82,7 @@ covered-returns-3 : (t : ℕ) → covered-lts.Need-returns-3 (
   covered-below t,
   covered.Post,
 ) (covered-at t) covered.Post covered-Inv-loop covered-μ-loop
-covered-returns-3 t c = sym (covered-last (codeOf (c .before .before .before .before .before .before .args .leaves .now) (c .before .before .before .before .before .before .args .words .now)) _ _ _ _ _ (c .if3 .taken) (c .before .before .before .if1 .left) (omega arith))
+covered-returns-3 t c = sym (covered-last (codeOf (ofDegree (c .before .before .before .before .before .before .args .degree) (c .before .before .before .before .before .before .args .leaves .now)) (c .before .before .before .before .before .before .args .words .now)) _ _ _ _ _ (c .if3 .taken) (c .before .before .before .if1 .left) (omega arith))
 
 covered-loop-holds : (t : ℕ) → covered-lts.Need-loop-holds (
   word-length-reads.Asked,
@@ -91,7 +92,7 @@ covered-loop-holds : (t : ℕ) → covered-lts.Need-loop-holds (
   covered-below t,
   covered.Post,
 ) (covered-at t) covered.Post covered-Inv-loop covered-μ-loop
-covered-loop-holds t c = (search needs, rw sub-zero (sym (covered-deeper (codeOf (c .before .before .before .before .before .before .args .leaves .now) (c .before .before .before .before .before .before .args .words .now)) _ _ _ _ (c .if3 .left) (omega arith) (c .before .before .before .if1 .left) (omega arith))))
+covered-loop-holds t c = (search needs, rw sub-zero (sym (covered-deeper (codeOf (ofDegree (c .before .before .before .before .before .before .args .degree) (c .before .before .before .before .before .before .args .leaves .now)) (c .before .before .before .before .before .before .args .words .now)) _ _ _ _ (c .if3 .left) (omega arith) (c .before .before .before .if1 .left) (omega arith))))
 
 covered-run-end-requires : (t : ℕ) → covered-lts.Need-run-end-requires (
   word-length-reads.Asked,
@@ -124,7 +125,7 @@ covered-covered-requires : (t : ℕ) → covered-lts.Need-covered-requires (
 covered-covered-requires t c κs =
     let a = c .before .before .before .before .before .before .before .before .before .args in
     let loop = c .before .before .loop in
-    omega (arith, c .run-end .ensures, run-high (codeOf (a .leaves .now) (a .words .now)) (8 - a .left) (loop .digit) (loop .from) (a .high) (omega arith))
+    omega (arith, c .run-end .ensures, run-high (codeOf (ofDegree (a .degree) (a .leaves .now)) (a .words .now)) (8 - a .left) (loop .digit) (loop .from) (a .high) (omega arith))
 
 covered-returns-4 : (t : ℕ) → covered-lts.Need-returns-4 (
   word-length-reads.Asked,
@@ -138,7 +139,7 @@ covered-returns-4 t c =
     let a = c .before .before .before .before .before .before .before .before .before .before .before .args in
     let loop = c .before .before .before .before .loop in
     sym
-    (runs-here (codeOf (a .leaves .now) (a .words .now)) _ _ _ _ _ _ _ (c .before .before .run-end .ensures) (c .before .before .before .loop-test .taken)
+    (runs-here (codeOf (ofDegree (a .degree) (a .leaves .now)) (a .words .now)) _ _ _ _ _ _ _ (c .before .before .run-end .ensures) (c .before .before .before .loop-test .taken)
     (sym (c .before .covered .ensures) ∙ not-true _ (c .if4 .taken)))
     ∙ loop .inv .1
 
@@ -174,9 +175,9 @@ covered-loop-again t c =
     let a = c .before .before .before .before .before .before .before .before .before .before .before .args in
     let loop = c .before .before .before .before .loop in
     let run-end = c .before .before .run-end in (
-      omega (arith, run-end .ensures, run-high (codeOf (a .leaves .now) (a .words .now)) (8 - a .left) (loop .digit) (loop .from) (a .high) (omega arith)),
+      omega (arith, run-end .ensures, run-high (codeOf (ofDegree (a .degree) (a .leaves .now)) (a .words .now)) (8 - a .left) (loop .digit) (loop .from) (a .high) (omega arith)),
       sym
-          (runs-on (codeOf (a .leaves .now) (a .words .now)) _ _ _ _ _ _ _ (run-end .ensures) (c .before .before .before .loop-test .taken)
+          (runs-on (codeOf (ofDegree (a .degree) (a .leaves .now)) (a .words .now)) _ _ _ _ _ _ _ (run-end .ensures) (c .before .before .before .loop-test .taken)
           (sym (c .before .covered .ensures) ∙ not-false _ (c .if4 .left)))
           ∙ loop .inv .1,
     )
@@ -189,7 +190,7 @@ covered-returns-5 : (t : ℕ) → covered-lts.Need-returns-5 (
   covered-below t,
   covered.Post,
 ) (covered-at t) covered.Post covered-Inv-loop covered-μ-loop
-covered-returns-5 t c = sym (runs-out (codeOf (c .before .before .before .before .before .before .before .before .args .leaves .now) (c .before .before .before .before .before .before .before .before .args .words .now)) _ _ _ _ _ _ (c .loop-test .left)) ∙ c .before .loop .inv .1
+covered-returns-5 t c = sym (runs-out (codeOf (ofDegree (c .before .before .before .before .before .before .before .before .args .degree) (c .before .before .before .before .before .before .before .before .args .leaves .now)) (c .before .before .before .before .before .before .before .before .args .words .now)) _ _ _ _ _ _ (c .loop-test .left)) ∙ c .before .loop .inv .1
 
 pub +covered-spec : {M : Type 1} → statement M
 +covered-spec = close μ-covered λ t. covered-lts.spec (

@@ -1,6 +1,7 @@
 -- What the function for all leaves and eight digits says, as rule 12.
 use mathlib.Core.Path.{sym, ap, _∙_}
 use borrow.Author.Needs.{needs}
+use Rattle.layout_rules.specs.Section.{ofDegree}
 use Rattle.faults.proofs.Check.{once-kept, once-broken}
 use Rattle.prefix_rules.specs.Check.{coverCheck}
 use Rattle.leaf_rules.specs.Leaf.{codeOf}
@@ -16,11 +17,11 @@ covered-requires c κs = search needs
 
 returns : tie.Need-returns
 unfolding coverCheck
-returns c = sym (once-kept 12 (λ k. k) _ (ap (spec.covered (codeOf (c .before .before .before .before .before .args .leaves .now) (c .before .before .before .before .before .args .words .now)) (c .before .before .before .before .before .args .inputs) 8 0 0) (sym (c .before .before .leaf-count .ensures)) ∙ sym (c .before .covered .ensures) ∙ c .if1 .taken))
+returns c = sym (once-kept 12 (λ k. k) _ (ap (spec.covered (codeOf (ofDegree (c .before .before .before .before .before .args .degree) (c .before .before .before .before .before .args .leaves .now)) (c .before .before .before .before .before .args .words .now)) (c .before .before .before .before .before .args .inputs) 8 0 0) (sym (c .before .before .leaf-count .ensures)) ∙ sym (c .before .covered .ensures) ∙ c .if1 .taken))
 
 returns-2 : tie.Need-returns-2
 unfolding coverCheck
-returns-2 c = sym (once-broken 12 (λ k. k) _ (ap (spec.covered (codeOf (c .before .before .before .before .before .args .leaves .now) (c .before .before .before .before .before .args .words .now)) (c .before .before .before .before .before .args .inputs) 8 0 0) (sym (c .before .before .leaf-count .ensures)) ∙ sym (c .before .covered .ensures) ∙ c .if1 .left))
+returns-2 c = sym (once-broken 12 (λ k. k) _ (ap (spec.covered (codeOf (ofDegree (c .before .before .before .before .before .args .degree) (c .before .before .before .before .before .args .leaves .now)) (c .before .before .before .before .before .args .words .now)) (c .before .before .before .before .before .args .inputs) 8 0 0) (sym (c .before .before .leaf-count .ensures)) ∙ sym (c .before .covered .ensures) ∙ c .if1 .left))
 
 pub cover-spec : {M : Type 1} → statement M
 cover-spec = tie.close (tie.spec leaf-count-requires covered-requires returns returns-2)

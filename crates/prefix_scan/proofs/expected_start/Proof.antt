@@ -1,6 +1,7 @@
 -- The first leaf is apart; any other starts where the one before ends.
 use native.Mathlib.Omega.{arith}
 use borrow.Author.Needs.{needs}
+use Rattle.layout_rules.specs.Section.{ofDegree}
 use Rattle.prefix_rules.proofs.Place.{expected-first, expected-next}
 use Rattle.prefix_scan.proofs.expected_start.Statement.{statement}
 use Rattle.prefix_scan.proofs.expected_start.Tie as tie
@@ -21,10 +22,10 @@ add-result : tie.Need-add-result
 add-result c = search needs
 
 returns : tie.Need-returns
-returns c = expected-first (c .before .before .args .leaves .now) _ (c .if1 .taken)
+returns c = expected-first (ofDegree (c .before .before .args .degree) (c .before .before .args .leaves .now)) _ (c .if1 .taken)
 
 returns-2 : tie.Need-returns-2
-returns-2 c = omega (arith, expected-next (c .before .before .before .before .args .leaves .now) (c .before .before .before .before .args .leaf) (c .before .before .if1 .left))
+returns-2 c = omega (arith, expected-next (ofDegree (c .before .before .before .before .args .degree) (c .before .before .before .before .args .leaves .now)) (c .before .before .before .before .args .leaf) (c .before .before .if1 .left))
 
 pub expected-start-spec : {M : Type 1} → statement M
 expected-start-spec =

@@ -1,6 +1,8 @@
 -- Each test of rule 9 in turn; a leaf that passes all is inside, or is the last and ends the section.
 use native.Mathlib.Omega.{arith}
 use borrow.Author.Needs.{needs}
+use Rattle.layout_rules.specs.Section.{ofDegree}
+use Rattle.leaf_rules.proofs.Leaf.{leaves-most}
 use Rattle.prefix_rules.proofs.Place.{leaf-empty, leaf-long, leaf-elsewhere, leaf-past, leaf-inner, leaf-last}
 use Rattle.prefix_scan.proofs.leaf_allowed.Statement.{statement}
 use Rattle.prefix_scan.proofs.leaf_allowed.Tie as tie
@@ -30,7 +32,7 @@ returns-4 : tie.Need-returns-4
 returns-4 c = leaf-past _ _ _ _ _ (c .before .before .before .before .before .before .word-start .ensures .0) (c .before .before .before .before .before .word-length .ensures .0) (c .before .before .before .before .if1 .left) (c .before .before .before .if2 .left) _ (c .before .before .expected-start .ensures) (c .before .if3 .left) (c .if4 .taken)
 
 add-if5 : tie.Need-add-if5
-add-if5 c = search needs
+add-if5 c = let s = c .before .before .before .before .before .before .before .before in omega (arith, s .pre, leaves-most (ofDegree (s .args .degree) (s .args .leaves .now)))
 
 leaf-count-requires : tie.Need-leaf-count-requires
 leaf-count-requires c κs = search needs

@@ -5,6 +5,8 @@ use native.Mathlib.Omega.{arith}
 use native.Mathlib.Nat.{sub-zero}
 use borrow.Author.Tests.{not-true, not-false}
 use borrow.Author.Needs.{needs}
+use Rattle.leaf_rules.proofs.Leaf.{leaves-most}
+use Rattle.layout_rules.specs.Section.{ofDegree}
 use Rattle.lists.proofs.Scan.{scan-on}
 use Rattle.lists.specs.Scan.{firstFailing}
 use Rattle.faults.proofs.Check.{judge-here, judge-out}
@@ -14,10 +16,10 @@ use Rattle.prefix_scan.proofs.order.Statement.{statement}
 use Rattle.prefix_scan.proofs.order.Tie as tie
 
 abbrev Inv-loop : tie.InvT-loop
-Inv-loop leaves words count leaf₀ leaf = (leaf ≤ count) × (firstFailing (orderAllowed leaves words) leaf (leafCount leaves - 1 - leaf) ≡ firstFailing (orderAllowed leaves words) 0 (leafCount leaves - 1))
+Inv-loop degree leaves words count leaf₀ leaf = (leaf ≤ count) × (firstFailing (orderAllowed (ofDegree degree leaves) words) leaf (leafCount (ofDegree degree leaves) - 1 - leaf) ≡ firstFailing (orderAllowed (ofDegree degree leaves) words) 0 (leafCount (ofDegree degree leaves) - 1))
 
 abbrev μ-loop : tie.MeasureT-loop
-μ-loop leaves words count leaf₀ leaf = count - leaf
+μ-loop degree leaves words count leaf₀ leaf = count - leaf
 
 leaf-count-requires : tie.Need-leaf-count-requires Inv-loop μ-loop
 leaf-count-requires c κs = search needs
@@ -26,17 +28,17 @@ loop-holds : tie.Need-loop-holds Inv-loop μ-loop
 loop-holds c = (search needs, simp sub-zero)
 
 add-loop : tie.Need-add-loop Inv-loop μ-loop
-add-loop c = search needs
+add-loop c = let s = c .before .before .before .before in omega (arith, c .loop .inv .0, c .before .leaf-count .ensures, leaves-most (ofDegree (s .args .degree) (s .args .leaves .now)))
 
 precedes-requires : tie.Need-precedes-requires Inv-loop μ-loop
 precedes-requires c κs = omega arith
 
-add-t8 : tie.Need-add-t8 Inv-loop μ-loop
-add-t8 c = search needs
+add-t9 : tie.Need-add-t9 Inv-loop μ-loop
+add-t9 c = search needs
 
 returns : tie.Need-returns Inv-loop μ-loop
 unfolding orderCheck
-returns c = judge-here 11 (λ k. k + 1) _ (leafCount (c .before .before .before .before .before .before .before .args .leaves .now) - 1) (c .before .before .before .loop .leaf) (c .before .before .before .loop .inv .1) (omega arith) (sym (c .before .precedes .ensures) ∙ not-true _ (c .if1 .taken))
+returns c = judge-here 11 (λ k. k + 1) _ (leafCount (ofDegree (c .before .before .before .before .before .before .before .args .degree) (c .before .before .before .before .before .before .before .args .leaves .now)) - 1) (c .before .before .before .loop .leaf) (c .before .before .before .loop .inv .1) (omega arith) (sym (c .before .precedes .ensures) ∙ not-true _ (c .if1 .taken))
 
 add-leaf : tie.Need-add-leaf Inv-loop μ-loop
 add-leaf c = search needs
@@ -45,11 +47,11 @@ loop-less : tie.Need-loop-less Inv-loop μ-loop
 loop-less c = search needs
 
 loop-again : tie.Need-loop-again Inv-loop μ-loop
-loop-again c = (search needs, sym (scan-on _ _ (leafCount (c .before .before .before .before .before .before .before .args .leaves .now) - 1) (omega arith) (sym (c .before .precedes .ensures) ∙ not-false _ (c .if1 .left))) ∙ c .before .before .before .loop .inv .1)
+loop-again c = (search needs, sym (scan-on _ _ (leafCount (ofDegree (c .before .before .before .before .before .before .before .args .degree) (c .before .before .before .before .before .before .before .args .leaves .now)) - 1) (omega arith) (sym (c .before .precedes .ensures) ∙ not-false _ (c .if1 .left))) ∙ c .before .before .before .loop .inv .1)
 
 returns-2 : tie.Need-returns-2 Inv-loop μ-loop
 unfolding orderCheck
-returns-2 c = judge-out 11 (λ k. k + 1) _ (leafCount (c .before .before .before .before .before .args .leaves .now) - 1) (c .before .loop .leaf) (c .before .loop .inv .1) (omega arith)
+returns-2 c = judge-out 11 (λ k. k + 1) _ (leafCount (ofDegree (c .before .before .before .before .before .args .degree) (c .before .before .before .before .before .args .leaves .now)) - 1) (c .before .loop .leaf) (c .before .loop .inv .1) (omega arith)
 
 pub order-spec : {M : Type 1} → statement M
 order-spec =
@@ -61,7 +63,7 @@ order-spec =
     loop-holds
     add-loop
     precedes-requires
-    add-t8
+    add-t9
     returns
     add-leaf
     loop-less

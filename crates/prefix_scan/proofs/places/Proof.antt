@@ -6,6 +6,7 @@ use native.Mathlib.Nat.{sub-zero}
 use lib.ListN.{length}
 use borrow.Author.Tests.{not-true, not-false}
 use borrow.Author.Needs.{needs}
+use Rattle.layout_rules.specs.Section.{ofDegree}
 use Rattle.lists.proofs.Scan.{scan-on}
 use Rattle.lists.specs.Scan.{firstFailing}
 use Rattle.faults.proofs.Check.{judge-here, judge-out}
@@ -15,10 +16,10 @@ use Rattle.prefix_scan.proofs.places.Statement.{statement}
 use Rattle.prefix_scan.proofs.places.Tie as tie
 
 abbrev Inv-loop : tie.InvT-loop
-Inv-loop leaves words count leaf₀ leaf = firstFailing (leafAllowed leaves (length words)) leaf (leafCount leaves - leaf) ≡ firstFailing (leafAllowed leaves (length words)) 0 (leafCount leaves)
+Inv-loop degree leaves words count leaf₀ leaf = firstFailing (leafAllowed (ofDegree degree leaves) (length words)) leaf (leafCount (ofDegree degree leaves) - leaf) ≡ firstFailing (leafAllowed (ofDegree degree leaves) (length words)) 0 (leafCount (ofDegree degree leaves))
 
 abbrev μ-loop : tie.MeasureT-loop
-μ-loop leaves words count leaf₀ leaf = count - leaf
+μ-loop degree leaves words count leaf₀ leaf = count - leaf
 
 leaf-count-requires : tie.Need-leaf-count-requires Inv-loop μ-loop
 leaf-count-requires c κs = search needs
@@ -31,7 +32,7 @@ leaf-allowed-requires c κs = omega arith
 
 returns : tie.Need-returns Inv-loop μ-loop
 unfolding placeCheck
-returns c = judge-here 9 (λ k. k) _ (leafCount (c .before .before .before .before .before .before .before .args .leaves .now)) (c .before .before .before .loop .leaf) (c .before .before .before .loop .inv) (omega arith) (sym (c .before .leaf-allowed .ensures) ∙ not-true _ (c .if1 .taken))
+returns c = judge-here 9 (λ k. k) _ (leafCount (ofDegree (c .before .before .before .before .before .before .before .args .degree) (c .before .before .before .before .before .before .before .args .leaves .now))) (c .before .before .before .loop .leaf) (c .before .before .before .loop .inv) (omega arith) (sym (c .before .leaf-allowed .ensures) ∙ not-true _ (c .if1 .taken))
 
 add-leaf : tie.Need-add-leaf Inv-loop μ-loop
 add-leaf c = search needs
@@ -40,11 +41,11 @@ loop-less : tie.Need-loop-less Inv-loop μ-loop
 loop-less c = search needs
 
 loop-again : tie.Need-loop-again Inv-loop μ-loop
-loop-again c = sym (scan-on _ _ (leafCount (c .before .before .before .before .before .before .before .args .leaves .now)) (omega arith) (sym (c .before .leaf-allowed .ensures) ∙ not-false _ (c .if1 .left))) ∙ c .before .before .before .loop .inv
+loop-again c = sym (scan-on _ _ (leafCount (ofDegree (c .before .before .before .before .before .before .before .args .degree) (c .before .before .before .before .before .before .before .args .leaves .now))) (omega arith) (sym (c .before .leaf-allowed .ensures) ∙ not-false _ (c .if1 .left))) ∙ c .before .before .before .loop .inv
 
 returns-2 : tie.Need-returns-2 Inv-loop μ-loop
 unfolding placeCheck
-returns-2 c = judge-out 9 (λ k. k) _ (leafCount (c .before .before .before .before .before .args .leaves .now)) (c .before .loop .leaf) (c .before .loop .inv) (omega arith)
+returns-2 c = judge-out 9 (λ k. k) _ (leafCount (ofDegree (c .before .before .before .before .before .args .degree) (c .before .before .before .before .before .args .leaves .now))) (c .before .loop .leaf) (c .before .loop .inv) (omega arith)
 
 pub places-spec : {M : Type 1} → statement M
 places-spec =

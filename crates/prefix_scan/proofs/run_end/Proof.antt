@@ -4,6 +4,7 @@ use Prim.Native.Nat.{_-_, _≤_}
 use lib.Dec.{eqb}
 use borrow.Author.Tests.{eq-eqb, ne-eqb}
 use borrow.Author.Needs.{needs}
+use Rattle.layout_rules.specs.Section.{ofDegree}
 use Rattle.lists.proofs.Scan.{scan-on, scan-here, scan-out}
 use Rattle.lists.specs.Scan.{firstFailing}
 use Rattle.prefix_rules.specs.Coverage.{runEnd}
@@ -13,10 +14,10 @@ use Rattle.prefix_scan.proofs.run_end.Statement.{statement}
 use Rattle.prefix_scan.proofs.run_end.Tie as tie
 
 abbrev Inv-loop : tie.InvT-loop
-Inv-loop leaves words place digit low high leaf₀ leaf = (low ≤ leaf) × (firstFailing (λ k. eqb (codeOf leaves words .digit k place) digit) leaf (high - leaf) ≡ firstFailing (λ k. eqb (codeOf leaves words .digit k place) digit) low (high - low))
+Inv-loop degree leaves words place digit low high leaf₀ leaf = (low ≤ leaf) × (firstFailing (λ k. eqb (codeOf (ofDegree degree leaves) words .digit k place) digit) leaf (high - leaf) ≡ firstFailing (λ k. eqb (codeOf (ofDegree degree leaves) words .digit k place) digit) low (high - low))
 
 abbrev μ-loop : tie.MeasureT-loop
-μ-loop leaves words place digit low high leaf₀ leaf = high - leaf
+μ-loop degree leaves words place digit low high leaf₀ leaf = high - leaf
 
 loop-holds : tie.Need-loop-holds Inv-loop μ-loop
 loop-holds c = (search needs, refl)
@@ -39,7 +40,7 @@ returns c =
     let a = c .before .before .before .before .before .before .before .before .args in
     let loop = c .before .before .before .before .before .loop in
     let loop-test = c .before .before .before .before .loop-test in
-    let read = c .before .wide .ensures .0 ∙ digit-read (a .leaves .now) (a .words .now) (loop .leaf) (a .place) _ _ (c .before .before .before .word-start .ensures .0) (c .before .before .byte-at .ensures) in
+    let read = c .before .wide .ensures .0 ∙ digit-read (ofDegree (a .degree) (a .leaves .now)) (a .words .now) (loop .leaf) (a .place) _ _ (c .before .before .before .word-start .ensures .0) (c .before .before .byte-at .ensures) in
     sym (scan-here _ _ (a .high) (loop-test .taken) (ne-eqb _ _ (λ q. c .if1 .taken (read ∙ q)))) ∙ loop .inv .1
 
 add-leaf : tie.Need-add-leaf Inv-loop μ-loop
@@ -53,7 +54,7 @@ loop-again c =
     let a = c .before .before .before .before .before .before .before .before .args in
     let loop = c .before .before .before .before .before .loop in
     let loop-test = c .before .before .before .before .loop-test in
-    let read = c .before .wide .ensures .0 ∙ digit-read (a .leaves .now) (a .words .now) (loop .leaf) (a .place) _ _ (c .before .before .before .word-start .ensures .0) (c .before .before .byte-at .ensures) in
+    let read = c .before .wide .ensures .0 ∙ digit-read (ofDegree (a .degree) (a .leaves .now)) (a .words .now) (loop .leaf) (a .place) _ _ (c .before .before .before .word-start .ensures .0) (c .before .before .byte-at .ensures) in
     (search needs, sym (scan-on _ _ (a .high) (loop-test .taken) (eq-eqb _ _ (sym read ∙ c .if1 .left))) ∙ loop .inv .1)
 
 returns-2 : tie.Need-returns-2 Inv-loop μ-loop

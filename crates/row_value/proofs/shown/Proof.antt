@@ -7,7 +7,7 @@ use mir.Val.{toZ, ofZ}
 use borrow.Author.Needs.{needs}
 use Rattle.integers.proofs.Machine.{Term, plain-fits, stored-is}
 use Rattle.lists.proofs.Cons.{cons≡}
-use Rattle.ring.proofs.Parts.{entry, two-parts}
+use Rattle.ring.proofs.Parts.{entry, four-parts}
 use Rattle.ring.specs.Element.{part}
 use Rattle.row_value_rules.specs.Total.{totalLimit}
 use Rattle.row_value.proofs.shown.Statement.{statement}
@@ -32,11 +32,34 @@ array-copy-out-t9 c = search needs
 cast-t10 : tie.Need-cast-t10
 cast-t10 c = let s = c .before .before in rw (stored-is w64 (at s 1) refl) (plain-fits w32 (at s 1) refl)
 
+array-copy-out-t13 : tie.Need-array-copy-out-t13
+array-copy-out-t13 c = search needs
+
+cast-t14 : tie.Need-cast-t14
+cast-t14 c = let s = c .before .before .before in rw (stored-is w64 (at s 2) refl) (plain-fits w32 (at s 2) refl)
+
+array-copy-out-t17 : tie.Need-array-copy-out-t17
+array-copy-out-t17 c = search needs
+
+cast-t18 : tie.Need-cast-t18
+cast-t18 c = let s = c .before .before .before .before in rw (stored-is w64 (at s 3) refl) (plain-fits w32 (at s 3) refl)
+
 returns : tie.Need-returns
 returns c =
-    let s = c .before .before in
-    let h : length (s .args .t1) ≡ 2 = search needs in
-    cons≡ (narrow s 0) (cons≡ (narrow s 1) refl) ∙ sym (two-parts (s .args .t1) h)
+    let s = c .before .before .before .before in
+    let h : length (s .args .t1) ≡ 4 = search needs in
+    cons≡ (narrow s 0) (cons≡ (narrow s 1) (cons≡ (narrow s 2) (cons≡ (narrow s 3) refl))) ∙ sym (four-parts (s .args .t1) h)
 
 pub shown-spec : {M : Type 1} → statement M
-shown-spec = tie.close (tie.spec array-copy-out-t5 cast-t6 array-copy-out-t9 cast-t10 returns)
+shown-spec =
+    tie.close
+    (tie.spec
+    array-copy-out-t5
+    cast-t6
+    array-copy-out-t9
+    cast-t10
+    array-copy-out-t13
+    cast-t14
+    array-copy-out-t17
+    cast-t18
+    returns)

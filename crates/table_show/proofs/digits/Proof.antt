@@ -5,13 +5,16 @@ use Rattle.table_show.proofs.digits.Statement.{statement}
 use Rattle.table_show.proofs.digits.Tie as tie
 
 abbrev Inv-loop : tie.InvT-loop
-Inv-loop name part count k₀ t7 k = k ≤ count
+Inv-loop degree name part count k₀ t8 k = k ≤ count
 
 abbrev μ-loop : tie.MeasureT-loop
-μ-loop name part count k₀ t7 k = count - k
+μ-loop degree name part count k₀ t8 k = count - k
 
 write-requires : tie.Need-write-requires Inv-loop μ-loop
 write-requires c κs = search needs
+
+record-count-requires : tie.Need-record-count-requires Inv-loop μ-loop
+record-count-requires c κs = search needs
 
 loop-holds : tie.Need-loop-holds Inv-loop μ-loop
 loop-holds c = search needs
@@ -53,6 +56,7 @@ digits-spec =
     Inv-loop
     μ-loop
     write-requires
+    record-count-requires
     loop-holds
     slice-aggregate-item
     item-requires

@@ -5,10 +5,10 @@ use Rattle.table_show.proofs.leaves.Statement.{statement}
 use Rattle.table_show.proofs.leaves.Tie as tie
 
 abbrev Inv-loop : tie.InvT-loop
-Inv-loop inputs leaves words count columns k₀ k = k ≤ count
+Inv-loop degree inputs leaves words count columns k₀ k = k ≤ count
 
 abbrev μ-loop : tie.MeasureT-loop
-μ-loop inputs leaves words count columns k₀ k = count - k
+μ-loop degree inputs leaves words count columns k₀ k = count - k
 
 slice-aggregate-write : tie.Need-slice-aggregate-write Inv-loop μ-loop
 slice-aggregate-write c = search needs

@@ -1,4 +1,5 @@
 -- Each weight in the set gives an alphabet digit with the part.
+use Rattle.layout_rules.specs.Section.{ofDegree}
 use Rattle.weight_sets.proofs.Bits.{has-none}
 use Rattle.weight_sets.proofs.Weights.{good-next}
 use Prim.Native.Nat.{_-_}
@@ -10,10 +11,10 @@ use Rattle.weight_sets.proofs.good_set.Statement.{statement}
 use Rattle.weight_sets.proofs.good_set.Tie as tie
 
 abbrev Inv-loop : tie.InvT-loop
-Inv-loop alphabet slots part leaves first count good₀ number₀ good number = Good alphabet leaves first part good
+Inv-loop degree alphabet slots part leaves first count good₀ number₀ good number = Good (ofDegree degree alphabet) (ofDegree degree leaves) first part good
 
 abbrev μ-loop : tie.MeasureT-loop
-μ-loop alphabet slots part leaves first count good₀ number₀ good number = count - number
+μ-loop degree alphabet slots part leaves first count good₀ number₀ good number = count - number
 
 loop-holds : tie.Need-loop-holds Inv-loop μ-loop
 loop-holds c = λ j h. absurd (has-none j h)
@@ -40,7 +41,7 @@ loop-again : tie.Need-loop-again Inv-loop μ-loop
 loop-again c =
     let a = c .before .before .before .before .before .before .before .before .args in
     let loop = c .before .before .before .before .loop in
-    good-next (a .alphabet .now) (a .leaves .now) (a .first .now) (a .part) (loop .good) (c .single-if .result) (loop .number) (c .before .gives-digit .result) (c .before .gives-digit .ensures)
+    good-next (ofDegree (a .degree) (a .alphabet .now)) (ofDegree (a .degree) (a .leaves .now)) (a .first .now) (a .part) (loop .good) (c .single-if .result) (loop .number) (c .before .gives-digit .result) (c .before .gives-digit .ensures)
     (c .single-if .ensures) (loop .inv)
 
 returns : tie.Need-returns Inv-loop μ-loop

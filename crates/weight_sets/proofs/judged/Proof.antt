@@ -1,9 +1,11 @@
 -- What is kept was judged for the same first digit and weight, so for the same part; else it is judged now and kept.
+use Rattle.layout_rules.specs.Section.{ofDegree}
 use Rattle.leaf_rules.specs.Given.{wordGiven}
 use Rattle.weight_sets.proofs.Weights.{judged-next}
 use Rattle.weight_sets.specs.Weights.{Good}
 use Rattle.digit_rules.specs.Record.{recordAt}
-use Rattle.ring.specs.Matrix.{times}
+use Rattle.ring.specs.Degree.{partCount}
+use Rattle.ring.specs.Padded.{paddedTimes}
 use Rattle.ring.specs.Element.{minus}
 use mathlib.Core.Path.{sym, ap, subst, _∙_}
 use Prim.Native.Nat.{ℕ, _+_}
@@ -39,14 +41,14 @@ element-copy-out-result c = search needs
 returns : tie.Need-returns
 returns c =
     let a = c .before .before .before .before .before .before .before .before .before .before .before .args in
-    let leaves = a .leaves .now in
+    let leaves = ofDegree (a .degree) (a .leaves .now) in
     let words = a .words .now in
     let number = a .number in
     let upper = a .upper in
     let pre = c .before .before .before .before .before .before .before .before .before .before .before .pre in
     let word = c .before .before .before .before .before .word in
     let byte-at = c .before .before .before .before .byte-at in (
-      subst (λ w. Good (a .alphabet .now) leaves (a .first .now) (minus (recordAt (a .inputs .now) (getD (wordGiven leaves words upper) 0 0)) (times (a .base) w)) (getD (a .good .now) number 0)) (pre .1 .0 .3)
+      subst (λ w. Good (ofDegree (a .degree) (a .alphabet .now)) leaves (a .first .now) (minus (recordAt (ofDegree (a .degree) (a .inputs .now)) (getD (wordGiven leaves words upper) 0 0)) (paddedTimes (partCount (a .degree)) (a .base) w)) (getD (a .good .now) number 0)) (pre .1 .0 .3)
           (pre .1 .1 number (getD (wordGiven leaves words upper) 0 0)
           (c .before .if1 .taken ∙ ap (λ (x : ℕ). x + 1) (c .before .before .before .wide .ensures .0 ∙ byte-at .ensures ∙ ap (λ w. getD w 0 0) (word .ensures)))),
       pre .1 .1,
@@ -73,9 +75,9 @@ element-write-made c = search needs
 returns-2 : tie.Need-returns-2
 returns-2 c =
     let a = c .before .before .before .before .before .before .before .before .before .before .before .before .args in
-    let alphabet = a .alphabet .now in
-    let leaves = a .leaves .now in
-    let inputs = a .inputs .now in
+    let alphabet = ofDegree (a .degree) (a .alphabet .now) in
+    let leaves = ofDegree (a .degree) (a .leaves .now) in
+    let inputs = ofDegree (a .degree) (a .inputs .now) in
     let first = a .first .now in
     let base = a .base in
     let pre = c .before .before .before .before .before .before .before .before .before .before .before .before .pre in
@@ -85,7 +87,7 @@ returns-2 c =
       subst (λ p. Good alphabet leaves first p (c .good-set .result)) (c .before .upper-part .ensures .0) (c .good-set .ensures),
       judged-next base alphabet inputs leaves first (a .made .now) (a .good .now) (a .number) (wide .result) (c .good-set .result)
           (subst (λ p. Good alphabet leaves first p (c .good-set .result))
-          (c .before .upper-part .ensures .0 ∙ (λ i. minus (recordAt inputs (sym (wide .ensures .0 ∙ byte-at .ensures ∙ ap (λ w. getD w 0 0) (word .ensures)) i)) (times base (sym (pre .1 .0 .3) i))))
+          (c .before .upper-part .ensures .0 ∙ (λ i. minus (recordAt inputs (sym (wide .ensures .0 ∙ byte-at .ensures ∙ ap (λ w. getD w 0 0) (word .ensures)) i)) (paddedTimes (partCount (a .degree)) base (sym (pre .1 .0 .3) i))))
           (c .good-set .ensures))
           (pre .1 .1),
     )

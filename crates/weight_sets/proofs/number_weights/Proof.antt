@@ -1,4 +1,5 @@
 -- The leaves passed have the number of a leaf with their weight.
+use Rattle.layout_rules.specs.Section.{ofDegree}
 use Rattle.weight_sets.proofs.Weights.{numbered-old, numbered-new}
 use mathlib.Core.Logic.{⊎-elim}
 use lib.Dec.{lit≤}
@@ -13,10 +14,10 @@ use Rattle.weight_sets.proofs.number_weights.Statement.{statement}
 use Rattle.weight_sets.proofs.number_weights.Tie as tie
 
 abbrev Inv-loop : tie.InvT-loop
-Inv-loop leaves numbers₀ first₀ leaf-count slots₀ count₀ leaf₀ numbers first slots count leaf = (length numbers ≡ length numbers₀) × (length first ≡ length first₀) × (count ≤ 64) × WeightsNumbered leaves numbers first count leaf
+Inv-loop degree leaves numbers₀ first₀ leaf-count slots₀ count₀ leaf₀ numbers first slots count leaf = (length numbers ≡ length numbers₀) × (length first ≡ length first₀) × (count ≤ 64) × WeightsNumbered (ofDegree degree leaves) numbers first count leaf
 
 abbrev μ-loop : tie.MeasureT-loop
-μ-loop leaves numbers₀ first₀ leaf-count slots₀ count₀ leaf₀ numbers first slots count leaf = leaf-count - leaf
+μ-loop degree leaves numbers₀ first₀ leaf-count slots₀ count₀ leaf₀ numbers first slots count leaf = leaf-count - leaf
 
 leaf-count-requires : tie.Need-leaf-count-requires Inv-loop μ-loop
 leaf-count-requires c κs = search needs
@@ -28,7 +29,7 @@ weight-requires : tie.Need-weight-requires Inv-loop μ-loop
 weight-requires c κs = search needs
 
 slot-of-requires : tie.Need-slot-of-requires Inv-loop μ-loop
-slot-of-requires c κs = within-le 32768 (2 ^ 58) _ (lit≤ tt) (c .weight .ensures .1)
+slot-of-requires c κs = within-le 32768 (2 ^ 56) _ (lit≤ tt) (c .weight .ensures .1)
 
 array-read-wide : tie.Need-array-read-wide Inv-loop μ-loop
 array-read-wide c = omega arith
@@ -81,7 +82,7 @@ loop-less c = omega arith
 loop-again : tie.Need-loop-again Inv-loop μ-loop
 loop-again c =
     let a = c .before .before .before .before .before .before .before .before .before .before .before .before .before .args in
-    let leaves = a .leaves .now in
+    let leaves = ofDegree (a .degree) (a .leaves .now) in
     let leaf-count = c .before .before .before .before .before .before .before .before .before .leaf-count in
     let loop = c .before .before .before .before .before .before .before .before .loop in
     let number-in = c .before .before .number-in in (

@@ -1,61 +1,53 @@
--- Small numbers have a small product.
-use Prim.Native.Nat.{ℕ, _^_, _≤_}
-use mathlib.Core.List.{[], _∷_}
-use lib.IntN.{ℤ, natAbs}
-use mir.Val.{SFits, toZ, ofZ}
-use mir.ValLaws.{toZ-ofZ}
-use Rattle.ring.specs.Tests.{BaseLimits, Within}
-use Rattle.exercise_calls.proofs.Product.{within-more, rows-more, entries, product-within}
-use Rattle.ring.proofs.Parts.{entry, within-two}
-use Rattle.integers.proofs.Machine.{plain-fits, stored-is}
-use mir.Syntax.{w32, w64}
+-- The base's matrix is small enough to multiply by.
+use mathlib.Core.List.{List}
 use mathlib.Core.Path.{refl}
+use Prim.Native.Nat.{ℕ, _≤_, _^_}
+use lib.IntN.{ℤ, natAbs}
+use mir.Syntax.{w64}
+use mir.Val.{toZ, ofZ}
 use native.Mathlib.Omega.{arith}
 use borrow.Author.Needs.{needs}
+use Rattle.integers.proofs.Machine.{stored-is}
+use Rattle.ring.specs.Element.{part}
+use Rattle.ring.specs.Tests.{Within}
+use Rattle.ring.proofs.Element.{within-le}
+use Rattle.ring.proofs.Parts.{within-part, entry}
 use Rattle.exercise_calls.proofs.arithmetic.product.Statement.{statement}
 use Rattle.exercise_calls.proofs.arithmetic.product.Tie as tie
 
--- a number as it is read back from its bits
-held : (n : ℕ) (z : ℤ) → SFits w64 z → natAbs z ≤ n → natAbs (toZ w64 (ofZ w64 z)) ≤ n
-held n z f h = rw (toZ-ofZ w64 z f) h
-
-limits : (s : tie.Start) → BaseLimits (toZ w64 (ofZ w64 (s .args .s))) (toZ w64 (ofZ w64 (s .args .t))) (toZ w64 (ofZ w64 (s .args .u))) (toZ w64 (ofZ w64 (s .args .v)))
-limits s =
-    record {
-      of-s = held 64 (s .args .s) (s .fits .s) (s .pre .0 .of-s);
-      of-t = held 64 (s .args .t) (s .fits .t) (s .pre .0 .of-t);
-      of-u = held 64 (s .args .u) (s .fits .u) (s .pre .0 .of-u);
-      of-v = held 64 (s .args .v) (s .fits .v) (s .pre .0 .of-v);
-    }
-
-small : (s : tie.Start) → Within 1024 (toZ w64 (ofZ w64 (s .args .a)) ∷ toZ w64 (ofZ w64 (s .args .b)) ∷ [])
-small s = within-two 1024 _ _ (held 1024 (s .args .a) (s .fits .a) (s .pre .1)) (held 1024 (s .args .b) (s .fits .b) (s .pre .2))
+-- a part as it is read back
+small : (k : ℕ) (y : List ℤ) → (h : Within (2 ^ 55) y) → natAbs (toZ w64 (ofZ w64 (part y k))) ≤ 2 ^ 55
+small k y h = rw (stored-is w64 (entry (2 ^ 55) y h k) refl) (within-part (2 ^ 55) y h k)
 
 base-matrix-requires : tie.Need-base-matrix-requires
 base-matrix-requires c κs = search needs
 
 times-base-requires : tie.Need-times-base-requires
-times-base-requires c κs =
-    let s = c .before in
-    (rw (c .base-matrix .ensures) (rows-more 4160 (2 ^ 24) _ (omega arith) (entries _ _ _ _ (limits s))), within-more 1024 (2 ^ 32) _ (omega arith) (small s))
+times-base-requires c κs = (c .base-matrix .ensures .1 .1, within-le 64 (2 ^ 32) _ (omega arith) (c .before .pre .1))
 
-array-copy-out-t13 : tie.Need-array-copy-out-t13
-array-copy-out-t13 c = search needs
+array-copy-out-narrow : tie.Need-array-copy-out-narrow
+array-copy-out-narrow c = search needs
 
-cast-t14 : tie.Need-cast-t14
-cast-t14 c =
-    let y = product-within _ _ _ _ (limits (c .before .before .before)) _ _ _ (c .before .before .base-matrix .ensures) (c .before .times-base .ensures .0) (small (c .before .before .before)) in
-    let at = entry 8519680 (c .before .times-base .result) y 0 in
-    rw (stored-is w64 at refl) (plain-fits w32 at refl)
+narrow-requires : tie.Need-narrow-requires
+narrow-requires c κs = small 0 (c .before .times-base .result) (c .before .times-base .ensures .1)
 
-array-copy-out-t17 : tie.Need-array-copy-out-t17
-array-copy-out-t17 c = search needs
+array-copy-out-narrow-2 : tie.Need-array-copy-out-narrow-2
+array-copy-out-narrow-2 c = search needs
 
-cast-t18 : tie.Need-cast-t18
-cast-t18 c =
-    let y = product-within _ _ _ _ (limits (c .before .before .before .before)) _ _ _ (c .before .before .before .base-matrix .ensures) (c .before .before .times-base .ensures .0) (small (c .before .before .before .before)) in
-    let at = entry 8519680 (c .before .before .times-base .result) y 1 in
-    rw (stored-is w64 at refl) (plain-fits w32 at refl)
+narrow-requires-2 : tie.Need-narrow-requires-2
+narrow-requires-2 c κs = small 1 (c .before .before .before .times-base .result) (c .before .before .before .times-base .ensures .1)
+
+array-copy-out-narrow-3 : tie.Need-array-copy-out-narrow-3
+array-copy-out-narrow-3 c = search needs
+
+narrow-requires-3 : tie.Need-narrow-requires-3
+narrow-requires-3 c κs = small 2 (c .before .before .before .before .before .times-base .result) (c .before .before .before .before .before .times-base .ensures .1)
+
+array-copy-out-narrow-4 : tie.Need-array-copy-out-narrow-4
+array-copy-out-narrow-4 c = search needs
+
+narrow-requires-4 : tie.Need-narrow-requires-4
+narrow-requires-4 c κs = small 3 (c .before .before .before .before .before .before .before .times-base .result) (c .before .before .before .before .before .before .before .times-base .ensures .1)
 
 returns : tie.Need-returns
 returns c = search needs
@@ -66,8 +58,12 @@ product-spec =
     (tie.spec
     base-matrix-requires
     times-base-requires
-    array-copy-out-t13
-    cast-t14
-    array-copy-out-t17
-    cast-t18
+    array-copy-out-narrow
+    narrow-requires
+    array-copy-out-narrow-2
+    narrow-requires-2
+    array-copy-out-narrow-3
+    narrow-requires-3
+    array-copy-out-narrow-4
+    narrow-requires-4
     returns)

@@ -25,11 +25,14 @@ enum-told-2 c = search needs
 returns : tie.Need-returns
 returns c = search needs
 
+degree-in-requires : tie.Need-degree-in-requires
+degree-in-requires c κs = search needs
+
 section-requires : tie.Need-section-requires
-section-requires c κs = (kept c, lit< tt)
+section-requires c κs = (kept (c .before), lit< tt)
 
 section-requires-2 : tie.Need-section-requires-2
-section-requires-2 c κs = (kept (c .before), lit< tt)
+section-requires-2 c κs = (kept (c .before .before), lit< tt)
 
 look-up-requires : tie.Need-look-up-requires
 look-up-requires c κs = search needs
@@ -48,6 +51,7 @@ leaf-line-spec =
     enum-told
     enum-told-2
     returns
+    degree-in-requires
     section-requires
     section-requires-2
     look-up-requires
