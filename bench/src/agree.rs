@@ -2,11 +2,12 @@
 
 use std::collections::BTreeSet;
 
-use reference::{Answer, Parts};
+use reference::{Answer, Parts, ALL_DEGREES, DEGREES};
 
 use crate::calls::Library;
 use crate::codes;
-use crate::damage::{self, Draft};
+use crate::damage;
+use crate::draft::Draft;
 use crate::fast::Pairs;
 use crate::interface::{Call, Calls, Lent, ANSWER_WORDS, FAULT};
 use crate::lend;
@@ -48,15 +49,19 @@ pub fn compare_all() -> Result<Tally, String> {
 /// A random code; often with more different weights than a bit mask holds, the first leaves' excepted, so that the check goes on.
 fn random_code(random: &mut Random) -> Parts {
     let most_leaves = 1 + random.below(400);
-    let mut parts = codes::random_code(most_leaves, random);
+    let degree = match random.one_in(8) {
+        true => random.pick(ALL_DEGREES),
+        false => random.pick(DEGREES),
+    };
+    let mut parts = codes::random_code(degree, most_leaves, random);
     let kept = 1 + random.below(parts.leaves.len());
     if random.one_in(2) {
         for (leaf, (_, weight)) in parts.leaves.iter_mut().enumerate() {
-            let mut part = || random.between(-20, 20) as i16;
-            *weight = match leaf < kept {
-                true => (0, 0),
-                false => (part(), part()),
+            let part = |_| match leaf < kept {
+                true => 0,
+                false => random.between(-20, 20) as i16,
             };
+            *weight = (0..degree).map(part).collect();
         }
     }
     parts

@@ -1,13 +1,15 @@
 //! A fast form of the reference: the same calls with the best algorithms we know, to measure the proved library against.
 //!
 //! - Rules 1 to 13 are judged by passes that only say yes or no, nearly without branches; after a no a second pass names the fault.
-//! - An element is one 64-bit key, a·2³² + b, on which sums, differences and β act as on the element; the alphabet has a perfect hash.
+//! - An element is one key, its parts 32 bits apart, on which sums, differences and β act as on the element; the alphabet has a perfect hash.
+//!   At degree two a key has 64 bits, beyond it 128. Each degree is compiled for itself.
 //! - A word is a left-aligned big-endian number, so that order, "begins" and the window's search are comparisons of numbers.
 //! - Rule 12 adds up how many strings each word begins; the sums of two digits, or their differences, are indexed once a call.
 //! - Rule 14 walks upper and lower leaves side by side, in runs of neighbours or by sets of weights.
 #![forbid(unsafe_code)]
 
 mod alphabet;
+mod degree;
 mod layout;
 mod leaves;
 mod naming;
@@ -16,19 +18,31 @@ mod rows;
 mod sums;
 mod weights;
 
-use reference::{Element, Fault, Group, TableFacts};
+use reference::{Fault, Group, TableFacts};
 
 use alphabet::Alphabet;
+use degree::{Degree, Four, Three, Two};
 use layout::Sections;
 use leaves::Code;
 use sums::PairIndex;
 
 /// A table past 1 to 13.
-struct Table<'a> {
-    sections: Sections<'a>,
-    alphabet: Alphabet,
+struct Table<'a, D: Degree> {
+    sections: Sections<'a, D>,
+    alphabet: Alphabet<D>,
     sums: PairIndex,
-    code: Code<'a>,
+    code: Code<'a, D>,
+}
+
+/// A call by the degree that the file tells.
+macro_rules! by_degree {
+    ($file:expr, $call:ident($($argument:expr),*)) => {
+        match layout::degree_told($file) {
+            3 => $call::<Three>($file, $($argument),*),
+            4 => $call::<Four>($file, $($argument),*),
+            _ => $call::<Two>($file, $($argument),*),
+        }
+    };
 }
 
 /// How the pairs of rule 14 are gone through.
@@ -41,16 +55,16 @@ pub enum Pairs {
 }
 
 /// Rules 1 to 13. With `KEYS` the words are kept as numbers, for calls that search among them often.
-fn read<const KEYS: bool>(file: &[u8]) -> Result<Table<'_>, Fault> {
-    accept::<KEYS>(file).ok_or_else(|| naming::first_broken(file))
+fn read<D: Degree, const KEYS: bool>(file: &[u8]) -> Result<Table<'_, D>, Fault> {
+    accept::<D, KEYS>(file).ok_or_else(|| naming::first_broken::<D>(file))
 }
 
 /// The table, if no rule of 1 to 13 is broken.
-fn accept<const KEYS: bool>(file: &[u8]) -> Option<Table<'_>> {
+fn accept<D: Degree, const KEYS: bool>(file: &[u8]) -> Option<Table<'_, D>> {
     let sections = layout::sections(file)?;
     let alphabet = Alphabet::of(&sections)?;
     let sums = sums::index(&sections)?;
-    let code = leaves::code::<KEYS>(&sections)?;
+    let code = leaves::code::<D, KEYS>(&sections)?;
     Some(Table {
         sections,
         alphabet,
@@ -61,7 +75,11 @@ fn accept<const KEYS: bool>(file: &[u8]) -> Option<Table<'_>> {
 
 /// The table check.
 pub fn check(file: &[u8], pairs: Pairs) -> Result<TableFacts, Fault> {
-    let table = read::<true>(file)?;
+    by_degree!(file, check_at(pairs))
+}
+
+fn check_at<D: Degree>(file: &[u8], pairs: Pairs) -> Result<TableFacts, Fault> {
+    let table = read::<D, true>(file)?;
     match pairs::first_bad_upper(&table, pairs) {
         Some(upper) => Err(author(14, upper)),
         None => Ok(TableFacts {
@@ -74,7 +92,16 @@ pub fn check(file: &[u8], pairs: Pairs) -> Result<TableFacts, Fault> {
 
 /// Addition: the bytes written, and the reach.
 pub fn add(file: &[u8], first: &[u8], second: &[u8], sum: &mut [u8]) -> Result<[usize; 2], Fault> {
-    let table = read::<true>(file)?;
+    by_degree!(file, add_at(first, second, sum))
+}
+
+fn add_at<D: Degree>(
+    file: &[u8],
+    first: &[u8],
+    second: &[u8],
+    sum: &mut [u8],
+) -> Result<[usize; 2], Fault> {
+    let table = read::<D, true>(file)?;
     rows::check(&table, first, second, sum.len())?;
     combine(&table, &table.sums, first, second, sum)
 }
@@ -86,7 +113,16 @@ pub fn subtract(
     second: &[u8],
     out: &mut [u8],
 ) -> Result<[usize; 2], Fault> {
-    let table = read::<true>(file)?;
+    by_degree!(file, subtract_at(first, second, out))
+}
+
+fn subtract_at<D: Degree>(
+    file: &[u8],
+    first: &[u8],
+    second: &[u8],
+    out: &mut [u8],
+) -> Result<[usize; 2], Fault> {
+    let table = read::<D, true>(file)?;
     rows::check(&table, first, second, out.len())?;
     let differences = sums::differences(&table.sections).map_err(|digit| author(42, digit))?;
     combine(&table, &differences, first, second, out)
@@ -94,8 +130,8 @@ pub fn subtract(
 
 /// The conversion of what an index makes of the digits at each place.
 #[inline(always)]
-fn combine(
-    table: &Table,
+fn combine<D: Degree>(
+    table: &Table<D>,
     index: &PairIndex,
     first: &[u8],
     second: &[u8],
@@ -112,7 +148,7 @@ fn combine(
     let mut digits = [0; rows::MOST_PLACES];
     let digits = &mut digits[..places];
     let find = |window| by_first.search(window);
-    let reach = rows::convert::<{ rows::MOST_PLACES }>(table, find, row, 0, digits)?;
+    let reach = rows::convert::<D, { rows::MOST_PLACES }>(table, find, row, 0, digits)?;
     sum[..places].copy_from_slice(digits);
     Ok([places, reach])
 }
@@ -120,11 +156,20 @@ fn combine(
 /// The digit edit; asked are row number, place and digit. The bytes changed, and the reach.
 pub fn edit(
     file: &[u8],
+    rows: [&mut [u8]; 2],
+    sum: &mut [u8],
+    asked: [u64; 3],
+) -> Result<[usize; 2], Fault> {
+    by_degree!(file, edit_at(rows, sum, asked))
+}
+
+fn edit_at<D: Degree>(
+    file: &[u8],
     [first, second]: [&mut [u8]; 2],
     sum: &mut [u8],
     asked: [u64; 3],
 ) -> Result<[usize; 2], Fault> {
-    let table = read::<false>(file)?;
+    let table = read::<D, false>(file)?;
     rows::check(&table, first, second, sum.len())?;
     let [row, edited, digit] = rows::check_edit(asked, first.len(), table.alphabet.count)?;
     let places = table.code.depth + 1;
@@ -142,16 +187,23 @@ pub fn edit(
     let mut digits = [0; leaves::LONGEST + 1];
     let digits = &mut digits[..places];
     let find = |window| table.code.search_file(window);
-    let reach = rows::convert::<{ leaves::LONGEST + 1 }>(&table, find, inputs, edited, digits)?;
+    let reach = rows::convert::<D, { leaves::LONGEST + 1 }>(&table, find, inputs, edited, digits)?;
     [first, second][row][edited] = digit as u8;
     let changed = rows::renew(&mut sum[edited..][..digits.len()], digits);
     Ok([changed, reach])
 }
 
-/// The value of a row.
-pub fn value(file: &[u8], row: &[u8]) -> Result<Element, Fault> {
-    let table = read::<false>(file)?;
-    rows::value(&table, row)
+/// The value of a row, with the parts above the degree zero.
+pub fn value(file: &[u8], row: &[u8]) -> Result<[i64; 4], Fault> {
+    by_degree!(file, value_at(row))
+}
+
+fn value_at<D: Degree>(file: &[u8], row: &[u8]) -> Result<[i64; 4], Fault> {
+    let table = read::<D, false>(file)?;
+    let value = rows::value(&table, row)?;
+    let mut parts = [0; 4];
+    parts[..D::PARTS].copy_from_slice(value.as_ref());
+    Ok(parts)
 }
 
 fn author(number: u8, place: usize) -> Fault {

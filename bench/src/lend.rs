@@ -28,9 +28,10 @@ pub fn rows(parts: &Parts, accepted: bool, length: usize) -> Lent {
 /// The same for the value call: zeros but for the lowest digits, so that no part leaves 32 bits and every place is gone through.
 pub fn value_row(parts: &Parts, length: usize) -> Lent {
     let mut lent = rows(parts, true, length);
-    let [_, _, u, v] = parts.base.map(i64::from);
     // A base of small modulus can have more digits before 28.
-    let digits = if u.abs().max(v.abs()) <= 3 { 12 } else { 4 };
+    let beta = &parts.base[parts.degree()..];
+    let small = beta.iter().all(|part| part.abs() <= 3);
+    let digits = if small { 12 } else { 4 };
     lent.first
         .iter_mut()
         .skip(digits)

@@ -14,11 +14,23 @@ mod calls;
 mod codes;
 #[path = "../../differential/src/damage.rs"]
 mod damage;
+#[path = "../../differential/src/digit_damage.rs"]
+mod digit_damage;
+#[path = "../../differential/src/division.rs"]
+#[allow(dead_code)]
+mod division;
+#[path = "../../differential/src/draft.rs"]
+mod draft;
 mod fast;
 #[path = "../../differential/src/interface.rs"]
 #[allow(dead_code)]
 mod interface;
+#[path = "../../differential/src/leaf_damage.rs"]
+mod leaf_damage;
 mod lend;
+#[path = "../../differential/src/lifts.rs"]
+#[allow(dead_code)]
+mod lifts;
 #[path = "../../differential/src/model.rs"]
 mod model;
 #[path = "../../differential/src/random.rs"]
@@ -29,6 +41,9 @@ mod report;
 #[allow(dead_code)]
 mod search;
 mod subject;
+#[path = "../../differential/src/systems.rs"]
+#[allow(dead_code)]
+mod systems;
 mod tables;
 mod timing;
 

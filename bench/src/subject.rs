@@ -3,7 +3,7 @@
 use reference::{Fault, Group};
 
 use crate::fast::{self, Pairs};
-use crate::interface::{Call, Calls, Lent, ANSWER_WORDS, FACTS, FAULT, TOO_SHORT};
+use crate::interface::{Call, Calls, Lent, ANSWER_WORDS, FACTS, FAULT, PARTS, TOO_SHORT};
 
 /// The fast form, with one of its ways through the pairs of rule 14.
 pub struct Fast(pub Pairs);
@@ -31,7 +31,9 @@ impl Calls for Fast {
                 let edited = fast::edit(table, [first, second], sum, [row, place, digit]);
                 store(answer, edited, words)
             }
-            Call::Value => store(answer, fast::value(table, first), |x| [x.a, x.b]),
+            Call::Value => store(answer, fast::value(table, first), |parts| {
+                std::array::from_fn::<i64, PARTS, _>(|part| parts[part])
+            }),
             Call::Run | Call::Midpoint { .. } | Call::Tern | Call::Bin => {
                 unreachable!("not a timed call")
             }

@@ -1,10 +1,14 @@
 //! The tables that are timed. Each is made from a fixed seed, so that every run has the same ones.
 
-use reference::{Base, Element, Parts};
+use std::ops::RangeInclusive;
+
+use reference::{Base, Element, Parts, DEGREES};
 
 use crate::codes;
+use crate::lifts;
 use crate::random::Random;
-use crate::search::{self, System};
+use crate::search;
+use crate::systems::{self, System};
 
 /// A table with a name for the report.
 pub struct Sample {
@@ -16,16 +20,23 @@ pub struct Sample {
     pub accepted: bool,
 }
 
-/// The tables of the main comparison.
+/// The tables of the main comparison; those of degree three and four where the calls take them.
 pub fn samples() -> Vec<Sample> {
     let accepted = |name: &str, parts| sample(name, parts, true);
-    vec![
+    let mut samples = vec![
         accepted("TERN", reference::carried::tern_parts()),
         accepted("middle", middle()),
         accepted("many inputs", many_inputs()),
         accepted("deep", deep()),
         sample("all inputs", all_inputs(), false),
-    ]
+    ];
+    if DEGREES.contains(&3) {
+        samples.push(accepted("degree three", degree_three()));
+    }
+    if DEGREES.contains(&4) {
+        samples.push(accepted("degree four", degree_four()));
+    }
+    samples
 }
 
 /// Finer codes of one table, for the growth with the leaves: of few inputs and of many.
@@ -80,7 +91,7 @@ fn fitting_pairs(parts: &Parts) -> usize {
 fn middle() -> Parts {
     let mut random = Random::new(1);
     loop {
-        let system = search::random_system(&mut random);
+        let system = systems::random_system(2, &mut random);
         let found = search::weights(&system, &mut random);
         if let Some(parts) = found.filter(|parts| (280..=320).contains(&parts.leaves.len())) {
             return parts;
@@ -95,17 +106,49 @@ fn many_inputs() -> Parts {
     parts
 }
 
+/// A base whose cube is a whole number, in terms of another ω, with nearly 4,000 leaves.
+fn degree_three() -> Parts {
+    let mut random = Random::new(1);
+    loop {
+        let found = search::cubic_tables(1, &mut random);
+        let mut moved = found
+            .iter()
+            .filter_map(|parts| lifts::moved(parts, &mut random));
+        if let Some(mut parts) = moved.find(uses_all_parts) {
+            refine(&mut parts, codes::MOST_LEAVES, 6);
+            return parts;
+        }
+    }
+}
+
+/// The middle table in a ring of degree four.
+fn degree_four() -> Parts {
+    let mut random = Random::new(1);
+    let middle = [middle()];
+    loop {
+        let found = lifts::tables(4, 1, &middle, &mut random);
+        if let Some(parts) = found.into_iter().find(uses_all_parts) {
+            return parts;
+        }
+    }
+}
+
+/// β isn't a whole number and some weight has no part zero.
+fn uses_all_parts(parts: &Parts) -> bool {
+    let beta = &parts.base[parts.degree()..];
+    let full = |weight: &Vec<i16>| weight.iter().all(|part| *part != 0);
+    beta[1..].iter().any(|part| *part != 0) && parts.leaves.iter().any(|(_, weight)| full(weight))
+}
+
 /// A table whose digits are a box around zero.
-fn boxed(base: [i64; 4], [wide, high]: [i64; 2], leaves: std::ops::RangeInclusive<usize>) -> Parts {
-    let [s, t, u, v] = base;
-    let column = |a| (-high..=high).map(move |b| Element::new(a, b));
-    let mut alphabet: Vec<Element> = (-wide..=wide).flat_map(column).collect();
-    alphabet.sort_by_key(|digit| *digit != Element::ZERO);
+fn boxed(base: [i16; 4], [wide, high]: [i64; 2], leaves: RangeInclusive<usize>) -> Parts {
+    let mut alphabet = systems::grid(wide, high, 2);
+    alphabet.sort_by_key(|digit| !digit.is_zero());
     let mut random = Random::new(1);
     loop {
         let system = System {
-            base: Base { s, t, u, v },
-            inputs: search::sums(&alphabet, &mut random),
+            base: Base::of(&base),
+            inputs: systems::sums(&alphabet, &mut random),
             alphabet: alphabet.clone(),
         };
         let found = search::weights(&system, &mut random);
@@ -142,22 +185,21 @@ fn deep() -> Parts {
 /// 136 inputs, as many as there can be, and nearly 4,000 leaves of weight zero.
 fn all_inputs() -> Parts {
     let mut random = Random::new(4);
-    let mut alphabet = vec![Element::ZERO];
+    let mut alphabet = vec![Element::zero(2)];
     while alphabet.len() < 16 {
-        let digit = Element::new(random.between(-64, 64), random.between(-64, 64));
+        let digit = Element::new([random.between(-64, 64), random.between(-64, 64)]);
         let mut longer = alphabet.clone();
         longer.push(digit);
         let pairs = longer.len() * (longer.len() + 1) / 2;
-        if search::sums(&longer, &mut random).len() == pairs {
+        if systems::sums(&longer, &mut random).len() == pairs {
             alphabet = longer;
         }
     }
-    let inputs = search::sums(&alphabet, &mut random);
-    let one_digit = |input| (vec![input as u8], Element::ZERO);
+    let inputs = systems::sums(&alphabet, &mut random);
+    let one_digit = |input| (vec![input as u8], Element::zero(2));
     let leaves = (0..inputs.len()).map(one_digit).collect();
-    let [s, t, u, v] = [0, -1, 3, 0];
     let system = System {
-        base: Base { s, t, u, v },
+        base: Base::of(&[0, -1, 3, 0]),
         alphabet,
         inputs,
     };

@@ -121,7 +121,9 @@ impl Calls for Library {
                 ),
                 Call::Run => run(lent),
                 Call::Value => yoyomyrtle_value(table, table_len, first, first_len, answer, words),
-                Call::Midpoint { x, y } => yoyomyrtle_midpoint(x.0, x.1, y.0, y.1, answer, words),
+                Call::Midpoint { x, y } => {
+                    yoyomyrtle_midpoint(x[0], x[1], y[0], y[1], answer, words)
+                }
                 Call::Tern => yoyomyrtle_tern(sum, sum_len),
                 Call::Bin => yoyomyrtle_bin(sum, sum_len),
             }

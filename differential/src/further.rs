@@ -4,7 +4,7 @@
 use std::collections::BTreeSet;
 
 use reference::file::{self, Contents};
-use reference::{Element, Operation};
+use reference::{Element, Operation, DEGREES};
 
 /// The digits of a file that passes 1 to 4.
 pub struct Digits {
@@ -18,10 +18,11 @@ impl Digits {
     pub fn of(file: &[u8]) -> Option<Self> {
         let Contents {
             alphabet, inputs, ..
-        } = file::read(file).ok()?;
-        let sums = |x: &Element| Operation::Sum.with_each(*x, &alphabet);
+        } = file::read(file, DEGREES).ok()?;
+        let of_digit = |x| Operation::Sum.with_each(x, &alphabet);
+        let sums = alphabet.iter().flat_map(of_digit).collect();
         Some(Digits {
-            sums: alphabet.iter().flat_map(sums).collect(),
+            sums,
             alphabet,
             inputs,
         })
@@ -55,9 +56,9 @@ impl Digits {
     /// The lowest record that the rule before job 2 refuses: not zero at 0, a repeat, or no sum.
     pub fn strict_offender(&self) -> Option<usize> {
         (0..self.inputs.len()).find(|record| {
-            let input = self.inputs[*record];
-            let first = *record == 0 && input != Element::ZERO;
-            first || self.inputs[..*record].contains(&input) || self.is_further(*record)
+            let input = &self.inputs[*record];
+            let first = *record == 0 && !input.is_zero();
+            first || self.inputs[..*record].contains(input) || self.is_further(*record)
         })
     }
 
@@ -66,7 +67,7 @@ impl Digits {
         let count = self.alphabet.len();
         let pairs = (0..count).flat_map(|i| (0..count).map(move |k| (i, k)));
         let unlisted = |(i, k): &(usize, usize)| {
-            let difference = self.alphabet[*i] - self.alphabet[*k];
+            let difference = &self.alphabet[*i] - &self.alphabet[*k];
             !self.inputs.contains(&difference)
         };
         pairs.filter(unlisted).collect()
@@ -74,7 +75,7 @@ impl Digits {
 
     /// Some difference of two alphabet digits is no sum, so that subtraction needs further digits.
     pub fn needs_further(&self) -> bool {
-        let differences = |x: &Element| Operation::Difference.with_each(*x, &self.alphabet);
+        let differences = |x| Operation::Difference.with_each(x, &self.alphabet);
         let mut all = self.alphabet.iter().flat_map(differences);
         all.any(|difference| !self.sums.contains(&difference))
     }

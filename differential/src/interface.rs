@@ -3,6 +3,12 @@
 /// The words that the answer array has at least; a call with fewer does nothing and returns `TOO_SHORT`.
 pub const ANSWER_WORDS: usize = 8;
 
+/// The parts of a public element, those above the degree zero: two as long as no other degree is known, four from job 8 on.
+pub const PARTS: usize = if reference::DEGREES.len() > 1 { 4 } else { 2 };
+
+/// An element that is passed by value. A call takes the first `PARTS` of its parts.
+pub type Passed = [i32; 4];
+
 /// What a call returns for facts.
 pub const FACTS: u64 = 0;
 /// What a call returns for a fault.
@@ -19,7 +25,7 @@ pub enum Call {
     Edit { row: u64, place: u64, digit: u64 },
     Run,
     Value,
-    Midpoint { x: (i32, i32), y: (i32, i32) },
+    Midpoint { x: Passed, y: Passed },
     Tern,
     Bin,
 }
@@ -37,6 +43,11 @@ impl Call {
             Call::Tern => "tern",
             Call::Bin => "bin",
         }
+    }
+
+    /// The call is lent a table.
+    pub fn takes_table(&self) -> bool {
+        !matches!(self, Call::Midpoint { .. } | Call::Tern | Call::Bin)
     }
 }
 

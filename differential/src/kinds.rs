@@ -1,7 +1,10 @@
 //! Kinds of cases that a refusal number alone doesn't tell apart: those of subtraction and of input digits beyond the sums (job 2),
-//! those of midpoints at the half (job 6), and those of the reach (job 7).
+//! those of midpoints at the half (job 6), those of the reach (job 7), and those of degree three and four (job 8).
 
+mod degrees;
 mod reach;
+
+use reference::DEGREES;
 
 use crate::further::{self, Digits};
 use crate::interface::{Call, Lent};
@@ -70,10 +73,50 @@ pub enum Kind {
     /// An edit that reaches further than it would in the rows before it, and one that reaches less far.
     ReachGained,
     ReachLost,
+    /// 3 for a section 0 between the lengths of two degrees.
+    BaseBetweenDegrees,
+    /// 3 for another section, where section 0 tells degree three or four.
+    RecordsOfOtherDegree,
+    /// 4 for a number of section 0 at degree four that the others allow; accepted at degree three with one that four doesn't allow.
+    OverTheLimitOfFour,
+    WideBaseOfThree,
+    /// Beyond degree two, past 4: numbers that rule 5 would refuse at degree two.
+    SquareBeyondTwo,
+    /// Beyond degree two: 6 by each determinant, and ±2 past it.
+    DeterminantMinusOne,
+    DeterminantZero,
+    DeterminantOne,
+    DeterminantTwo,
+    /// A table of degree three is accepted, and one of degree four; with a weight that has no part zero; with over 32,000 bytes of leaves.
+    ThreeAccepted,
+    FourAccepted,
+    AllPartsWeigh,
+    ManyLeavesBeyondTwo,
+    /// Calls beyond degree two that give facts, and 27.
+    AddedBeyondTwo,
+    SubtractedBeyondTwo,
+    EditedBeyondTwo,
+    RanBeyondTwo,
+    ValueBeyondTwo,
+    BadDigitBeyondTwo,
+    /// 28 where the first two parts fit, and a value with a higher part at the limit.
+    HighPartOver,
+    HighPartAtLimit,
+    /// A half in the third or fourth part of a midpoint.
+    HalfOfHighPart,
 }
 
 impl Kind {
-    pub const ALL: [Kind; 39] = [
+    /// The kinds that cases of today's degrees can meet.
+    pub fn wanted() -> Vec<Kind> {
+        let mut all = Kind::OF_TWO.to_vec();
+        if DEGREES.len() > 1 {
+            all.extend(Kind::BEYOND_TWO);
+        }
+        all
+    }
+
+    const OF_TWO: [Kind; 40] = [
         Kind::Subtracted,
         Kind::SubtractedByFurther,
         Kind::UnlistedFromZero,
@@ -113,12 +156,38 @@ impl Kind {
         Kind::LongerAboveEdit,
         Kind::ReachGained,
         Kind::ReachLost,
+        Kind::BaseBetweenDegrees,
+    ];
+
+    const BEYOND_TWO: [Kind; 21] = [
+        Kind::RecordsOfOtherDegree,
+        Kind::OverTheLimitOfFour,
+        Kind::WideBaseOfThree,
+        Kind::SquareBeyondTwo,
+        Kind::DeterminantMinusOne,
+        Kind::DeterminantZero,
+        Kind::DeterminantOne,
+        Kind::DeterminantTwo,
+        Kind::ThreeAccepted,
+        Kind::FourAccepted,
+        Kind::AllPartsWeigh,
+        Kind::ManyLeavesBeyondTwo,
+        Kind::AddedBeyondTwo,
+        Kind::SubtractedBeyondTwo,
+        Kind::EditedBeyondTwo,
+        Kind::RanBeyondTwo,
+        Kind::ValueBeyondTwo,
+        Kind::BadDigitBeyondTwo,
+        Kind::HighPartOver,
+        Kind::HighPartAtLimit,
+        Kind::HalfOfHighPart,
     ];
 }
 
 /// The kinds that a call met, from its outcome and the buffers that it was lent and left.
 pub fn met(call: &Call, outcome: Outcome, before: &Lent, lent: &Lent) -> Vec<Kind> {
     let mut kinds = of_digits(call, outcome, lent);
+    kinds.extend(holding(degrees::met(call, outcome, lent)));
     let reaches = matches!(call, Call::Add | Call::Subtract | Call::Edit { .. });
     if reaches && outcome == Outcome::Facts {
         kinds.extend(holding(reach::met(call, before, lent)));
@@ -129,7 +198,7 @@ pub fn met(call: &Call, outcome: Outcome, before: &Lent, lent: &Lent) -> Vec<Kin
 /// The kinds of subtraction, input digits and midpoints.
 fn of_digits(call: &Call, outcome: Outcome, lent: &Lent) -> Vec<Kind> {
     if let (Call::Midpoint { x, y }, Outcome::Facts) = (call, outcome) {
-        return holding(half(x.0, y.0));
+        return holding(half(x[0], y[0]));
     }
     let judged = match (call, outcome) {
         (Call::Subtract, Outcome::Facts | Outcome::Fault(27 | 42)) => true,

@@ -11,15 +11,22 @@ mod calls;
 mod cases;
 mod codes;
 mod damage;
+mod digit_damage;
+mod division;
+mod draft;
 mod further;
 mod interface;
 mod kinds;
+mod leaf_damage;
+mod lifts;
 mod looks;
 mod model;
 mod needles;
 mod pairs;
+mod pool;
 mod random;
 mod search;
+mod systems;
 mod tally;
 mod wrong;
 
@@ -27,8 +34,8 @@ use std::env;
 use std::process::ExitCode;
 use std::time::Instant;
 
-use cases::Pool;
 use interface::Calls;
+use pool::Pool;
 use random::Random;
 use tally::Comparison;
 
@@ -56,12 +63,13 @@ fn main() -> ExitCode {
         return ExitCode::from(2);
     };
     let pool = Pool::new(request.seed);
-    let (tables, bases, depths) = (pool.tables.len(), pool.bases(), pool.depths());
+    let (bases, depths) = (pool.bases(), pool.depths());
+    let [two, three, four] = pool.tables.degrees.each_ref().map(Vec::len);
     println!(
-        "seed {}; {tables} tables for {bases} bases, by depth 1 to 8: {depths:?}",
+        "seed {}; {two}, {three} and {four} tables of degree 2, 3 and 4 for {bases} bases, by depth 1 to 8: {depths:?}",
         request.seed
     );
-    let (single, itself) = (pool.single_pairs.len(), pool.self_pairs.len());
+    let (single, itself) = (pool.single_pairs.count(), pool.self_pairs.count());
     println!("tables with one refused pair: {single}, with a leaf and itself: {itself}");
     let good = match request.mode {
         Mode::Library => library_run(&pool, &request),

@@ -1,20 +1,32 @@
 //! The reference behind the C interface: what every call has to return and to leave in the lent buffers.
 
-use reference::{Answer, EditFacts, Group, RowFacts};
+use reference::by_table;
+use reference::table::{self, Reading};
+use reference::{Answer, EditFacts, Group, Operation, RowFacts};
 
-use crate::interface::{Call, Calls, Lent, ANSWER_WORDS, FACTS, FAULT, TOO_SHORT};
+use crate::interface::{Call, Calls, Lent, ANSWER_WORDS, FACTS, FAULT, PARTS, TOO_SHORT};
 
 /// The reference as an implementation of the interface.
 pub struct Model;
 
 impl Calls for Model {
     fn call(&self, call: &Call, lent: &mut Lent) -> u64 {
-        match call {
-            Call::Tern => write_carried(&reference::tern(), &mut lent.sum),
-            Call::Bin => write_carried(&reference::bin(), &mut lent.sum),
-            _ if lent.answer.len() < ANSWER_WORDS => TOO_SHORT,
-            _ => store(answer(call, lent), &mut lent.answer),
+        call_by(table::read, call, lent)
+    }
+}
+
+/// The same with another reader of tables.
+pub fn call_by(read: impl Fn(&[u8]) -> Reading, call: &Call, lent: &mut Lent) -> u64 {
+    match *call {
+        Call::Tern => write_carried(&reference::tern(), &mut lent.sum),
+        Call::Bin => write_carried(&reference::bin(), &mut lent.sum),
+        _ if lent.answer.len() < ANSWER_WORDS => TOO_SHORT,
+        Call::Midpoint { x, y } => {
+            let half = reference::midpoint(&x[..PARTS], &y[..PARTS]);
+            let parts = half.into_iter().map(i64::from).collect();
+            store(Answer::Facts(parts), &mut lent.answer)
         }
+        _ => store(answer(&read(&lent.table), call, lent), &mut lent.answer),
     }
 }
 
@@ -29,11 +41,10 @@ fn write_carried(table: &[u8], out: &mut [u8]) -> u64 {
     }
 }
 
-/// The reference's answer, its facts in document 01's order and the reach of job 7 behind them.
-fn answer(call: &Call, lent: &mut Lent) -> Answer<Vec<i64>> {
+/// The reference's answer to a call that is lent a table, its facts in document 01's order and the reach of job 7 behind them.
+fn answer(reading: &Reading, call: &Call, lent: &mut Lent) -> Answer<Vec<i64>> {
     let asked = lent.asked();
     let Lent {
-        table,
         first,
         second,
         sum,
@@ -45,18 +56,24 @@ fn answer(call: &Call, lent: &mut Lent) -> Answer<Vec<i64>> {
     let one = |number: usize| vec![number as i64];
     let of_rows = |RowFacts { written, reach }| vec![written as i64, reach as i64];
     let of_edit = |EditFacts { changed, reach }| vec![changed as i64, reach as i64];
+    let mut combine = |operation| {
+        facts(
+            by_table::combine(operation, reading, first, second, sum),
+            of_rows,
+        )
+    };
     match *call {
-        Call::Check => facts(reference::check(table), |f| {
+        Call::Check => facts(by_table::check(reading), |f| {
             vec![f.depth as i64, f.leaves as i64, f.digits as i64]
         }),
-        Call::Add => facts(reference::add(table, first, second, sum), of_rows),
-        Call::Subtract => facts(reference::subtract(table, first, second, sum), of_rows),
+        Call::Add => combine(Operation::Sum),
+        Call::Subtract => combine(Operation::Difference),
         Call::Edit { row, place, digit } => {
-            let edited = reference::edit(table, first, second, sum, row, place, digit);
+            let edited = by_table::edit(reading, first, second, sum, (row, place, digit));
             facts(edited, of_edit)
         }
         Call::Run => {
-            let ran = reference::run(table, first, second, sum, &asked);
+            let ran = by_table::run(reading, first, second, sum, &asked);
             facts(ran, |answers| {
                 for (k, answer) in answers.iter().enumerate() {
                     [whose[k], numbers[k], values[k]] = told(answer);
@@ -64,12 +81,12 @@ fn answer(call: &Call, lent: &mut Lent) -> Answer<Vec<i64>> {
                 one(answers.len())
             })
         }
-        Call::Value => facts(reference::value(table, first), |x| vec![x.a, x.b]),
-        Call::Midpoint { x, y } => {
-            let (a, b) = reference::midpoint(x, y);
-            Answer::Facts(vec![a.into(), b.into()])
-        }
-        Call::Tern | Call::Bin => Answer::Facts(Vec::new()),
+        Call::Value => facts(by_table::value(reading, first), |x| {
+            let mut parts = x.parts;
+            parts.resize(PARTS, 0);
+            parts
+        }),
+        Call::Midpoint { .. } | Call::Tern | Call::Bin => Answer::Facts(Vec::new()),
     }
 }
 

@@ -4,16 +4,16 @@
 use reference::{Element, Operation, Parts};
 
 use crate::codes::{self, depth, LONGEST_WORD};
+use crate::pool::Shelf;
 use crate::random::Random;
 
 /// So many leaves are enough here.
 const MOST_LEAVES: usize = 600;
 
-/// One of the tables that are at most two deep, with a branch of longer words in it: in half of them below zero, so that the leaf of
-/// zeros is longer than others or windows above the rows are.
-pub fn table(tables: &[Parts], random: &mut Random) -> Parts {
-    let shallow: Vec<&Parts> = tables.iter().filter(|parts| depth(parts) <= 2).collect();
-    let mut parts = shallow[random.below(shallow.len())].clone();
+/// One of some tables, the shallow ones, with a branch of longer words in it: in half of them below zero, so that the leaf of zeros is
+/// longer than others or windows above the rows are.
+pub fn table(shallow: &Shelf, random: &mut Random) -> Parts {
+    let mut parts = shallow.pick(random).clone();
     let mut at = match random.one_in(2) {
         true => 0,
         false => random.below(parts.leaves.len()),
@@ -62,12 +62,13 @@ struct Pairs(Vec<((u8, u8), u8)>);
 
 impl Pairs {
     fn of(parts: &Parts, operation: Operation) -> Self {
-        let element = |pair: &(i16, i16)| Element::new(pair.0.into(), pair.1.into());
-        let alphabet: Vec<Element> = parts.alphabet.iter().map(element).collect();
-        let inputs: Vec<Element> = parts.inputs.iter().map(element).collect();
+        let elements = |records: &[Vec<i16>]| -> Vec<Element> {
+            records.iter().map(|record| Element::of(record)).collect()
+        };
+        let (alphabet, inputs) = (elements(&parts.alphabet), elements(&parts.inputs));
         let mut pairs = Vec::new();
         for (x, digit) in alphabet.iter().enumerate() {
-            for (y, made) in operation.with_each(*digit, &alphabet).enumerate() {
+            for (y, made) in operation.with_each(digit, &alphabet).enumerate() {
                 let input = inputs.iter().position(|known| *known == made);
                 pairs.extend(input.map(|input| ((x as u8, y as u8), input as u8)));
             }

@@ -18,9 +18,11 @@ pub fn single(parts: &Parts, itself: bool, random: &mut Random) -> Option<Parts>
         if leaf == 0 {
             continue;
         }
-        let weight = &mut tried.leaves[leaf].1;
-        weight.0 += random.between(-2, 2) as i16;
-        weight.1 += random.pick(&[0, 0, 0, -1, 1]);
+        let (part, others) = tried.leaves[leaf].1.split_at_mut(1);
+        part[0] += random.between(-2, 2) as i16;
+        for part in others {
+            *part += random.pick(&[0, 0, 0, -1, 1]);
+        }
         match failing(&tried, leaf)[..] {
             [(upper, lower)] if !itself || upper == lower => return Some(tried),
             _ => (),
@@ -43,16 +45,36 @@ pub fn above_zeros(parts: &Parts, random: &mut Random) -> Parts {
         .collect();
     order.sort_by_key(zeros);
     for leaf in order {
-        let old = spread.leaves[leaf].1;
-        let new = (random.between(-1, 1) as i16, random.pick(&[0, 0, -1, 1]));
-        for weight in [new, (1, 0), (-1, 0), (0, 1), (0, -1), old] {
-            spread.leaves[leaf].1 = weight;
-            if weight == old || (weight != (0, 0) && failing(&spread, leaf).is_empty()) {
+        let old = spread.leaves[leaf].1.clone();
+        let mut weights = other_weights(parts, random);
+        weights.push(old.clone());
+        for weight in weights {
+            let zero = weight.iter().all(|part| *part == 0);
+            spread.leaves[leaf].1.clone_from(&weight);
+            if weight == old || (!zero && failing(&spread, leaf).is_empty()) {
                 break;
             }
         }
     }
     spread
+}
+
+/// Weights to be tried: a small one, then 1, ω and so on and their opposites, beyond degree two two of the table's own.
+fn other_weights(parts: &Parts, random: &mut Random) -> Vec<Vec<i16>> {
+    let degree = parts.degree();
+    let mut first: Vec<i16> = vec![random.between(-1, 1) as i16];
+    first.extend((1..degree).map(|_| random.pick(&[0, 0, -1, 1])));
+    let mut weights = vec![first];
+    for part in 0..degree {
+        for number in [1, -1] {
+            let mut weight = vec![0; degree];
+            weight[part] = number;
+            weights.push(weight);
+        }
+    }
+    let own = |_| parts.leaves[random.below(parts.leaves.len())].1.clone();
+    weights.extend((2..degree).map(own));
+    weights
 }
 
 fn leading_zeros(word: &[u8]) -> usize {
@@ -78,14 +100,19 @@ fn constant_leaf(parts: &mut Parts, random: &mut Random) -> usize {
 
 /// The pairs with this leaf, upper or lower, that give no alphabet digit.
 fn failing(parts: &Parts, leaf: usize) -> Vec<(usize, usize)> {
-    let [s, t, u, v] = parts.base.map(i64::from);
-    let base = Base { s, t, u, v };
+    let base = Base::of(&parts.base);
     let fails = |upper: usize, lower: usize| {
         let (high, low) = (&parts.leaves[upper], &parts.leaves[lower]);
         let fit = high.0[1..].iter().zip(&low.0).all(|(x, y)| x == y);
-        let first = element(parts.inputs[usize::from(high.0[0])]);
-        let digit = first + element(low.1) - base.times(element(high.1));
-        fit && !parts.alphabet.iter().any(|known| element(*known) == digit)
+        fit && {
+            let first = Element::of(&parts.inputs[usize::from(high.0[0])]);
+            let carried_up = base.times(&Element::of(&high.1));
+            let digit = &(&first + &Element::of(&low.1)) - &carried_up;
+            !parts
+                .alphabet
+                .iter()
+                .any(|known| Element::of(known) == digit)
+        }
     };
     let as_upper = (0..parts.leaves.len()).map(|other| (leaf, other));
     let as_lower = (0..parts.leaves.len()).map(|other| (other, leaf));
@@ -94,8 +121,4 @@ fn failing(parts: &Parts, leaf: usize) -> Vec<(usize, usize)> {
     pairs
         .filter(|(upper, lower)| fails(*upper, *lower))
         .collect()
-}
-
-fn element(pair: (i16, i16)) -> Element {
-    Element::new(pair.0.into(), pair.1.into())
 }

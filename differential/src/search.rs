@@ -5,250 +5,146 @@
 //! is an alphabet digit plus β times a weight of Q. Then the set is narrowed for each window, one digit deeper at a time: what a
 //! window may need is decided by what the window below it may send up. A window left with one weight is a leaf.
 
-use std::collections::{BTreeSet, HashMap};
+use std::collections::HashMap;
 
-use reference::{Base, Element, Operation, Parts};
+use reference::{by_table, table, Answer, Base, Element, Parts, ALL_DEGREES};
 
+use crate::division::{Dividend, Division};
 use crate::random::Random;
+use crate::systems::{self, System};
 
 const LARGEST_WEIGHT_SET: usize = 40;
 const LARGEST_CODE: usize = 4_000;
 const LONGEST_WORD: usize = 8;
-/// The most input records (rule 3), and the largest part of one (rule 4).
-const MOST_INPUTS: usize = 136;
-const LARGEST_INPUT: i64 = 128;
 
-/// A numeration system: a base and a digit set, zero first in both lists.
-pub struct System {
-    pub base: Base,
-    pub alphabet: Vec<Element>,
-    pub inputs: Vec<Element>,
-}
-
-/// Tables for many bases, found by trying random systems, with input digits beyond the sums if so wanted. Each is one that the
-/// reference accepts.
+/// Tables of degree two for many bases, found by trying random systems, with input digits beyond the sums if so wanted.
 pub fn tables(wanted: usize, further: bool, random: &mut Random) -> Vec<Parts> {
     let mut found: Vec<Parts> = Vec::new();
     let mut tries_left = 400 * wanted;
     while found.len() < wanted && tries_left > 0 {
         tries_left -= 1;
-        let mut system = random_system(random);
-        if further && !add_further(&mut system, random) {
+        let mut system = systems::random_system(2, random);
+        if further && !systems::add_further(&mut system, random) {
             continue;
         }
-        let of_base = found
-            .iter()
-            .filter(|parts| parts.base == base_numbers(&system.base))
-            .count();
-        if of_base < 2 {
+        let numbers = system.base.numbers();
+        let of_base = found.iter().filter(|parts| parts.base == numbers);
+        if of_base.count() < 2 {
             found.extend(weights(&system, random));
         }
     }
     found
 }
 
-/// A base that passes 5 and 6 with a digit set of a random shape.
-pub fn random_system(random: &mut Random) -> System {
-    let base = random_base(random);
-    let alphabet = random_alphabet(random);
-    let inputs = sums(&alphabet, random);
-    System {
-        base,
-        alphabet,
-        inputs,
-    }
-}
-
-fn random_base(random: &mut Random) -> Base {
-    let reach = random.pick(&[2, 3, 3, 4, 6]);
-    loop {
-        let base = Base {
-            s: random.between(-3, 3),
-            t: random.between(-reach, reach),
-            u: random.between(-reach, reach),
-            v: random.between(-2, 2),
+/// Tables of degree three that come from no smaller ring: the base's cube is 3 or 4 or their opposite, so that a weight holds what goes
+/// three places up, two and one. Of other such bases a random search finds next to none.
+pub fn cubic_tables(wanted: usize, random: &mut Random) -> Vec<Parts> {
+    let mut found: Vec<Parts> = Vec::new();
+    let mut tries_left = 20 * wanted;
+    while found.len() < wanted && tries_left > 0 {
+        tries_left -= 1;
+        let cube = random.pick(&[-4, -3, -3, 3, 3, 4]);
+        let digits = i64::from(i16::abs(cube)) + 2;
+        let lowest = random.between(1 - digits, 0);
+        let alphabet = systems::whole_numbers(lowest, lowest + digits - 1, 3);
+        let system = System {
+            base: Base::of(&[0, 0, cube, 0, 1, 0]),
+            inputs: systems::sums(&alphabet, random),
+            alphabet,
         };
-        let (_, norm) = base.trace_and_norm();
-        if !base.splits() && base.expanding() && norm.abs() <= 12 {
-            return base;
-        }
+        found.extend(weights(&system, random));
     }
-}
-
-/// Zero, then a run of whole numbers, a box or the smallest elements; 2 to 16 of them in random order.
-fn random_alphabet(random: &mut Random) -> Vec<Element> {
-    let mut rest: Vec<Element> = match random.below(4) {
-        0 => {
-            let reach = random.between(1, 7);
-            (-reach..=reach).map(|a| Element::new(a, 0)).collect()
-        }
-        1 => {
-            let (low, high) = (random.between(-7, 0), random.between(1, 8));
-            (low..=high).map(|a| Element::new(a, 0)).collect()
-        }
-        2 => {
-            let (wide, high) = random.pick(&[(1, 1), (2, 1), (1, 2)]);
-            grid(wide, high)
-        }
-        _ => {
-            let (p, q) = (random.between(1, 3), random.between(-1, 1));
-            let mut all = grid(4, 4);
-            all.sort_by_key(|e| (e.a * e.a * 2 + e.b * e.b * p + e.a * e.b * q, *e));
-            all.truncate(random.between(3, 16) as usize);
-            all
-        }
-    };
-    rest.retain(|digit| *digit != Element::ZERO);
-    random.shuffle(&mut rest);
-    rest.truncate(15);
-    rest.insert(0, Element::ZERO);
-    rest
-}
-
-fn grid(wide: i64, high: i64) -> Vec<Element> {
-    let column = |a| (-high..=high).map(move |b| Element::new(a, b));
-    (-wide..=wide).flat_map(column).collect()
-}
-
-/// The sums of two digits, each once, zero first and the others in random order.
-pub fn sums(alphabet: &[Element], random: &mut Random) -> Vec<Element> {
-    let pairs = alphabet
-        .iter()
-        .flat_map(|x| alphabet.iter().map(move |y| *x + *y));
-    let mut set: BTreeSet<Element> = pairs.collect();
-    set.remove(&Element::ZERO);
-    let mut list: Vec<Element> = set.into_iter().collect();
-    random.shuffle(&mut list);
-    list.insert(0, Element::ZERO);
-    list
-}
-
-/// Input digits beyond the sums, which rule 8 lets stand anywhere behind record 0: the differences that are missing, so that no pair
-/// gets 42, or some of them, or small elements, seldom as many as there may be. True if there are any.
-pub fn add_further(system: &mut System, random: &mut Random) -> bool {
-    let sums = system.inputs.len();
-    let mut further = further_digits(&system.alphabet, random);
-    further.retain(|digit| !system.inputs.contains(digit));
-    system.inputs.extend(further);
-    system.inputs.truncate(MOST_INPUTS);
-    if !random.one_in(4) {
-        random.shuffle(&mut system.inputs[1..]);
-    }
-    system.inputs.len() > sums
-}
-
-/// Elements to choose further digits from, each once, in random order.
-fn further_digits(alphabet: &[Element], random: &mut Random) -> Vec<Element> {
-    let differences = || -> BTreeSet<Element> {
-        let of_digit = |x: &Element| Operation::Difference.with_each(*x, alphabet);
-        alphabet.iter().flat_map(of_digit).collect()
-    };
-    let few = 1 + random.below(6);
-    let (choices, most): (Vec<Element>, usize) = match random.below(16) {
-        0..=6 => (differences().into_iter().collect(), MOST_INPUTS),
-        7..=9 => (differences().into_iter().collect(), few),
-        10..=14 => (grid(8, 2), few),
-        _ => (grid(LARGEST_INPUT, 1), MOST_INPUTS),
-    };
-    let mut choices = choices;
-    random.shuffle(&mut choices);
-    choices.truncate(most);
-    choices
+    found
 }
 
 /// A table of the system, if the search finds one that the reference accepts.
 pub fn weights(system: &System, random: &mut Random) -> Option<Parts> {
-    let set = weight_set(system, random)?;
-    let leaves = narrow(system, set, random)?;
-    let parts = parts(system, leaves);
-    matches!(
-        reference::check(&parts.write()),
-        reference::Answer::Facts(_)
-    )
-    .then_some(parts)
+    let weights = Weights::of(system, random)?;
+    let parts = parts(system, narrow(&weights, random)?);
+    is_accepted(&parts).then_some(parts)
 }
 
-/// The set Q, grown until it is closed; none where it grows too large or a class of digits is missing.
-fn weight_set(system: &System, random: &mut Random) -> Option<Vec<Element>> {
-    let mut set = vec![Element::ZERO];
-    let mut next = 0;
-    while next < set.len() {
-        for input in &system.inputs {
-            let target = *input + set[next];
-            let mut senders = quotients(system, target);
-            if senders.iter().any(|weight| set.contains(weight)) {
-                continue;
+/// The check accepts the table, once the reference takes its degree.
+pub fn is_accepted(parts: &Parts) -> bool {
+    let reading = table::read_by(&parts.write(), ALL_DEGREES);
+    matches!(by_table::check(&reading), Answer::Facts(_))
+}
+
+/// Some of the weights of Q, a bit for each.
+type Set = u64;
+
+/// Some of them by their numbers, in order of choice.
+type Numbers = Vec<usize>;
+
+/// The set Q, zero first.
+struct Weights {
+    list: Vec<Element>,
+    /// For each input digit and each weight that is sent up to it: the weights that bring their sum into the alphabet.
+    serving: Vec<Vec<Set>>,
+}
+
+impl Weights {
+    /// Q is grown until it is closed; none where it grows too large or a class of digits is missing.
+    fn of(system: &System, random: &mut Random) -> Option<Self> {
+        let division = Division::by(&system.base);
+        let digits = system.alphabet.iter().map(|digit| division.dividend(digit));
+        let digits: Vec<Dividend> = digits.collect();
+        let senders = |target: &Element| -> Vec<Element> {
+            let target = division.dividend(target);
+            let divided = |digit| division.quotient(&target, digit);
+            digits.iter().filter_map(divided).collect()
+        };
+        let mut list = vec![system.alphabet[0].clone()];
+        let mut next = 0;
+        while next < list.len() {
+            for input in &system.inputs {
+                let mut senders = senders(&(input + &list[next]));
+                if senders.iter().any(|weight| list.contains(weight)) {
+                    continue;
+                }
+                random.shuffle(&mut senders);
+                let size = |e: &Element| -> i64 { e.parts.iter().map(|part| part * part).sum() };
+                list.push(senders.into_iter().min_by_key(size)?);
+                if list.len() > LARGEST_WEIGHT_SET {
+                    return None;
+                }
             }
-            random.shuffle(&mut senders);
-            set.push(senders.into_iter().min_by_key(|e| e.a * e.a + e.b * e.b)?);
-            if set.len() > LARGEST_WEIGHT_SET {
-                return None;
-            }
+            next += 1;
         }
-        next += 1;
+        let set = |input: &Element, weight: &Element| {
+            let known = |sender| list.iter().position(|known| *known == sender);
+            let numbers = senders(&(input + weight)).into_iter().filter_map(known);
+            numbers.fold(0, |set, number| set | 1 << number)
+        };
+        let serving = |input| list.iter().map(|weight| set(input, weight)).collect();
+        let serving = system.inputs.iter().map(serving).collect();
+        Some(Weights { list, serving })
     }
-    Some(set)
 }
 
-/// Every weight q with target − β·q in the alphabet.
-fn quotients(system: &System, target: Element) -> Vec<Element> {
-    let divided = |digit: &Element| divide(&system.base, target - *digit);
-    system.alphabet.iter().filter_map(divided).collect()
-}
-
-/// The quotient by β, where there is one: times the conjugate of β, divided by the norm.
-fn divide(base: &Base, element: Element) -> Option<Element> {
-    let conjugate = Element::new(base.u + base.s * base.v, -base.v);
-    let (_, norm) = base.trace_and_norm();
-    let product = base.product(element, conjugate);
-    let whole = product.a % norm == 0 && product.b % norm == 0;
-    whole.then(|| Element::new(product.a / norm, product.b / norm))
-}
-
-/// A row of the table's digits with this value, found from place 0 up by taking the digit that leaves the least; none where that
-/// doesn't end within a row's length.
-pub fn represent(parts: &Parts, element: Element) -> Option<Vec<u8>> {
-    let [s, t, u, v] = parts.base.map(i64::from);
-    let base = Base { s, t, u, v };
-    let mut left = element;
-    let mut row = Vec::new();
-    while left != Element::ZERO && row.len() < 256 {
-        let after =
-            |(a, b): &(i16, i16)| divide(&base, left - Element::new((*a).into(), (*b).into()));
-        let choices = parts.alphabet.iter().enumerate();
-        let divided = choices.filter_map(|(index, digit)| Some((after(digit)?, index)));
-        let (quotient, index) = divided.min_by_key(|(q, _)| q.a.abs() + q.b.abs())?;
-        row.push(index as u8);
-        left = quotient;
-    }
-    (left == Element::ZERO).then_some(row)
-}
-
-/// What is known of each window so far; the empty window has the whole set.
-type Sets = HashMap<Vec<u8>, Vec<Element>>;
+/// What is known of each window so far; the empty window has all of Q.
+type Sets = HashMap<Vec<u8>, Numbers>;
 
 /// Narrows the set of each window until one weight is left; none where a window of eight keeps more, or there are too many.
-fn narrow(
-    system: &System,
-    set: Vec<Element>,
-    random: &mut Random,
-) -> Option<Vec<(Vec<u8>, Element)>> {
-    let mut sets: Sets = HashMap::from([(Vec::new(), set)]);
+fn narrow(weights: &Weights, random: &mut Random) -> Option<Vec<(Vec<u8>, Element)>> {
+    let inputs = weights.serving.len();
+    let all = (0..weights.list.len()).collect();
+    let mut sets: Sets = HashMap::from([(Vec::new(), all)]);
     let mut open: Vec<Vec<u8>> = vec![Vec::new()];
     let mut leaves = Vec::new();
     for _ in 0..LONGEST_WORD {
         let mut still_open = Vec::new();
         for window in open {
-            for input in 0..system.inputs.len() {
+            for input in 0..inputs {
                 let mut word = window.clone();
                 word.push(input as u8);
-                let left = needed(system, &sets, &word, random);
+                let left = needed(weights, &sets, &word, random);
                 match left[..] {
-                    [weight] => leaves.push((word.clone(), weight)),
+                    [weight] => leaves.push((word.clone(), weights.list[weight].clone())),
                     _ => still_open.push(word.clone()),
                 }
                 sets.insert(word, left);
-                if leaves.len() + still_open.len() * system.inputs.len() > LARGEST_CODE {
+                if leaves.len() + still_open.len() * inputs > LARGEST_CODE {
                     return None;
                 }
             }
@@ -260,58 +156,47 @@ fn narrow(
 }
 
 /// The weights that a window keeps: enough of its parent's to serve whatever the window below may send up.
-fn needed(system: &System, sets: &Sets, word: &[u8], random: &mut Random) -> Vec<Element> {
-    let (first, below) = (system.inputs[usize::from(word[0])], &word[1..]);
-    let known = (0..=below.len())
-        .rev()
-        .find_map(|length| sets.get(&below[..length]));
-    let unserved = known.into_iter().flatten();
-    let unserved = unserved.map(|weight| first + *weight).collect();
+fn needed(weights: &Weights, sets: &Sets, word: &[u8], random: &mut Random) -> Numbers {
+    let (first, below) = (usize::from(word[0]), &word[1..]);
+    let mut lengths = (0..=below.len()).rev();
+    let sent_up = lengths.find_map(|length| sets.get(&below[..length]));
+    let unserved = sent_up.into_iter().flatten();
+    let unserved = unserved.map(|number| weights.serving[first][*number]);
     let mut candidates = sets[&word[..word.len() - 1]].clone();
     random.shuffle(&mut candidates);
     // Windows of zeros try the weight zero first, for rule 13.
     let zeros = word.iter().all(|index| *index == 0);
-    candidates.sort_by_key(|weight| zeros && *weight != Element::ZERO);
-    cover(system, unserved, candidates)
+    candidates.sort_by_key(|number| zeros && *number != 0);
+    cover(unserved.collect(), candidates)
 }
 
-/// Weights that bring each of the unserved elements into the alphabet, chosen greedily, the earlier candidate first.
-fn cover(
-    system: &System,
-    mut unserved: Vec<Element>,
-    mut candidates: Vec<Element>,
-) -> Vec<Element> {
-    let serves = |weight: &Element, target: &Element| {
-        let digit = *target - system.base.times(*weight);
-        system.alphabet.contains(&digit)
-    };
+/// Weights of which each unserved set has one, chosen greedily, the earlier candidate first.
+fn cover(mut unserved: Vec<Set>, mut candidates: Numbers) -> Numbers {
+    let serves = |number: usize, set: &Set| set >> number & 1 == 1;
     let mut kept = Vec::new();
     while !unserved.is_empty() {
-        let count = |weight: &&Element| unserved.iter().filter(|x| serves(weight, x)).count();
-        let Some(best) = candidates.iter().rev().max_by_key(count).copied() else {
+        let count = |at: &usize| {
+            let served = unserved.iter().filter(|set| serves(candidates[*at], set));
+            served.count()
+        };
+        let Some(best) = (0..candidates.len()).rev().max_by_key(count) else {
             break;
         };
-        unserved.retain(|target| !serves(&best, target));
-        candidates.retain(|weight| *weight != best);
-        kept.push(best);
+        let number = candidates.remove(best);
+        unserved.retain(|set| !serves(number, set));
+        kept.push(number);
     }
     kept
 }
 
-fn base_numbers(base: &Base) -> [i16; 4] {
-    [base.s, base.t, base.u, base.v].map(|number| number as i16)
-}
-
 /// The parts of a table file; all numbers are small here.
 pub fn parts(system: &System, leaves: Vec<(Vec<u8>, Element)>) -> Parts {
-    let pair = |element: &Element| (element.a as i16, element.b as i16);
+    let records = |elements: &[Element]| elements.iter().map(Element::record).collect();
+    let leaf = |(word, weight): (Vec<u8>, Element)| (word, weight.record());
     Parts {
-        base: base_numbers(&system.base),
-        alphabet: system.alphabet.iter().map(pair).collect(),
-        inputs: system.inputs.iter().map(pair).collect(),
-        leaves: leaves
-            .into_iter()
-            .map(|(word, weight)| (word, pair(&weight)))
-            .collect(),
+        base: system.base.numbers(),
+        alphabet: records(&system.alphabet),
+        inputs: records(&system.inputs),
+        leaves: leaves.into_iter().map(leaf).collect(),
     }
 }

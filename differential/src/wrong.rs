@@ -1,5 +1,6 @@
 //! Implementations with one mistake each, to see that the comparison finds it.
 
+mod degrees;
 mod midpoint;
 mod reach;
 mod subtraction;
@@ -8,7 +9,7 @@ use std::cell::Cell;
 
 use reference::Element;
 
-use crate::interface::{Call, Calls, Lent, FACTS, FAULT, TOO_SHORT};
+use crate::interface::{Call, Calls, Lent, FACTS, FAULT, PARTS, TOO_SHORT};
 use crate::model::Model;
 
 /// What is wrong with an implementation that is otherwise the reference.
@@ -54,6 +55,8 @@ pub enum Mistake {
     MidpointRounded(midpoint::Rounding),
     /// The midpoint's sums are taken in 32 bits.
     MidpointWraps,
+    /// A part of the midpoint is always zero.
+    MidpointDrops(usize),
     /// The answer's last word is written too.
     AnswerOverrun,
     /// A short answer array is filled as far as it reaches.
@@ -98,6 +101,8 @@ pub enum Mistake {
     /// The runner tells its addition's reach in word 2, or its edits' in the place of their counts.
     RunTellsReach,
     RunCountsReach,
+    /// Something is done wrong with files of one degree.
+    AtDegree(usize, degrees::Slip),
     /// The place of one refusal number is one too high in subtraction.
     SubtractPlaceOff(i64),
     /// The place of one refusal number is one too high.
@@ -140,6 +145,7 @@ pub fn mistakes() -> Vec<Mistake> {
     all.extend(midpoint::mistakes());
     all.extend(subtraction::mistakes());
     all.extend(reach::mistakes());
+    all.extend(degrees::mistakes());
     all.extend(NUMBERS.map(PlaceOff));
     all.extend(NUMBERS.map(NumberOff));
     all
@@ -162,6 +168,9 @@ impl Wrong {
 
 impl Calls for Wrong {
     fn call(&self, call: &Call, lent: &mut Lent) -> u64 {
+        if let Mistake::AtDegree(degree, slip) = self.mistake {
+            return degrees::call(degree, slip, call, lent);
+        }
         let before = lent.clone();
         let returned = Model.call(&self.asked(call), lent);
         match (call, returned) {
@@ -169,14 +178,13 @@ impl Calls for Wrong {
             (Call::Subtract, FACTS) => self.spoil_subtract(&before, lent),
             (Call::Edit { .. }, FACTS) => self.spoil_edit(call, &before, lent),
             (Call::Run, FACTS) => self.spoil_run(&before, lent),
-            (Call::Midpoint { x, y }, FACTS) => self.spoil_midpoint(*x, *y, lent),
+            (Call::Midpoint { x, y }, FACTS) => self.spoil_midpoint(x, y, lent),
             (_, FAULT) => self.spoil_fault(call, &before, lent),
             _ => (),
         }
         self.spoil_any(call, returned, lent);
         self.spoil_reach(call, returned, &before, lent);
-        let takes_table = !matches!(call, Call::Midpoint { .. } | Call::Tern | Call::Bin);
-        if takes_table && returned != TOO_SHORT {
+        if call.takes_table() && returned != TOO_SHORT {
             self.spoil_digits(call, &before, lent);
         }
         returned
@@ -281,13 +289,13 @@ impl Wrong {
             .first
             .iter()
             .rev()
-            .map(|index| table.alphabet[usize::from(*index)]);
-        let value = digits.fold(Element::ZERO, |total, digit| {
-            table.base.times(total) + digit
-        });
-        let fits = |part: i64| i32::try_from(part).is_ok();
-        if fits(value.a) && fits(value.b) {
-            lent.answer[..3].copy_from_slice(&[0, value.a, value.b]);
+            .map(|index| &table.alphabet[usize::from(*index)]);
+        let zero = Element::zero(table.base.degree());
+        let value = digits.fold(zero, |total, digit| &table.base.times(&total) + digit);
+        if value.parts.iter().all(|part| i32::try_from(*part).is_ok()) {
+            lent.answer[0] = 0;
+            lent.answer[1..=PARTS].fill(0);
+            lent.answer[1..][..value.parts.len()].copy_from_slice(&value.parts);
         }
     }
 

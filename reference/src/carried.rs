@@ -10,10 +10,10 @@ pub fn tern_parts() -> Parts {
     let leaf = |index: usize| {
         let input = TERN_INPUTS[index];
         let weight = if input.abs() >= 2 { input.signum() } else { 0 };
-        (vec![index as u8], (weight, 0))
+        (vec![index as u8], vec![weight, 0])
     };
     Parts {
-        base: [0, -1, 3, 0],
+        base: vec![0, -1, 3, 0],
         alphabet: rational(&[0, 1, 2, -1, -2]),
         inputs: rational(&TERN_INPUTS),
         leaves: (0..TERN_INPUTS.len()).map(leaf).collect(),
@@ -25,16 +25,16 @@ pub fn bin_parts() -> Parts {
     let mut leaves = Vec::new();
     for (index, input) in BIN_INPUTS.into_iter().enumerate() {
         if input.abs() != 1 {
-            leaves.push((vec![index as u8], (input / 2, 0)));
+            leaves.push((vec![index as u8], vec![input / 2, 0]));
             continue;
         }
         for (below, lower) in BIN_INPUTS.into_iter().enumerate() {
             let weight = if lower.signum() == input { input } else { 0 };
-            leaves.push((vec![index as u8, below as u8], (weight, 0)));
+            leaves.push((vec![index as u8, below as u8], vec![weight, 0]));
         }
     }
     Parts {
-        base: [0, -1, 2, 0],
+        base: vec![0, -1, 2, 0],
         alphabet: rational(&[0, 1, -1]),
         inputs: rational(&BIN_INPUTS),
         leaves,
@@ -52,6 +52,6 @@ pub fn bin() -> Vec<u8> {
 }
 
 /// Whole numbers as elements.
-fn rational(numbers: &[i16]) -> Vec<(i16, i16)> {
-    numbers.iter().map(|&a| (a, 0)).collect()
+fn rational(numbers: &[i16]) -> Vec<Vec<i16>> {
+    numbers.iter().map(|&a| vec![a, 0]).collect()
 }

@@ -1,7 +1,8 @@
 //! The table file ("Table file"): reading it by rules 1 to 4, and writing one.
 
 use crate::answer::{author, Fault};
-use crate::element::{Base, Element};
+use crate::element::Element;
+use crate::ring::Base;
 
 /// Bytes of the directory: five pairs of two 16-bit numbers.
 pub const DIRECTORY: usize = 20;
@@ -10,7 +11,7 @@ pub const DIRECTORY: usize = 20;
 pub const LONGEST_FILE: usize = 65_535;
 
 /// A leaf record as it stands in section 3.
-#[derive(Clone, Copy, Debug)]
+#[derive(Clone, Debug)]
 pub struct LeafRecord {
     pub offset: usize,
     pub length: usize,
@@ -18,7 +19,7 @@ pub struct LeafRecord {
 }
 
 /// The numbers of a file that passes 1 to 4; nothing is known yet of how they belong together.
-#[derive(Debug)]
+#[derive(Clone, Debug)]
 pub struct Contents {
     pub base: Base,
     pub alphabet: Vec<Element>,
@@ -27,75 +28,115 @@ pub struct Contents {
     pub words: Vec<u8>,
 }
 
-/// Rules 1 to 4.
-pub fn read(file: &[u8]) -> Result<Contents, Fault> {
+/// Rules 1 to 4, with the degrees that rule 3 is to let pass.
+pub fn read(file: &[u8], degrees: &[usize]) -> Result<Contents, Fault> {
+    let sections = read_sections(file)?;
+    let form = Form::of(&sections, degrees)?;
+    form.check_sizes(file, &sections)?;
+    Ok(form.contents(&sections))
+}
+
+/// The five sections of a file.
+pub type Sections<'a> = [&'a [u8]; 5];
+
+/// Rules 1 and 2: the sections as the directory has them.
+pub fn read_sections(file: &[u8]) -> Result<Sections<'_>, Fault> {
     let long_enough = (DIRECTORY..=LONGEST_FILE).contains(&file.len());
     author(long_enough, 1, 0)?;
-    let sections = read_directory(file)?;
-    for (number, section) in sections.iter().enumerate() {
-        author(length_allowed(number, section.len()), 3, number)?;
-    }
-    check_sizes(file, &sections)?;
-    let [base, alphabet, inputs, leaves, words] = sections;
-    Ok(Contents {
-        base: Base {
-            s: signed(base, 0),
-            t: signed(base, 2),
-            u: signed(base, 4),
-            v: signed(base, 6),
-        },
-        alphabet: alphabet.chunks(4).map(element).collect(),
-        inputs: inputs.chunks(4).map(element).collect(),
-        leaves: leaves.chunks(8).map(leaf_record).collect(),
-        words: words.to_vec(),
-    })
+    read_directory(file)
 }
 
 /// Rule 2: each pair begins where the one before ends, none passes the file, the last ends it. Sums are taken in whole numbers.
-fn read_directory(file: &[u8]) -> Result<[&[u8]; 5], Fault> {
-    let mut sections: [&[u8]; 5] = [&[]; 5];
+fn read_directory(file: &[u8]) -> Result<Sections<'_>, Fault> {
+    let mut sections: Sections = [&[]; 5];
     let mut previous_end = DIRECTORY;
-    for pair in 0..5 {
+    for (pair, section) in sections.iter_mut().enumerate() {
         let offset = unsigned(file, 4 * pair);
         let end = offset + unsigned(file, 4 * pair + 2);
         let follows = offset == previous_end;
         let inside = end <= file.len();
         let closes = pair < 4 || end == file.len();
         author(follows && inside && closes, 2, pair)?;
-        sections[pair] = &file[offset..end];
+        *section = &file[offset..end];
         previous_end = end;
     }
     Ok(sections)
 }
 
-/// Rule 3: whole records, and as many as the paper allows.
-fn length_allowed(section: usize, length: usize) -> bool {
-    let (record, counts) = match section {
-        0 => (8, 1..=1),
-        1 => (4, 2..=16),
-        2 => (4, 1..=136),
-        3 => (8, 1..=4_000),
-        _ => (1, 1..=32_000),
-    };
-    length % record == 0 && counts.contains(&(length / record))
+/// What the degree decides about a file.
+#[derive(Clone, Copy, Debug)]
+pub struct Form {
+    /// Bytes of an element in a record: two for each part.
+    pub element: usize,
+    /// The largest size of a number of section 0.
+    pub base_limit: i64,
 }
 
-/// Rule 4: every signed number within its limit, in file order. A leaf's offset and length have no limit here.
-fn check_sizes(file: &[u8], sections: &[&[u8]; 5]) -> Result<(), Fault> {
-    let mut start = DIRECTORY;
-    for (number, section) in sections.iter().enumerate() {
-        for at in (0..section.len().saturating_sub(1)).step_by(2) {
-            let limit = match (number, at % 8) {
-                (0 | 1, _) => 64,
-                (2, _) => 128,
-                (3, 4 | 6) => 1_024,
-                _ => continue,
-            };
-            author(signed(file, start + at).abs() <= limit, 4, start + at)?;
+impl Form {
+    pub fn of_degree(degree: usize) -> Self {
+        Form {
+            element: 2 * degree,
+            base_limit: if degree == 4 { 32 } else { 64 },
         }
-        start += section.len();
     }
-    Ok(())
+
+    /// Rule 3: section 0 tells the degree d by its 4d bytes, and the others are judged by it.
+    fn of(sections: &Sections, degrees: &[usize]) -> Result<Self, Fault> {
+        let degree = sections[0].len() / 4;
+        let told = sections[0].len() == 4 * degree && degrees.contains(&degree);
+        author(told, 3, 0)?;
+        let form = Form::of_degree(degree);
+        form.check_lengths(sections)?;
+        Ok(form)
+    }
+
+    /// Rule 3 in sections 1 to 4: whole records, and as many as the paper allows.
+    pub fn check_lengths(&self, sections: &Sections) -> Result<(), Fault> {
+        for (number, section) in sections.iter().enumerate().skip(1) {
+            let (record, counts) = match number {
+                1 => (self.element, 2..=16),
+                2 => (self.element, 1..=136),
+                3 => (4 + self.element, 1..=4_000),
+                _ => (1, 1..=32_000),
+            };
+            let records = section.len() / record;
+            let whole = section.len() == records * record;
+            author(whole && counts.contains(&records), 3, number)?;
+        }
+        Ok(())
+    }
+
+    /// Rule 4: every signed number within its limit, in file order. A leaf's offset and length have no limit here.
+    pub fn check_sizes(&self, file: &[u8], sections: &Sections) -> Result<(), Fault> {
+        let mut start = DIRECTORY;
+        for (number, section) in sections.iter().enumerate().take(4) {
+            for at in (0..section.len()).step_by(2) {
+                let limit = match number {
+                    0 => self.base_limit,
+                    1 => 64,
+                    2 => 128,
+                    _ if at % (4 + self.element) >= 4 => 1_024,
+                    _ => continue,
+                };
+                author(signed(file, start + at).abs() <= limit, 4, start + at)?;
+            }
+            start += section.len();
+        }
+        Ok(())
+    }
+
+    /// The numbers of sections that pass rule 3.
+    pub fn contents(&self, [base, alphabet, inputs, leaves, words]: &Sections) -> Contents {
+        let elements = |section: &[u8]| section.chunks(self.element).map(element).collect();
+        let leaves = leaves.chunks(4 + self.element).map(leaf_record);
+        Contents {
+            base: Base::of(&element(base).record()),
+            alphabet: elements(alphabet),
+            inputs: elements(inputs),
+            leaves: leaves.collect(),
+            words: words.to_vec(),
+        }
+    }
 }
 
 fn unsigned(bytes: &[u8], at: usize) -> usize {
@@ -107,7 +148,8 @@ fn signed(bytes: &[u8], at: usize) -> i64 {
 }
 
 fn element(record: &[u8]) -> Element {
-    Element::new(signed(record, 0), signed(record, 2))
+    let parts = (0..record.len()).step_by(2).map(|at| signed(record, at));
+    Element::new(parts.collect::<Vec<i64>>())
 }
 
 fn leaf_record(record: &[u8]) -> LeafRecord {
@@ -118,16 +160,22 @@ fn leaf_record(record: &[u8]) -> LeafRecord {
     }
 }
 
-/// The parts of a table, from which a file is written. Nothing is judged here, so that tests can write faulty files too.
+/// The parts of a table, from which a file is written. Nothing is judged here, so that tests can write faulty files too. Elements are
+/// their parts, lowest first.
 #[derive(Clone, Debug, PartialEq, Eq)]
 pub struct Parts {
-    pub base: [i16; 4],
-    pub alphabet: Vec<(i16, i16)>,
-    pub inputs: Vec<(i16, i16)>,
-    pub leaves: Vec<(Vec<u8>, (i16, i16))>,
+    /// The numbers of section 0: ω^d's parts, highest power first, then β's, lowest first.
+    pub base: Vec<i16>,
+    pub alphabet: Vec<Vec<i16>>,
+    pub inputs: Vec<Vec<i16>>,
+    pub leaves: Vec<(Vec<u8>, Vec<i16>)>,
 }
 
 impl Parts {
+    pub fn degree(&self) -> usize {
+        self.base.len() / 2
+    }
+
     /// The bodies of the five sections, the words one behind the other.
     pub fn sections(&self) -> [Vec<u8>; 5] {
         let mut records = Vec::new();
@@ -135,13 +183,13 @@ impl Parts {
         for (word, weight) in &self.leaves {
             records.extend(low_half(words.len()));
             records.extend(low_half(word.len()));
-            records.extend(pair_bytes(weight));
+            records.extend(number_bytes(weight));
             words.extend(word);
         }
         [
-            self.base.iter().flat_map(|x| x.to_le_bytes()).collect(),
-            self.alphabet.iter().flat_map(pair_bytes).collect(),
-            self.inputs.iter().flat_map(pair_bytes).collect(),
+            number_bytes(&self.base),
+            number_bytes(&self.alphabet.concat()),
+            number_bytes(&self.inputs.concat()),
             records,
             words,
         ]
@@ -171,6 +219,6 @@ fn low_half(number: usize) -> [u8; 2] {
     (number as u16).to_le_bytes()
 }
 
-fn pair_bytes(pair: &(i16, i16)) -> Vec<u8> {
-    [pair.0.to_le_bytes(), pair.1.to_le_bytes()].concat()
+fn number_bytes(numbers: &[i16]) -> Vec<u8> {
+    numbers.iter().flat_map(|x| x.to_le_bytes()).collect()
 }

@@ -1,23 +1,35 @@
 //! An independent implementation of document 01: the table check, addition, the digit edit, lists of edits, the value of a row and the midpoint;
-//! and of what jobs of document 02 add: subtraction, with input digits beyond the sums (job 2), and the reach (job 7).
+//! and of what jobs of document 02 add: subtraction, with input digits beyond the sums (job 2), the reach (job 7), and rings of degree three
+//! and four (job 8).
 //!
 //! It exists to be compared with the proved library, so it shares nothing with it. It was written from the papers alone, and where
 //! there was a choice it takes the way that is easiest to believe and not the fastest: words in a hash map, sums in a set, rule 12 by
-//! counting strings, rule 14 by trying every two leaves, each weight looked up from scratch, the reach by a search of its own.
+//! counting strings, rule 14 by trying every two leaves, each weight looked up from scratch, the reach by a search of its own, products as
+//! those of polynomials, determinants by elimination.
 #![forbid(unsafe_code)]
 
 pub mod answer;
+pub mod by_table;
 pub mod calls;
 pub mod carried;
+pub mod conversion;
 pub mod element;
 pub mod file;
 pub mod reach;
+pub mod ring;
 pub mod table;
 
+/// The degrees of the calls: rule 3 lets no others pass. All is written for every degree, so that job 8 needs nothing here but `ALL_DEGREES`.
+pub const DEGREES: &[usize] = &[2];
+
+/// The degrees of job 8.
+pub const ALL_DEGREES: &[usize] = &[2, 3, 4];
+
 pub use answer::{Answer, Fault, Group};
+pub use by_table::{Asked, EditFacts, RowFacts, TableFacts};
 pub use calls::{add, check, edit, look_up, midpoint, run, subtract, value};
-pub use calls::{Asked, EditFacts, RowFacts, TableFacts};
 pub use carried::{bin, tern};
-pub use element::{Base, Element, Operation};
+pub use element::{Element, Operation};
 pub use file::{assemble, Parts};
 pub use reach::{LeafFacts, Window};
+pub use ring::Base;

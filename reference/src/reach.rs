@@ -40,7 +40,7 @@ pub fn places_of_edit(table: &Table, place: usize) -> Range<i64> {
 
 /// w(0), w(1) and so on of two rows, as input indexes; rules 8 and 42 see to it that each has one.
 pub fn inputs(operation: Operation, table: &Table, first: &[u8], second: &[u8]) -> Vec<u8> {
-    let digit = |index: &u8| table.alphabet[usize::from(*index)];
+    let digit = |index: &u8| &table.alphabet[usize::from(*index)];
     let index = |(x, y)| {
         let input = operation.of(digit(x), digit(y));
         let record = table.inputs.iter().position(|known| *known == input);

@@ -3,8 +3,10 @@
 use std::collections::{BTreeSet, HashMap, HashSet};
 
 use crate::answer::{author, Fault};
-use crate::element::{Base, Element, Operation};
+use crate::element::{Element, Operation};
 use crate::file::{self, Contents, LeafRecord};
+use crate::ring::Base;
+use crate::DEGREES;
 
 /// The longest word, and the length of the strings that rule 12 speaks of.
 pub const LONGEST_WORD: usize = 8;
@@ -27,14 +29,27 @@ pub struct Table {
     pub depth: usize,
     index_of_digit: HashMap<Element, u8>,
     index_of_input: HashMap<Element, u8>,
-    weight_of_word: HashMap<Vec<u8>, Element>,
+    leaf_of_word: HashMap<Vec<u8>, usize>,
 }
 
+/// What the reader makes of a file.
+pub type Reading = Result<Table, Fault>;
+
 /// Rules 1 to 13.
-pub fn read(bytes: &[u8]) -> Result<Table, Fault> {
-    let contents = file::read(bytes)?;
+pub fn read(bytes: &[u8]) -> Reading {
+    read_by(bytes, DEGREES)
+}
+
+/// The same with the degrees that rule 3 is to let pass.
+pub fn read_by(bytes: &[u8], degrees: &[usize]) -> Reading {
+    let contents = file::read(bytes, degrees)?;
     author(!contents.base.splits(), 5, 0)?;
-    author(contents.base.expanding(), 6, 0)?;
+    author(contents.base.passes(), 6, 0)?;
+    judge(contents)
+}
+
+/// Rules 7 to 13.
+pub fn judge(contents: Contents) -> Reading {
     check_alphabet(&contents.alphabet)?;
     check_inputs(&contents.alphabet, &contents.inputs)?;
     check_places_of_words(&contents.leaves, contents.words.len())?;
@@ -46,16 +61,16 @@ pub fn read(bytes: &[u8]) -> Result<Table, Fault> {
     let leaves = cut_words(&contents);
     check_order(&leaves)?;
     author(is_complete(&leaves, contents.inputs.len()), 12, 0)?;
-    author(leaves[0].weight == Element::ZERO, 13, 0)?;
+    author(leaves[0].weight.is_zero(), 13, 0)?;
     Ok(build(contents, leaves))
 }
 
 /// Rule 7: zero first, then no digit twice; the place is the later of two equal records.
 fn check_alphabet(alphabet: &[Element]) -> Result<(), Fault> {
-    author(alphabet[0] == Element::ZERO, 7, 0)?;
+    author(alphabet[0].is_zero(), 7, 0)?;
     let mut seen = HashSet::new();
     for (record, digit) in alphabet.iter().enumerate() {
-        author(seen.insert(*digit), 7, record)?;
+        author(seen.insert(digit), 7, record)?;
     }
     Ok(())
 }
@@ -65,10 +80,10 @@ fn check_alphabet(alphabet: &[Element]) -> Result<(), Fault> {
 fn check_inputs(alphabet: &[Element], inputs: &[Element]) -> Result<(), Fault> {
     let mut seen = BTreeSet::new();
     for (record, input) in inputs.iter().enumerate() {
-        let starts_with_zero = record > 0 || *input == Element::ZERO;
-        author(starts_with_zero && seen.insert(*input), 8, record)?;
+        let starts_with_zero = record > 0 || input.is_zero();
+        author(starts_with_zero && seen.insert(input), 8, record)?;
     }
-    let of_digit = |x: &Element| Operation::Sum.with_each(*x, alphabet);
+    let of_digit = |x| Operation::Sum.with_each(x, alphabet);
     let mut sums = alphabet.iter().flat_map(of_digit);
     author(sums.all(|sum| seen.contains(&sum)), 8, inputs.len())
 }
@@ -95,7 +110,7 @@ fn check_places_of_words(leaves: &[LeafRecord], words: usize) -> Result<(), Faul
 fn cut_words(contents: &Contents) -> Vec<Leaf> {
     let cut = |leaf: &LeafRecord| Leaf {
         word: contents.words[leaf.offset..][..leaf.length].to_vec(),
-        weight: leaf.weight,
+        weight: leaf.weight.clone(),
     };
     contents.leaves.iter().map(cut).collect()
 }
@@ -129,9 +144,10 @@ fn build(contents: Contents, leaves: Vec<Leaf>) -> Table {
         alphabet: contents.alphabet,
         inputs: contents.inputs,
         depth: leaves.iter().map(|leaf| leaf.word.len()).max().unwrap_or(0),
-        weight_of_word: leaves
+        leaf_of_word: leaves
             .iter()
-            .map(|leaf| (leaf.word.clone(), leaf.weight))
+            .enumerate()
+            .map(|(number, leaf)| (leaf.word.clone(), number))
             .collect(),
         leaves,
     }
@@ -141,7 +157,7 @@ fn indexes(digits: &[Element]) -> HashMap<Element, u8> {
     digits
         .iter()
         .enumerate()
-        .map(|(index, digit)| (*digit, index as u8))
+        .map(|(index, digit)| (digit.clone(), index as u8))
         .collect()
 }
 
@@ -149,10 +165,10 @@ impl Table {
     /// Rule 14 by brute force: the lowest upper leaf that gives no alphabet digit with some lower leaf that fits it.
     pub fn check_pairs(&self) -> Result<(), Fault> {
         for (number, upper) in self.leaves.iter().enumerate() {
-            let carried_up = self.base.times(upper.weight);
-            let first = self.inputs[usize::from(upper.word[0])];
+            let carried_up = self.base.times(&upper.weight);
+            let left = &self.inputs[usize::from(upper.word[0])] - &carried_up;
             for lower in self.leaves.iter().filter(|lower| fit(upper, lower)) {
-                let digit = first + lower.weight - carried_up;
+                let digit = &left + &lower.weight;
                 author(self.index_of_digit.contains_key(&digit), 14, number)?;
             }
         }
@@ -163,7 +179,7 @@ impl Table {
     /// comes first by first and then second index; rows have no part in it.
     pub fn check_differences(&self) -> Result<(), Fault> {
         for (first, digit) in self.alphabet.iter().enumerate() {
-            let mut differences = Operation::Difference.with_each(*digit, &self.alphabet);
+            let mut differences = Operation::Difference.with_each(digit, &self.alphabet);
             let listed = differences.all(|input| self.index_of_input.contains_key(&input));
             author(listed, 42, first)?;
         }
@@ -171,19 +187,17 @@ impl Table {
     }
 
     /// The alphabet index of a digit, if it has one.
-    pub fn digit_index(&self, digit: Element) -> Option<u8> {
-        self.index_of_digit.get(&digit).copied()
+    pub fn digit_index(&self, digit: &Element) -> Option<u8> {
+        self.index_of_digit.get(digit).copied()
     }
 
     /// The weight of the one leaf whose word begins a window of eight input digits, found by trying every beginning of it.
-    pub fn weight(&self, window: &[Element; LONGEST_WORD]) -> Element {
-        let indexes: Vec<u8> = window
-            .iter()
-            .map(|input| self.index_of_input[input])
-            .collect();
-        let found =
-            (1..=LONGEST_WORD).find_map(|length| self.weight_of_word.get(&indexes[..length]));
-        *found.expect("rule 12: every string of eight begins with a leaf")
+    pub fn weight(&self, window: &[Element]) -> &Element {
+        let index = |input: &Element| self.index_of_input[input];
+        let indexes: Vec<u8> = window.iter().map(index).collect();
+        let found = (1..=LONGEST_WORD).find_map(|length| self.leaf_of_word.get(&indexes[..length]));
+        let leaf = found.expect("rule 12: every string of eight begins with a leaf");
+        &self.leaves[*leaf].weight
     }
 }
 

@@ -47,7 +47,7 @@ fn edit_of_the_marked_table() {
     let mut first = row(&TERN_DIGITS, &[2, 2]);
     let mut second = row(&TERN_DIGITS, &[1, 2]);
     let mut sum = row(&TERN_DIGITS, &[0, 2, 1]);
-    let answer = edit(&tern(), &mut first, &mut second, &mut sum, 0, 0, 4);
+    let answer = edit(&tern(), &mut first, &mut second, &mut sum, (0, 0, 4));
     let facts = EditFacts {
         changed: 2,
         reach: 1,

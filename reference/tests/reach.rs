@@ -30,7 +30,7 @@ fn reach_of_difference(table: &[u8], first: &[u8], second: &[u8]) -> usize {
 fn reach_of_edit(table: &[u8], first: &[u8], second: &[u8], place: u64, digit: u64) -> usize {
     let (mut first, mut second) = (first.to_vec(), second.to_vec());
     let mut sum = vec![77; first.len() + 8];
-    match edit(table, &mut first, &mut second, &mut sum, 0, place, digit) {
+    match edit(table, &mut first, &mut second, &mut sum, (0, place, digit)) {
         Answer::Facts(EditFacts { reach, .. }) => reach,
         Answer::Fault(fault) => panic!("{fault:?}"),
     }
@@ -42,8 +42,8 @@ fn longer_words(split: &[&[u8]]) -> Vec<u8> {
     for word in split {
         let at = parts.leaves.iter().position(|leaf| leaf.0 == *word);
         let at = at.expect("a leaf's word");
-        let weight = parts.leaves[at].1;
-        let extensions = (0..9).map(|below| ([word, &[below][..]].concat(), weight));
+        let weight = parts.leaves[at].1.clone();
+        let extensions = (0..9).map(|below| ([word, &[below][..]].concat(), weight.clone()));
         parts.leaves.splice(at..=at, extensions);
     }
     let file = parts.write();
@@ -238,7 +238,7 @@ fn the_other_facts_are_unaltered() {
         changed: 1,
         reach: 1,
     };
-    let answer = edit(&bin(), &mut first, &mut second, &mut sum, 1, 1, 1);
+    let answer = edit(&bin(), &mut first, &mut second, &mut sum, (1, 1, 1));
     assert_eq!(
         (answer, &sum[..]),
         (Answer::Facts(edited), &[0, 1, 1, 0, 99][..])
@@ -256,7 +256,7 @@ fn faults_come_first() {
     assert_eq!(answer, Answer::Fault(fault(Group::Rows, 23, 0)));
     let answer = subtract(&bin(), &[1], &[3], &mut [0; 3]);
     assert_eq!(answer, Answer::Fault(fault(Group::Rows, 22, 0)));
-    let answer = edit(&bin(), &mut [1], &mut [0], &mut [0; 3], 0, 1, 0);
+    let answer = edit(&bin(), &mut [1], &mut [0], &mut [0; 3], (0, 1, 0));
     assert_eq!(answer, Answer::Fault(fault(Group::Editor, 25, 0)));
 }
 

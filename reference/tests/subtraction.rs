@@ -53,13 +53,13 @@ fn differences_of_the_carried_tables() {
 
 /// Base 3 with one-digit words. Weights are 0, so that a digit passes where it is in the alphabet.
 fn plain(alphabet: &[i16], inputs: &[i16]) -> Parts {
-    let whole = |numbers: &[i16]| numbers.iter().map(|&a| (a, 0)).collect();
+    let whole = |numbers: &[i16]| numbers.iter().map(|&a| vec![a, 0]).collect();
     Parts {
-        base: [0, -1, 3, 0],
+        base: vec![0, -1, 3, 0],
         alphabet: whole(alphabet),
         inputs: whole(inputs),
         leaves: (0..inputs.len())
-            .map(|index| (vec![index as u8], (0, 0)))
+            .map(|index| (vec![index as u8], vec![0, 0]))
             .collect(),
     }
 }
@@ -87,8 +87,8 @@ fn rule_8_wants_every_sum_and_lets_others_pass() {
 #[test]
 fn a_further_digit_may_break_rule_14_only() {
     let mut parts = reference::carried::tern_parts();
-    parts.inputs.push((5, 0));
-    parts.leaves.push((vec![9], (2, 0)));
+    parts.inputs.push(vec![5, 0]);
+    parts.leaves.push((vec![9], vec![2, 0]));
     let file = parts.write();
     // 1 has the weight 0, and with 2 from below it leaves 3.
     assert_eq!(check(&file), refused(Group::Author, 14, 1));

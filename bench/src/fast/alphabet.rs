@@ -1,32 +1,33 @@
 //! The alphabet with a perfect hash from keys to indexes (rule 7).
 
-use super::layout::{element, key, Sections};
+use super::degree::{Degree, Key};
+use super::layout::Sections;
 
 const SLOTS: usize = 256;
 const MOST_DIGITS: usize = 16;
 
 /// The digits by index, and the index by digit.
-pub struct Alphabet {
+pub struct Alphabet<D: Degree> {
     pub count: usize,
-    keys: [u64; MOST_DIGITS],
+    keys: [D::Key; MOST_DIGITS],
     multiplier: u64,
     /// The only index that a key of this slot may have. An empty slot says 0, whose key isn't there either.
     slots: [u8; SLOTS],
 }
 
-impl Alphabet {
+impl<D: Degree> Alphabet<D> {
     /// The alphabet, if its record 0 is zero and none repeats.
-    pub fn of(sections: &Sections) -> Option<Alphabet> {
+    pub fn of(sections: &Sections<D>) -> Option<Alphabet<D>> {
         let mut alphabet = Alphabet {
             count: sections.alphabet.len(),
-            keys: [0; MOST_DIGITS],
+            keys: [D::Key::ZERO; MOST_DIGITS],
             multiplier: 0x9e37_79b9_7f4a_7c15,
             slots: [0; SLOTS],
         };
         for (slot, record) in alphabet.keys.iter_mut().zip(sections.alphabet) {
-            *slot = key(element(record));
+            *slot = D::key(D::element(record.as_ref()));
         }
-        if alphabet.keys[0] != 0 {
+        if alphabet.keys[0] != D::Key::ZERO {
             return None;
         }
         while let Some((x, y)) = alphabet.collision() {
@@ -53,12 +54,12 @@ impl Alphabet {
         None
     }
 
-    fn slot(&self, key: u64) -> usize {
-        (key.wrapping_mul(self.multiplier) >> 56) as usize
+    fn slot(&self, key: D::Key) -> usize {
+        (key.folded().wrapping_mul(self.multiplier) >> 56) as usize
     }
 
     /// The index of a digit given by its key.
-    pub fn index(&self, key: u64) -> Option<u8> {
+    pub fn index(&self, key: D::Key) -> Option<u8> {
         let index = self.slots[self.slot(key)];
         (self.keys[usize::from(index) % MOST_DIGITS] == key).then_some(index)
     }

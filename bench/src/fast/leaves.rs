@@ -1,16 +1,16 @@
 //! The leaves as an ordered complete prefix code (rules 4 and 9 to 13), and the search of a window.
 
-use super::layout::{element, unsigned, Sections};
+use super::degree::Degree;
+use super::layout::Sections;
 
 /// The most digits of a word.
 pub const LONGEST: usize = 8;
-const LEAF: usize = 8;
 /// The input digits that a byte can name, a few more than there can be.
 const MOST_INPUTS: usize = 256;
 
 /// The leaves of a table past 1 to 13.
-pub struct Code<'a> {
-    records: &'a [[u8; LEAF]],
+pub struct Code<'a, D: Degree> {
+    records: &'a [D::Leaf],
     before_words: &'a [u8],
     pub depth: usize,
     /// The words as numbers, if they were asked for.
@@ -39,22 +39,23 @@ struct Scan<'a> {
 }
 
 /// The code, if no rule of 4 and 9 to 13 is broken.
-pub fn code<'a, const KEYS: bool>(sections: &Sections<'a>) -> Option<Code<'a>> {
+pub fn code<'a, D: Degree, const KEYS: bool>(sections: &Sections<'a, D>) -> Option<Code<'a, D>> {
     let (records, words) = (sections.leaves, sections.words);
     let inputs = sections.inputs.len();
     let highest = words.iter().fold(0, |high, &index| high.max(index));
-    let leaf_0_is_zero = records[0][4..] == [0; 4];
-    if !numbers_hold(records.as_flattened()) || usize::from(highest) >= inputs || !leaf_0_is_zero {
+    let leaf_0_is_zero = records[0].as_ref()[2..].iter().all(|part| *part == [0; 2]);
+    let numbers_hold = D::leaf_numbers_hold(sections.leaf_bytes);
+    if !numbers_hold || usize::from(highest) >= inputs || !leaf_0_is_zero {
         return None;
     }
     let mut scan = Scan::new(sections.before_words, inputs as u64);
     let mut keys = Vec::new();
     if KEYS {
         keys.reserve_exact(records.len());
-        keys.extend(records.iter().map(|leaf| scan.step(leaf)));
+        keys.extend(records.iter().map(|leaf| scan.step(leaf.as_ref())));
     } else {
         for leaf in records {
-            scan.step(leaf);
+            scan.step(leaf.as_ref());
         }
     }
     let whole =
@@ -67,27 +68,27 @@ pub fn code<'a, const KEYS: bool>(sections: &Sections<'a>) -> Option<Code<'a>> {
     })
 }
 
-/// The numbers that are judged at a time: eight records.
-const BLOCK: usize = 32;
-/// What is added to the four numbers of a record so that the least one allowed becomes 0, and the most that is then allowed.
-const UP: [u16; BLOCK] = repeated([0, u16::MAX, 1_024, 1_024]);
-const MOST: [u16; BLOCK] = repeated([u16::MAX, 7, 2_048, 2_048]);
-
-const fn repeated(record: [u16; 4]) -> [u16; BLOCK] {
-    let mut block = [0; BLOCK];
+/// Numbers for a block of records of some length: one for a word's offset, one for its length, and one for each part of a weight.
+const fn repeated<const LEAF: usize, const BLOCK: usize>(numbers: [u16; 3]) -> [u16; BLOCK] {
+    let mut block = [numbers[2]; BLOCK];
     let mut at = 0;
     while at < BLOCK {
-        block[at] = record[at % 4];
-        at += 1;
+        block[at] = numbers[0];
+        block[at + 1] = numbers[1];
+        at += LEAF;
     }
     block
 }
 
-/// Rule 4 in section 3, and the lengths of rule 9: 1 to 8. The loop over a block becomes a few vector instructions.
-fn numbers_hold(records: &[u8]) -> bool {
+/// Rule 4 in section 3, and the lengths of rule 9: 1 to 8. A block of numbers, which is eight records, is judged at a time; the loop over it
+/// becomes a few vector instructions.
+pub fn numbers_hold<const LEAF: usize, const BLOCK: usize>(records: &[u8]) -> bool {
+    // What is added to each number so that the least one allowed becomes 0, and the most that is then allowed.
+    let up: [u16; BLOCK] = const { repeated::<LEAF, BLOCK>([0, u16::MAX, 1_024]) };
+    let most: [u16; BLOCK] = const { repeated::<LEAF, BLOCK>([u16::MAX, 7, 2_048]) };
     let excess = |number: &[u8; 2], at: usize| {
-        let up = u16::from_le_bytes(*number).wrapping_add(UP[at]);
-        up.saturating_sub(MOST[at])
+        let raised = u16::from_le_bytes(*number).wrapping_add(up[at]);
+        raised.saturating_sub(most[at])
     };
     let (blocks, rest) = records.as_chunks::<2>().0.as_chunks::<BLOCK>();
     let all_hold = blocks.iter().all(|block| {
@@ -120,9 +121,9 @@ impl<'a> Scan<'a> {
 
     /// One leaf: its word must start at the last one's end and be above it. The lengths were judged before.
     #[inline(always)]
-    fn step(&mut self, record: &[u8; LEAF]) -> u64 {
-        let record = u64::from_le_bytes(*record) as u32;
-        let (start, length) = (record % 65_536, record / 65_536 % 16);
+    fn step(&mut self, record: &[[u8; 2]]) -> u64 {
+        let [start, length] = [0, 1].map(|at| u32::from(u16::from_le_bytes(record[at])));
+        let length = length % 16;
         self.gaps |= start ^ self.end;
         self.end += length;
         let unit = self.lengths.units[length as usize];
@@ -145,23 +146,27 @@ fn word_before(before_words: &[u8], end: u32) -> u64 {
     bytes.map_or(0, |bytes| u64::from_be_bytes(*bytes))
 }
 
-impl Code<'_> {
+impl<D: Degree> Code<'_, D> {
     pub fn count(&self) -> usize {
         self.records.len()
     }
 
-    pub fn weight(&self, leaf: usize) -> [i64; 2] {
-        let [_, _, _, _, a0, a1, b0, b1] = self.records[leaf];
-        element(&[a0, a1, b0, b1])
+    pub fn weight(&self, leaf: usize) -> D::Parts {
+        D::element(&self.records[leaf].as_ref()[2..])
+    }
+
+    /// The first numbers of a leaf's record: a word's offset, then its length.
+    fn number(&self, leaf: usize, at: usize) -> usize {
+        u16::from_le_bytes(self.records[leaf].as_ref()[at]).into()
     }
 
     pub fn length(&self, leaf: usize) -> usize {
-        unsigned(&self.records[leaf], 2)
+        self.number(leaf, 1)
     }
 
     /// A leaf's word as a number, from the file.
     fn word(&self, leaf: usize) -> u64 {
-        let (start, length) = (unsigned(&self.records[leaf], 0), self.length(leaf));
+        let (start, length) = (self.number(leaf, 0), self.length(leaf));
         let word = word_before(self.before_words, (start + length) as u32);
         word.wrapping_shl(64 - 8 * length as u32)
     }

@@ -1,7 +1,7 @@
 //! Rule 14. The lower leaves that fit an upper one are a run of neighbours, and the runs of upper leaves with the same first digit
 //! follow one another, so both are walked side by side and nothing is searched.
 
-use super::layout::{element, key, key_times_base};
+use super::degree::{Degree, Key};
 use super::weights::Sets;
 use super::{Pairs, Table};
 
@@ -10,7 +10,7 @@ use super::{Pairs, Table};
 const FEW_LEAVES: usize = 20;
 
 /// The lowest upper leaf that gives no alphabet digit with some lower leaf that fits.
-pub fn first_bad_upper(table: &Table, pairs: Pairs) -> Option<usize> {
+pub fn first_bad_upper<D: Degree>(table: &Table<D>, pairs: Pairs) -> Option<usize> {
     if pairs == Pairs::Runs || table.code.count() <= FEW_LEAVES {
         return by_runs(table);
     }
@@ -22,24 +22,25 @@ pub fn first_bad_upper(table: &Table, pairs: Pairs) -> Option<usize> {
 
 /// What an upper leaf adds to a lower leaf's weight: its first digit minus β times its weight.
 #[inline(always)]
-pub fn offset(table: &Table, upper: usize) -> u64 {
+pub fn offset<D: Degree>(table: &Table<D>, upper: usize) -> D::Key {
     let first = (table.code.keys[upper] >> 56) as usize;
-    let carried_up = key_times_base(&table.sections.base, table.code.weight(upper));
-    key(element(&table.sections.inputs[first])).wrapping_sub(carried_up)
+    let carried_up = D::key_times_base(&table.sections.base, table.code.weight(upper));
+    let first = D::element(table.sections.inputs[first].as_ref());
+    D::key(first).minus(carried_up)
 }
 
 /// Pair by pair.
-fn by_runs(table: &Table) -> Option<usize> {
+fn by_runs<D: Degree>(table: &Table<D>) -> Option<usize> {
     let code = &table.code;
-    let weights: Vec<u64> = (0..code.count())
-        .map(|leaf| key(code.weight(leaf)))
+    let weights: Vec<D::Key> = (0..code.count())
+        .map(|leaf| D::key(code.weight(leaf)))
         .collect();
     // The first leaf of the run that fits the upper leaf.
     let mut lower = 0;
     for upper in 0..code.count() {
         let offset = offset(table, upper);
         let run = run(&code.keys, lower, tail_end(table, upper));
-        let good = |weight: &u64| table.alphabet.index(weight.wrapping_add(offset)).is_some();
+        let good = |weight: &D::Key| table.alphabet.index(weight.plus(offset)).is_some();
         if !weights[lower..run].iter().all(good) {
             return Some(upper);
         }
@@ -58,14 +59,14 @@ fn run(keys: &[u64], lower: usize, bound: Option<u64>) -> usize {
 }
 
 /// The number above the upper word without its first digit, and all that it begins; none if that is every string.
-fn tail_end(table: &Table, upper: usize) -> Option<u64> {
+fn tail_end<D: Degree>(table: &Table<D>, upper: usize) -> Option<u64> {
     let tail_length = table.code.length(upper) - 1;
     let unit = 1u64.checked_shl(64 - 8 * tail_length as u32)?;
     Some((table.code.keys[upper] << 8) + unit)
 }
 
 /// The first lower leaf of the next upper leaf: the last of this run where it reaches beyond this upper leaf.
-fn next_lower(table: &Table, upper: usize, last: usize) -> usize {
+fn next_lower<D: Degree>(table: &Table<D>, upper: usize, last: usize) -> usize {
     let Some(&next) = table.code.keys.get(upper + 1) else {
         return 0;
     };

@@ -1,8 +1,8 @@
 //! Rows of digits: rules 20 to 28, and conversion.
 
-use reference::{Element, Fault, Group};
+use reference::{Fault, Group};
 
-use super::layout::{element, key, key_times_base};
+use super::degree::{Degree, Key};
 use super::leaves::LONGEST;
 use super::sums::PairIndex;
 use super::{author, Table};
@@ -12,7 +12,12 @@ const LONGEST_ROW: usize = 256;
 pub const MOST_PLACES: usize = LONGEST_ROW + LONGEST;
 
 /// Rules 20 to 23.
-pub fn check(table: &Table, first: &[u8], second: &[u8], sum: usize) -> Result<(), Fault> {
+pub fn check<D: Degree>(
+    table: &Table<D>,
+    first: &[u8],
+    second: &[u8],
+    sum: usize,
+) -> Result<(), Fault> {
     if first.len() > LONGEST_ROW || first.len() != second.len() {
         return Err(of_rows(20, 0));
     }
@@ -63,8 +68,8 @@ pub fn input(index: &PairIndex, first: u8, second: u8) -> u8 {
 /// The digits of the sum from a place on and the longest word looked up for them, or 27. The row has the input indexes of these places, in
 /// front of them the eight below; the window moves up one of them at a time. The word looked up below place 0 doesn't count.
 #[inline(always)]
-pub fn convert<const PLACES: usize>(
-    table: &Table,
+pub fn convert<D: Degree, const PLACES: usize>(
+    table: &Table<D>,
     find: impl Fn(u64) -> usize,
     row: &[u8],
     from: usize,
@@ -74,7 +79,7 @@ pub fn convert<const PLACES: usize>(
     let (lower, row) = row.split_at(LONGEST);
     let mut window = lower.iter().fold(0, |window, index| moved(window, *index));
     let lowest = find(window);
-    let mut below = key(table.code.weight(lowest));
+    let mut below = D::key(table.code.weight(lowest));
     let mut reach = table.code.length(lowest) * usize::from(from > 0);
     let mut leaves = [0; PLACES];
     // All three cut to one length, so that no place has to be compared with it.
@@ -86,11 +91,11 @@ pub fn convert<const PLACES: usize>(
     }
     for at in 0..digits.len() {
         let own = table.code.weight(leaves[at].into());
-        let here = key(element(&table.sections.inputs[usize::from(row[at])]));
-        let carried_up = key_times_base(&table.sections.base, own);
-        let digit = here.wrapping_add(below).wrapping_sub(carried_up);
+        let here = D::element(table.sections.inputs[usize::from(row[at])].as_ref());
+        let carried_up = D::key_times_base(&table.sections.base, own);
+        let digit = D::key(here).plus(below).minus(carried_up);
         digits[at] = table.alphabet.index(digit).ok_or(author(27, from + at))?;
-        below = key(own);
+        below = D::key(own);
         reach = reach.max(table.code.length(leaves[at].into()));
     }
     Ok(reach)
@@ -104,22 +109,26 @@ pub fn renew(part: &mut [u8], digits: &[u8]) -> usize {
 }
 
 /// Rules 20, 21 and 28, and the value. Zeros at the top add nothing and are passed over.
-pub fn value(table: &Table, row: &[u8]) -> Result<Element, Fault> {
+pub fn value<D: Degree>(table: &Table<D>, row: &[u8]) -> Result<D::Parts, Fault> {
     if row.len() > LONGEST_ROW {
         return Err(of_rows(20, 0));
     }
     check_digits(row, table.alphabet.count, 21)?;
-    let [[u, v], [tv, usv]] = table.sections.base;
-    let limit = i64::from(i32::MAX);
-    let (mut a, mut b) = (0, 0);
+    let mut total = D::ZERO;
     for place in (0..significant(row)).rev() {
-        let digit = element(&table.sections.alphabet[usize::from(row[place])]);
-        (a, b) = (u * a + tv * b + digit[0], v * a + usv * b + digit[1]);
-        if a.abs() > limit || b.abs() > limit {
+        let mut next = D::element(table.sections.alphabet[usize::from(row[place])].as_ref());
+        for (power, part) in table.sections.base.as_ref().iter().zip(total.as_ref()) {
+            for (sum, of_power) in next.as_mut().iter_mut().zip(power.as_ref()) {
+                *sum += of_power * part;
+            }
+        }
+        total = next;
+        let over = |part: &i64| part.abs() > i64::from(i32::MAX);
+        if total.as_ref().iter().any(over) {
             return Err(of_rows(28, place));
         }
     }
-    Ok(Element::new(a, b))
+    Ok(total)
 }
 
 /// The length of a row without the zeros at its top, to within 16.

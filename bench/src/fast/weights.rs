@@ -1,7 +1,7 @@
 //! Rule 14 by sets of weights. Leaves have few different weights; below each node of the tree of words the set of them is a bit mask,
 //! and an upper leaf is judged against the whole run of its lower leaves at once.
 
-use super::layout::key;
+use super::degree::{Degree, Key};
 use super::pairs::offset;
 use super::Table;
 
@@ -12,28 +12,28 @@ const NODE: u16 = 4_096;
 const ROOT: u16 = NODE;
 
 /// The tree of words. Each node has a child for each input digit, the children of all nodes one after the other.
-pub struct Sets {
+pub struct Sets<D: Degree> {
     inputs: usize,
     children: Vec<u16>,
     /// For each child the weights of the leaves below it.
     below: Vec<u64>,
     /// For each leaf the number of its weight.
     weight_of: Vec<u8>,
-    weights: Weights,
+    weights: Weights<D>,
 }
 
 /// The different weights, numbered as they come up.
-struct Weights {
-    keys: [u64; MOST_WEIGHTS],
+struct Weights<D: Degree> {
+    keys: [D::Key; MOST_WEIGHTS],
     count: usize,
     /// A hash table of their numbers, each plus one.
     slots: [u8; SLOTS],
 }
 
-impl Weights {
+impl<D: Degree> Weights<D> {
     /// The number of a weight. Once there are too many, it says something and the count says so.
-    fn number(&mut self, key: u64) -> u8 {
-        let mut slot = (key.wrapping_mul(0x9e37_79b9_7f4a_7c15) >> 56) as usize;
+    fn number(&mut self, key: D::Key) -> u8 {
+        let mut slot = (key.folded().wrapping_mul(0x9e37_79b9_7f4a_7c15) >> 56) as usize;
         loop {
             let number = usize::from(self.slots[slot]);
             if number == 0 {
@@ -61,17 +61,17 @@ struct Open {
     below: u64,
 }
 
-impl Sets {
+impl<D: Degree> Sets<D> {
     /// The sets, if no more than 64 weights are different.
-    pub fn of(table: &Table) -> Option<Sets> {
+    pub fn of(table: &Table<D>) -> Option<Self> {
         let inputs = table.sections.inputs.len();
         let children = (table.code.count() - 1) / (inputs - 1) * inputs;
-        let mut weights = Weights {
-            keys: [0; MOST_WEIGHTS],
+        let mut weights = Weights::<D> {
+            keys: [D::Key::ZERO; MOST_WEIGHTS],
             count: 0,
             slots: [0; SLOTS],
         };
-        let number = |leaf| weights.number(key(table.code.weight(leaf)));
+        let number = |leaf| weights.number(D::key(table.code.weight(leaf)));
         let weight_of = (0..table.code.count()).map(number).collect();
         let mut sets = Sets {
             inputs,
@@ -88,7 +88,7 @@ impl Sets {
     }
 
     /// Builds the tree. In an ordered complete code the words' lengths say where every leaf goes.
-    fn grow(&mut self, table: &Table) {
+    fn grow(&mut self, table: &Table<D>) {
         let open = |node: usize| Open {
             next: node * self.inputs,
             lacking: self.inputs,
@@ -122,7 +122,7 @@ impl Sets {
     }
 
     /// The lowest upper leaf that fails.
-    pub fn first_bad_upper(&self, table: &Table) -> Option<usize> {
+    pub fn first_bad_upper(&self, table: &Table<D>) -> Option<usize> {
         let all = self.below[..self.inputs]
             .iter()
             .fold(0, |all, set| all | set);
@@ -139,7 +139,7 @@ impl Sets {
     /// Goes down from an upper node and a lower child side by side; a lower leaf stays, with its own set, for all below it.
     fn descend(
         &self,
-        table: &Table,
+        table: &Table<D>,
         upper: u16,
         lower: u16,
         set: u64,
@@ -168,7 +168,7 @@ impl Sets {
     #[inline(always)]
     fn judge(
         &self,
-        table: &Table,
+        table: &Table<D>,
         upper: u16,
         set: u64,
         good: &mut [u64; MOST_WEIGHTS],
@@ -185,11 +185,11 @@ impl Sets {
 
     /// Whether some weight of a set is bad with an upper leaf.
     #[inline(never)]
-    fn any_bad(&self, table: &Table, upper: usize, mut open: u64) -> bool {
+    fn any_bad(&self, table: &Table<D>, upper: usize, mut open: u64) -> bool {
         let offset = offset(table, upper);
         while open != 0 {
             let weight = self.weights.keys[open.trailing_zeros() as usize];
-            if table.alphabet.index(weight.wrapping_add(offset)).is_none() {
+            if table.alphabet.index(weight.plus(offset)).is_none() {
                 return true;
             }
             open &= open - 1;

@@ -1,7 +1,7 @@
 //! Mistakes in the midpoint: other rules for halves (job 6), and a sum that overflows.
 
 use super::{Mistake, Wrong};
-use crate::interface::Lent;
+use crate::interface::{Lent, Passed, PARTS};
 
 /// Where a half that isn't whole goes, other than to the even neighbour.
 #[derive(Clone, Copy, Debug, PartialEq, Eq)]
@@ -20,6 +20,7 @@ pub fn mistakes() -> Vec<Mistake> {
         .map(Mistake::MidpointRounded)
         .to_vec();
     all.push(Mistake::MidpointWraps);
+    all.extend((0..PARTS).map(Mistake::MidpointDrops));
     all
 }
 
@@ -39,18 +40,17 @@ impl Rounding {
 }
 
 impl Wrong {
-    pub(super) fn spoil_midpoint(&self, x: (i32, i32), y: (i32, i32), lent: &mut Lent) {
-        let pairs = [(x.0, y.0), (x.1, y.1)];
-        let parts = match self.mistake {
-            Mistake::MidpointRounded(rounding) => {
-                pairs.map(|(p, q)| rounding.half(i64::from(p) + i64::from(q)))
-            }
-            Mistake::MidpointWraps => pairs.map(|(p, q)| {
-                let (half, _) = reference::midpoint((p.wrapping_add(q), 0), (0, 0));
-                i64::from(half)
-            }),
-            _ => return,
-        };
-        lent.answer[1..3].copy_from_slice(&parts);
+    pub(super) fn spoil_midpoint(&self, x: &Passed, y: &Passed, lent: &mut Lent) {
+        for (part, (p, q)) in x.iter().zip(y).enumerate().take(PARTS) {
+            let half = match self.mistake {
+                Mistake::MidpointRounded(rounding) => rounding.half(i64::from(*p) + i64::from(*q)),
+                Mistake::MidpointWraps => {
+                    reference::midpoint(&[p.wrapping_add(*q)], &[0])[0].into()
+                }
+                Mistake::MidpointDrops(dropped) if dropped == part => 0,
+                _ => continue,
+            };
+            lent.answer[1 + part] = half;
+        }
     }
 }

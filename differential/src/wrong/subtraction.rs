@@ -1,6 +1,6 @@
 //! Mistakes in subtraction and in the rule of the input digits (job 2).
 
-use reference::calls::converted_row;
+use reference::conversion::converted_row;
 use reference::{Element, Operation};
 
 use super::{Mistake, Wrong};
@@ -106,7 +106,7 @@ impl Wrong {
         let Ok(table) = reference::table::read(&lent.table) else {
             return;
         };
-        let digit = |index: &u8| table.alphabet[usize::from(*index)];
+        let digit = |index: &u8| &table.alphabet[usize::from(*index)];
         let differences: Vec<Element> = lent
             .first
             .iter()

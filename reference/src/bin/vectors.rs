@@ -3,7 +3,7 @@
 
 use std::io::{self, Read, Write};
 
-use reference::{Answer, EditFacts, Element, LeafFacts, RowFacts};
+use reference::{Answer, EditFacts, LeafFacts, RowFacts};
 
 fn main() -> io::Result<()> {
     let mut bytes = Vec::new();
@@ -43,11 +43,17 @@ impl Reader<'_> {
         self.take().map(u64::from_le_bytes)
     }
 
-    /// The two parts of an element for the midpoint.
-    fn element(&mut self) -> Option<(i32, i32)> {
-        let a = i32::from_le_bytes(self.take()?);
-        let b = i32::from_le_bytes(self.take()?);
-        Some((a, b))
+    /// The degree of a midpoint: until job 8 it is two and isn't told.
+    fn degree(&mut self) -> Option<usize> {
+        let told = reference::DEGREES.len() > 1;
+        let degree = if told { self.take()? } else { [2] };
+        Some(usize::from(degree[0]))
+    }
+
+    /// The parts of an element for the midpoint.
+    fn element(&mut self, degree: usize) -> Option<Vec<i32>> {
+        let part = |_| self.take().map(i32::from_le_bytes);
+        (0..degree).map(part).collect()
     }
 }
 
@@ -60,14 +66,13 @@ fn next_line(run: &mut Reader) -> Option<String> {
         3 => edit_line(run),
         4 => {
             let (table, row) = (run.buffer()?, run.buffer()?);
-            Some(or_fault(
-                reference::value(&table, &row),
-                |Element { a, b }| format!("value {a} {b}"),
-            ))
+            let answer = reference::value(&table, &row);
+            Some(or_fault(answer, |x| format!("value {}", list(&x.parts))))
         }
         5 => {
-            let (a, b) = reference::midpoint(run.element()?, run.element()?);
-            Some(format!("midpoint {a} {b}"))
+            let degree = run.degree()?;
+            let (x, y) = (run.element(degree)?, run.element(degree)?);
+            Some(format!("midpoint {}", list(&reference::midpoint(&x, &y))))
         }
         6 => Some(format!("table {}", hexadecimal(&reference::tern()))),
         7 => Some(format!("table {}", hexadecimal(&reference::bin()))),
@@ -103,7 +108,8 @@ fn edit_line(run: &mut Reader) -> Option<String> {
     let (table, mut first, mut second) = (run.buffer()?, run.buffer()?, run.buffer()?);
     let mut sum = run.buffer()?;
     let (row, place, digit) = (run.number()?, run.number()?, run.number()?);
-    let answer = reference::edit(&table, &mut first, &mut second, &mut sum, row, place, digit);
+    let asked = (row, place, digit);
+    let answer = reference::edit(&table, &mut first, &mut second, &mut sum, asked);
     let head = or_fault(answer, |EditFacts { changed, reach }| {
         format!("changed {changed} reach {reach}")
     });
@@ -130,6 +136,12 @@ fn or_fault<F>(answer: Answer<F>, facts: impl FnOnce(F) -> String) -> String {
             )
         }
     }
+}
+
+/// Numbers with a space between them.
+fn list<N: ToString>(numbers: &[N]) -> String {
+    let words: Vec<String> = numbers.iter().map(N::to_string).collect();
+    words.join(" ")
 }
 
 /// Two small hexadecimal digits for each byte, `-` for none.
