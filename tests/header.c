@@ -160,8 +160,8 @@ static struct {
     void (*call)(void);
     size_t promised, most;
 } calls[] = {
-    {"check", check_call, 73000, 0},     {"add", add_call, 3500, 0},   {"subtract", subtract_call, 3500, 0},
-    {"edit", edit_call, 3500, 0},        {"run", run_call, 73000, 0},  {"value", value_call, 2200, 0},
+    {"check", check_call, 73500, 0},     {"add", add_call, 3500, 0},   {"subtract", subtract_call, 3500, 0},
+    {"edit", edit_call, 3500, 0},        {"run", run_call, 73500, 0},  {"value", value_call, 2200, 0},
     {"midpoint", midpoint_call, 100, 0}, {"tern", tern_call, 100, 0},  {"bin", bin_call, 100, 0},
 };
 
