@@ -17,10 +17,16 @@ const THREE: [usize; 5] = [6, 6, 6, 10, 1];
 
 const FOUR: [usize; 5] = [8, 8, 8, 12, 1];
 
-// The degree that the base section's length tells: two for every length, until job 8 is whole.
+// The degree that the base section's length tells; of a length that rule 3 refuses, two.
 pub fn degree_of(length: usize) -> Degree
     ensures { λ r. ⌜ r ≡ degreeOf length ⌝ }
 {
+    if length == 12 {
+        return Degree::Three;
+    }
+    if length == 16 {
+        return Degree::Four;
+    }
     Degree::Two
 }
 

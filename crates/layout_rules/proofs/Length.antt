@@ -1,7 +1,8 @@
 -- Laws of rule 3 for the functions that run it.
-use mathlib.Core.Path.{_≡_, refl, _∙_}
+use mathlib.Core.Path.{_≡_, refl, sym, ap, _∙_}
 use mathlib.Core.Bool.{Bool, false}
 use mathlib.Core.List.{List}
+use mathlib.Core.Logic.{_⊎_, inl, inr, _↔_}
 use Prim.Native.Nat.{ℕ, _*_, _%_, _<_, _≤_}
 use native.Mathlib.Omega.{arith}
 use lib.ListN.{getD}
@@ -10,13 +11,38 @@ use borrow.Author.Tests.{lt-leb, le-leb, eq-eqb, ne-eqb}
 use Rattle.lists.proofs.Each.{each}
 use Rattle.ring.specs.declared.Degree.{Degree}
 use Rattle.ring.specs.declared.Degree.the-variants.{Two, Three, Four}
+use Rattle.ring.specs.Degree.{partCount}
 use Rattle.layout_rules.specs.Section.{degreeOf, recordSize}
+use Rattle.layout_rules.specs.Broken.{Allowed}
 use Rattle.layout_rules.specs.Length.{leastRecords, mostRecords, lengthAllowed, sectionAllowed}
 
--- the degree by the length of section 0
-pub degree-two : (n : ℕ) → Two ≡ degreeOf n
+-- the degree by the length of section 0: the base section of 4d bytes tells d
+pub degree-told : (d : Degree) → degreeOf (4 * partCount d) ≡ d
 unfolding degreeOf
-degree-two n = refl
+degree-told Two = refl
+degree-told Three = refl
+degree-told Four = refl
+
+pub degree-other : (n : ℕ) → ¬ (n ≡ 12) → ¬ (n ≡ 16) → degreeOf n ≡ Two
+unfolding degreeOf
+degree-other n three four = rw (ne-eqb n 12 three, ne-eqb n 16 four, degreeOf)
+
+-- rule 3 at section 0: 8, 12 or 16 bytes
+pub base-lengths : (n : ℕ) → Allowed (degreeOf n) 0 n ↔ ((n ≡ 8) ⊎ (n ≡ 12) ⊎ (n ≡ 16))
+base-lengths n = (allowed (degreeOf n), told)
+  where
+    allowed : (d : Degree) → Allowed d 0 n → (n ≡ 8) ⊎ (n ≡ 12) ⊎ (n ≡ 16)
+    allowed Two is = inl is
+    allowed Three is = inr (inl is)
+    allowed Four is = inr (inr is)
+
+    of : (d : Degree) → n ≡ 4 * partCount d → Allowed (degreeOf n) 0 n
+    of d is = is ∙ ap (λ (e : Degree). 4 * partCount e) (sym (ap degreeOf is ∙ degree-told d))
+
+    told : (n ≡ 8) ⊎ (n ≡ 12) ⊎ (n ≡ 16) → Allowed (degreeOf n) 0 n
+    told (inl is) = of Two is
+    told (inr (inl is)) = of Three is
+    told (inr (inr is)) = of Four is
 
 -- a section judged by the degree as it was read
 pub section-judged : (lengths : List ℕ) (section : ℕ) (d : Degree) (found : Bool) → d ≡ degreeOf (getD lengths 0 0) → found ≡ lengthAllowed d section (getD lengths section 0) → found ≡ sectionAllowed lengths section

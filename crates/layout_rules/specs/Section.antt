@@ -1,16 +1,18 @@
 -- Document 01, "Table file": five sections, each given by a pair (offset, length) of the directory. Document 02, job 8: the degree.
+use mathlib.Core.Bool.{true, false}
 use mathlib.Core.List.{List, [], _∷_}
 use Prim.Native.Nat.{ℕ, _+_, _-_, _*_, _/_}
+use lib.Dec.{eqb}
 use lib.ListN.{length, getD, take, drop}
 use Rattle.lists.specs.Span.{span}
 use Rattle.ring.specs.declared.Degree.{Degree}
-use Rattle.ring.specs.declared.Degree.the-variants.{Two}
+use Rattle.ring.specs.declared.Degree.the-variants.{Two, Three, Four}
 use Rattle.ring.specs.Degree.{partCount}
 use Rattle.layout_rules.specs.Number.{unsignedAt}
 
--- the degree that the base section's length tells: two for every length, so that 3 refuses all but 8 bytes, until job 8 is whole
+-- "d from 2 to 4, told by the base section's length of 4d bytes"; of any other length two, by which 3 refuses section 0
 unfoldable pub degreeOf : ℕ → Degree
-degreeOf n = Two
+degreeOf n = elim (eqb n 12) [ true ↦ Three | false ↦ elim (eqb n 16) [ true ↦ Four | false ↦ Two ] ]
 
 -- the bytes of an element, and of a leaf: offset and length of its word, then its weight
 abbrev pub elementSize : Degree → ℕ
