@@ -39,11 +39,11 @@ use Rattle.table_rules.specs.Pairs.{inAlphabet, badLower, badUpper, pairCheck, 
 use Rattle.text_rules.specs.Bytes.{bytesOf}
 use Rattle.line_rules.specs.Line.{lineOf}
 use Rattle.line_rules.proofs.Lines.{lines}
-use Rattle.carried.specs.Tables.{unsigned16, signed16, joined, record4, leafRecords, directory, sections, fileOf, ternInputs, ternWeight, ternLeaves, ternFile, binInputs, binWeight2, binWeight1, binLeavesOf, binLeaves, binFile}
+use Rattle.carried.specs.Tables.{unsigned16, signed16, joined, recordOf, leafRecords, directory, sections, fileOf, ternInputs, ternWeight, ternLeaves, ternFile, binInputs, binWeight2, binWeight1, binLeavesOf, binLeaves, binFile}
 
 -- depth, leaves and alphabet digits of TERN and of BIN
 pub accepted : (checkOutcome ternFile ≡ facts (record { depth = 1; leaves = 9; digits = 5 })) × (checkOutcome binFile ≡ facts (record { depth = 2; leaves = 13; digits = 3 }))
-unfolding overwrite firstFailing every span baseTrace baseNorm expanding discriminant squareBelow perfectSquare plus negative minus scale timesOmega product unit same dot times columns matrixOf paddedRows corner paddedTimes paddedMatrix trace alternating without determinant judge _then_ inTurn unless sizeAllowed expectedStart pairAllowed directoryCheck lengthAllowed lengthCheck numberPlace numberCount numberAllowed limitCheckIn limitCheckOf limitCheck degreeOf unsignedAt toSigned omegaOf betaOf baseMatrix discriminantAllowed baseAllowed baseCheck recordAllowed alphabetCheck pairIndex pairListed pairsListed allPairsListed inputsAllowed inputCheck digitCheck padded partsAt elementAt indexIn agree lower largest begins leafOf depth precedes window outDigit weightInto weightAt convert convertRow elements tail fits pairDigitAt pairString pairRow pairDigit pairPasses upperPasses lowestBadUpper expectedWordStart leafAllowed placeCheck wordIndexCheck orderCheck coverCheck zeroCheck leafCheck runEnd everyRun covered wordGiven weightGiven layoutCheck digitCheckOf leafCheckOf tableCheck partFacts tableFacts readOutcome pairCheckOf checkFacts checkOutcome inAlphabet badLower badUpper pairCheck badPair unsigned16 signed16 joined record4 leafRecords directory sections fileOf ternInputs ternWeight ternLeaves ternFile binInputs binWeight2 binWeight1 binLeavesOf binLeaves binFile
+unfolding overwrite firstFailing every span baseTrace baseNorm expanding discriminant squareBelow perfectSquare plus negative minus scale timesOmega product unit same dot times columns matrixOf paddedRows corner paddedTimes paddedMatrix trace alternating without determinant judge _then_ inTurn unless sizeAllowed expectedStart pairAllowed directoryCheck lengthAllowed lengthCheck numberPlace numberCount numberAllowed limitCheckIn limitCheckOf limitCheck degreeOf unsignedAt toSigned omegaOf betaOf baseMatrix discriminantAllowed baseAllowed baseCheck recordAllowed alphabetCheck pairIndex pairListed pairsListed allPairsListed inputsAllowed inputCheck digitCheck padded partsAt elementAt indexIn agree lower largest begins leafOf depth precedes window outDigit weightInto weightAt convert convertRow elements tail fits pairDigitAt pairString pairRow pairDigit pairPasses upperPasses lowestBadUpper expectedWordStart leafAllowed placeCheck wordIndexCheck orderCheck coverCheck zeroCheck leafCheck runEnd everyRun covered wordGiven weightGiven layoutCheck digitCheckOf leafCheckOf tableCheck partFacts tableFacts readOutcome pairCheckOf checkFacts checkOutcome inAlphabet badLower badUpper pairCheck badPair unsigned16 signed16 joined recordOf leafRecords directory sections fileOf ternInputs ternWeight ternLeaves ternFile binInputs binWeight2 binWeight1 binLeavesOf binLeaves binFile
 accepted = (refl, refl)
 
 -- "For TERN the whole output is: accepted depth 1 leaves 9 digits 5"

@@ -10,10 +10,10 @@ use Rattle.ring.specs.Element.{negative}
 use Rattle.digit_rules.specs.Record.{partsAt, elementAt, recordAt}
 use Rattle.digit_rules.specs.Broken.{Listed, Symmetric}
 use Rattle.reader_rules.specs.Table.{alphabetPart}
-use Rattle.carried.specs.Tables.{unsigned16, signed16, joined, record4, leafRecords, directory, sections, fileOf, ternInputs, ternWeight, ternLeaves, ternFile, binInputs, binWeight2, binWeight1, binLeavesOf, binLeaves, binFile}
+use Rattle.carried.specs.Tables.{unsigned16, signed16, joined, recordOf, leafRecords, directory, sections, fileOf, ternInputs, ternWeight, ternLeaves, ternFile, binInputs, binWeight2, binWeight1, binLeavesOf, binLeaves, binFile}
 
 pub symmetric : Symmetric (alphabetPart ternFile) × Symmetric (alphabetPart binFile)
-unfolding span degreeOf unsignedAt toSigned negative padded partsAt elementAt unsigned16 signed16 joined record4 leafRecords directory sections fileOf ternInputs ternWeight ternLeaves ternFile binInputs binWeight2 binWeight1 binLeavesOf binLeaves binFile
+unfolding span degreeOf unsignedAt toSigned negative padded partsAt elementAt unsigned16 signed16 joined recordOf leafRecords directory sections fileOf ternInputs ternWeight ternLeaves ternFile binInputs binWeight2 binWeight1 binLeavesOf binLeaves binFile
 symmetric = (
   each (λ i. Listed (alphabetPart ternFile) (negative (recordAt (alphabetPart ternFile) i))) 5
       (((((tt, (0, lit< tt, refl)), (3, lit< tt, refl)), (4, lit< tt, refl)), (1, lit< tt, refl)), (2, lit< tt, refl)),

@@ -1,6 +1,6 @@
 -- Pinned by listed (proofs/Listed.antt; Contents.antt has what it says): a reader may skip this file. TERN and BIN as files, from
 -- document 01's words ("Table file", "Carried tables"). Their elements are whole numbers: the second
--- part is zero.
+-- part is zero. The making of a file serves tables of every degree (crate marked has some).
 use mathlib.Core.Bool.{cond, _||_}
 use mathlib.Core.List.{List, [], _∷_, _++_, map}
 use Prim.Native.Nat.{ℕ, _+_, _-_, _/_, _%_}
@@ -22,37 +22,45 @@ unfoldable pub joined : List (List ℕ) → List ℕ
 joined [] = []
 joined (x ∷ xs) = x ++ joined xs
 
--- a record (a, b) of a whole number
-unfoldable pub record4 : ℤ → List ℕ
-record4 a = signed16 a ++ signed16 (pos 0)
+-- a record of an element, its parts lowest power first
+unfoldable pub recordOf : List ℤ → List ℕ
+recordOf x = joined (map signed16 x)
 
 -- a leaf: its word of input indexes and its weight
 abbrev pub Leaf : Type 0
-Leaf = List ℕ × ℤ
+Leaf = List ℕ × List ℤ
 
 -- offset and length of each word, which follow one another, then the weight
 unfoldable pub leafRecords : ℕ → List Leaf → List ℕ
 leafRecords at [] = []
 leafRecords at (leaf ∷ rest) =
-    unsigned16 at ++ (unsigned16 (length (leaf .0)) ++ (record4 (leaf .1) ++ leafRecords (at + length (leaf .0)) rest))
+    unsigned16 at ++ (unsigned16 (length (leaf .0)) ++ (recordOf (leaf .1) ++ leafRecords (at + length (leaf .0)) rest))
 
 -- pairs (offset, length), each next offset the end of the pair before
 unfoldable pub directory : ℕ → List (List ℕ) → List ℕ
 directory at [] = []
 directory at (part ∷ parts) = unsigned16 at ++ (unsigned16 (length part) ++ directory (at + length part) parts)
 
--- s = 0, t = −1, u = β, v = 0; alphabet, input digits, leaves, words
-unfoldable pub sections : ℤ → List ℤ → List ℤ → List Leaf → List (List ℕ)
+-- the base section's numbers; alphabet, input digits, leaves, words: of any degree
+unfoldable pub sections : List ℤ → List (List ℤ) → List (List ℤ) → List Leaf → List (List ℕ)
 sections base alphabet inputs leaves =
-    joined (map signed16 (pos 0 ∷ negsuc 0 ∷ base ∷ pos 0 ∷ []))
-    ∷ joined (map record4 alphabet)
-    ∷ joined (map record4 inputs)
+    recordOf base
+    ∷ joined (map recordOf alphabet)
+    ∷ joined (map recordOf inputs)
     ∷ leafRecords 0 leaves
     ∷ joined (map (λ leaf. leaf .0) leaves)
     ∷ []
 
 unfoldable pub fileOf : List (List ℕ) → List ℕ
 fileOf parts = directory 20 parts ++ joined parts
+
+-- a whole number as an element of degree two
+abbrev pub whole : ℤ → List ℤ
+whole a = a ∷ pos 0 ∷ []
+
+-- s = 0, t = −1, u = β, v = 0, and whole numbers for digits
+abbrev pub wholeFile : ℤ → List ℤ → List ℤ → List Leaf → List ℕ
+wholeFile base alphabet inputs leaves = fileOf (sections (pos 0 ∷ negsuc 0 ∷ whole base) (map whole alphabet) (map whole inputs) leaves)
 
 -- ---- TERN
 
@@ -68,10 +76,10 @@ ternWeight x = cond (leZ (pos 2) x) (pos 1) (cond (leZ x (minus 2)) (minus 1) (p
 
 -- "one-digit words"
 unfoldable pub ternLeaves : List Leaf
-ternLeaves = span (λ i. (i ∷ [], ternWeight (getD ternInputs i (pos 0)))) 0 9
+ternLeaves = span (λ i. (i ∷ [], whole (ternWeight (getD ternInputs i (pos 0))))) 0 9
 
 unfoldable pub ternFile : List ℕ
-ternFile = fileOf (sections (pos 3) (pos 0 ∷ pos 1 ∷ pos 2 ∷ minus 1 ∷ minus 2 ∷ []) ternInputs ternLeaves)
+ternFile = wholeFile (pos 3) (pos 0 ∷ pos 1 ∷ pos 2 ∷ minus 1 ∷ minus 2 ∷ []) ternInputs ternLeaves
 
 -- ---- BIN
 
@@ -91,10 +99,10 @@ binWeight1 x = cond (eqZ x (pos 2)) (pos 1) (cond (eqZ x (minus 2)) (minus 1) (p
 unfoldable pub binLeavesOf : ℕ → List Leaf
 binLeavesOf i =
     let x = getD binInputs i (pos 0) in
-    cond (eqZ x (pos 1) || eqZ x (minus 1)) (span (λ k. (i ∷ k ∷ [], binWeight2 x (getD binInputs k (pos 0)))) 0 5) ((i ∷ [], binWeight1 x) ∷ [])
+    cond (eqZ x (pos 1) || eqZ x (minus 1)) (span (λ k. (i ∷ k ∷ [], whole (binWeight2 x (getD binInputs k (pos 0))))) 0 5) ((i ∷ [], whole (binWeight1 x)) ∷ [])
 
 unfoldable pub binLeaves : List Leaf
 binLeaves = binLeavesOf 0 ++ (binLeavesOf 1 ++ (binLeavesOf 2 ++ (binLeavesOf 3 ++ binLeavesOf 4)))
 
 unfoldable pub binFile : List ℕ
-binFile = fileOf (sections (pos 2) (pos 0 ∷ pos 1 ∷ minus 1 ∷ []) binInputs binLeaves)
+binFile = wholeFile (pos 2) (pos 0 ∷ pos 1 ∷ minus 1 ∷ []) binInputs binLeaves

@@ -33,8 +33,17 @@ fn product(omega: [i64; 4], beta: [i64; 4], x: [i64; 4]) -> Element
 
 // M1 and M2
 pub fn products() {
-    output::element(b"M1", product([-1, 0, 0, 0], [-1, 1, 0, 0], [1, 1, 0, 0]));
-    output::element(b"M2", product([-1, -1, 0, 0], [1, 1, 0, 0], [1, 1, 0, 0]));
+    let degree = Degree::Two;
+    output::element(
+        b"M1",
+        degree,
+        product([-1, 0, 0, 0], [-1, 1, 0, 0], [1, 1, 0, 0]),
+    );
+    output::element(
+        b"M2",
+        degree,
+        product([-1, -1, 0, 0], [1, 1, 0, 0], [1, 1, 0, 0]),
+    );
 }
 
 // M3 to M6
@@ -46,18 +55,33 @@ pub fn bases() {
 }
 
 fn between(a: i32, b: i32, c: i32, d: i32) {
-    output::element(
-        b"midpoint",
-        midpoint::midpoint(
-            Element { a, b, c: 0, d: 0 },
-            Element {
-                a: c,
-                b: d,
-                c: 0,
-                d: 0,
-            },
-        ),
-    );
+    let x = Element { a, b, c: 0, d: 0 };
+    let y = Element {
+        a: c,
+        b: d,
+        c: 0,
+        d: 0,
+    };
+    let degree = Degree::Two;
+    output::element(b"midpoint", degree, midpoint::midpoint(x, y));
+}
+
+// Job 8: all four parts, the halves of 3, −3, 7 and −7.
+pub fn midpoint_of_four() {
+    let x = Element {
+        a: 1,
+        b: -1,
+        c: 3,
+        d: -3,
+    };
+    let y = Element {
+        a: 2,
+        b: -2,
+        c: 4,
+        d: -4,
+    };
+    let degree = Degree::Four;
+    output::element(b"midpoint", degree, midpoint::midpoint(x, y));
 }
 
 // Job 6: the halves of 3, 1 and 5, and of −3, −1 and −5, to the even neighbour; the least and the greatest parts.

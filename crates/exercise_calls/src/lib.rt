@@ -2,6 +2,7 @@
 // the byte that it is in a row: its alphabet index, two hexadecimal digits.
 pub mod additions;
 pub mod arithmetic;
+pub mod degrees;
 pub mod lines;
 pub mod output;
 pub mod subtractions;

@@ -5,6 +5,7 @@ use adder::Added;
 use adder::Subtracted;
 use faults::Fault;
 use midpoint::Element;
+use ring::Degree;
 use row_edit::Edited;
 use table::Checked;
 use table_rules::Facts;
@@ -52,15 +53,24 @@ pub fn refused(fault: Fault) {
     written(&out, end);
 }
 
-fn parts(x: Element) {
+// As many parts as the degree says.
+fn parts(degree: Degree, x: Element) {
     signed(x.a);
     signed(x.b);
+    match degree {
+        Degree::Two => {}
+        Degree::Three => signed(x.c),
+        Degree::Four => {
+            signed(x.c);
+            signed(x.d);
+        }
+    }
 }
 
-// `LABEL a b`
-pub fn element(label: &[u8], x: Element) {
+// `LABEL` and the parts
+pub fn element(label: &[u8], degree: Degree, x: Element) {
     word(label);
-    parts(x);
+    parts(degree, x);
     word(b"\n");
 }
 
@@ -120,11 +130,11 @@ pub fn edited(answer: Edited) {
     }
 }
 
-// `LABEL value a b`, or the fault.
-pub fn valued(label: &[u8], answer: Valued) {
+// `LABEL value` and the parts, or the fault.
+pub fn valued(label: &[u8], degree: Degree, answer: Valued) {
     word(label);
     match answer {
-        Valued::Value(x) => element(b" value", x),
+        Valued::Value(x) => element(b" value", degree, x),
         Valued::Refused(fault) => {
             refused(fault);
             word(b"\n");

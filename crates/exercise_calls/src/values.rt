@@ -2,12 +2,18 @@
 ghost use Prim.Native.Nat.{_≤_};
 use crate::output;
 
+// The degree of the table says how many parts the value has.
+pub fn by_table(label: &[u8], table: &[u8], row: &[u8]) {
+    let degree = layout::degree_in(table);
+    output::valued(label, degree, value_call::value(table, row));
+}
+
 fn by_tern(label: &[u8], row: &[u8]) {
-    output::valued(label, value_call::value(&carried::tern(), row));
+    by_table(label, &carried::tern(), row);
 }
 
 fn by_bin(label: &[u8], row: &[u8]) {
-    output::valued(label, value_call::value(&carried::bin(), row));
+    by_table(label, &carried::bin(), row);
 }
 
 // M7's rows and their sum, M8's changed row and sum.
@@ -47,7 +53,7 @@ pub fn of_tern_rows() {
 // The table's fault comes first.
 pub fn of_no_table() {
     let row = [5u8; 257];
-    output::valued(b"none 257", value_call::value(b"", &row));
+    by_table(b"none 257", b"", &row);
 }
 
 // BIN: a row of one digit, 31 times.

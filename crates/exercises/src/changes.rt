@@ -2,6 +2,7 @@
 ghost use Prim.Native.Nat.{_≤_};
 ghost use lib.ListN.{length};
 use exercise_calls::additions;
+use exercise_calls::degrees;
 use exercise_calls::output;
 use exercise_calls::tables;
 
@@ -38,6 +39,11 @@ const BIN_EDITS: [[usize; 3]; 6] = [
 
 // The word below the edited place is the longest, then no long word is looked up, then it is gone.
 const REACH_EDITS: [[usize; 3]; 3] = [[0, 1, 1], [0, 2, 0], [0, 0, 0]];
+
+// Job 8: the edit that crate marked has, one that a digit outside the alphabet refuses, the first back again.
+const CUBIC_EDITS: [[usize; 3]; 3] = [[1, 1, 4], [0, 2, 5], [1, 1, 2]];
+
+const QUARTIC_EDITS: [[usize; 3]; 3] = [[0, 0, 2], [1, 2, 3], [0, 0, 1]];
 
 // `LABEL changed K reach R FIRST SECOND SUM`, or the fault and the buffers: each whole, as the call left it. No line feed.
 fn changed(
@@ -177,6 +183,38 @@ pub fn reach_list() {
         &mut sum,
         &mut whole,
         &REACH_EDITS,
+    );
+}
+
+pub fn cubic_list() {
+    let mut first = [2u8, 1, 3];
+    let mut second = [2u8, 2, 4];
+    let mut sum = [9u8; 4];
+    let mut whole = [8u8; 4];
+    listed(
+        b"cubic",
+        &degrees::cubic(),
+        &mut first,
+        &mut second,
+        &mut sum,
+        &mut whole,
+        &CUBIC_EDITS,
+    );
+}
+
+pub fn quartic_list() {
+    let mut first = [1u8, 1, 2];
+    let mut second = [1u8, 0, 2];
+    let mut sum = [9u8; 5];
+    let mut whole = [8u8; 5];
+    listed(
+        b"quartic",
+        &degrees::quartic(),
+        &mut first,
+        &mut second,
+        &mut sum,
+        &mut whole,
+        &QUARTIC_EDITS,
     );
 }
 

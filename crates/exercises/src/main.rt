@@ -2,6 +2,7 @@
 // as the byte that it is in a row: its alphabet index, two hexadecimal digits.
 use exercise_calls::additions;
 use exercise_calls::arithmetic;
+use exercise_calls::degrees;
 use exercise_calls::lines;
 use exercise_calls::subtractions;
 use exercise_calls::tables;
@@ -55,11 +56,21 @@ fn elements_of_rows() {
     arithmetic::midpoints();
 }
 
+// Job 8
+fn degrees_three_and_four() {
+    degrees::checks();
+    degrees::sums();
+    changes::cubic_list();
+    changes::quartic_list();
+    arithmetic::midpoint_of_four();
+}
+
 fn main() {
     marked();
     tables_and_sums();
     differences();
     edited_rows();
     elements_of_rows();
+    degrees_three_and_four();
     lines::of_files();
 }

@@ -21,11 +21,12 @@ use Rattle.runner_rules.specs.declared.RanFacts.{RanFacts}
 use Rattle.runner_rules.specs.Told.{groupsOf, numbersOf, valuesOf}
 use Rattle.runner_rules.specs.Run.{askedEdits, runOutcome, runAll}
 use Rattle.runner_rules.specs.Follows.{toldIn}
-use Rattle.carried.specs.Tables.{ternInputs, ternLeaves, ternFile, binFile, sections, fileOf}
+use Rattle.carried.specs.Tables.{ternInputs, ternLeaves, ternFile, binFile, whole, wholeFile}
+use Rattle.marked.specs.Degrees.{cubicWith, cubic, quarticWith, quartic, root, complexRoot}
 
 pub data Exercise : Type 0 where
-  -- s, t and two elements: their product
-  productOf : ℤ → ℤ → List ℤ → List ℤ → Exercise
+  -- the parts of ω to the power d, lowest power first, and two elements: their product
+  productOf : List ℤ → List ℤ → List ℤ → Exercise
   -- s, t, u, v: is the base expanding?
   expands : ℤ → ℤ → ℤ → ℤ → Exercise
   -- a table file: the check's outcome
@@ -48,7 +49,7 @@ pub data Answer : Type 0 where
 
 -- by the definitions that the contracts cite
 unfoldable pub answer : Exercise → Answer
-answer (productOf s t x y) = element (product (t ∷ s ∷ []) x y)
+answer (productOf r x y) = element (product r x y)
 answer (expands s t u v) = verdict (expanding s t u v)
 answer (checks file) = outcome (checkOutcome file)
 answer (adds file first second sum) = summed (addOutcome file first second (length sum)) (addSum file first second sum)
@@ -68,13 +69,13 @@ pair a b = a ∷ b ∷ []
 -- TERN with weight 0 at input 2, whose word is leaf 2's
 unfoldable pub ternWithout : List ℕ
 ternWithout =
-    fileOf (sections (pos 3) (pos 0 ∷ pos 1 ∷ pos 2 ∷ negsuc 0 ∷ negsuc 1 ∷ []) ternInputs (set ternLeaves 2 (2 ∷ [], pos 0)))
+    wholeFile (pos 3) (pos 0 ∷ pos 1 ∷ pos 2 ∷ negsuc 0 ∷ negsuc 1 ∷ []) ternInputs (set ternLeaves 2 (2 ∷ [], whole (pos 0)))
 
 unfoldable pub table : List Case
 table =
     -- M1 and M2
-    record { exercise = productOf (pos 0) (negsuc 0) (pair (negsuc 0) (pos 1)) (pair (pos 1) (pos 1)); expected = element (pair (negsuc 1) (pos 0)) }
-    ∷ record { exercise = productOf (negsuc 0) (negsuc 0) (pair (pos 1) (pos 1)) (pair (pos 1) (pos 1)); expected = element (pair (pos 0) (pos 1)) }
+    record { exercise = productOf (pair (negsuc 0) (pos 0)) (pair (negsuc 0) (pos 1)) (pair (pos 1) (pos 1)); expected = element (pair (negsuc 1) (pos 0)) }
+    ∷ record { exercise = productOf (pair (negsuc 0) (negsuc 0)) (pair (pos 1) (pos 1)) (pair (pos 1) (pos 1)); expected = element (pair (pos 0) (pos 1)) }
     -- M3 to M6
     ∷ record { exercise = expands (pos 0) (negsuc 0) (negsuc 0) (pos 1); expected = verdict true }
     ∷ record { exercise = expands (pos 0) (pos 2) (pos 2) (pos 1); expected = verdict false }
@@ -101,6 +102,58 @@ table =
     }
     -- M12
     ∷ record { exercise = checks ternWithout; expected = outcome (refused author 14 2) }
+    -- Job 8: ω⁴ is 2·ω + ω² where ω³ is 2 + ω, and in degree four ω³·ω³ is ω²·ω⁴
+    ∷ record {
+      exercise = productOf (pos 2 ∷ pos 1 ∷ pos 0 ∷ []) (pos 0 ∷ pos 0 ∷ pos 1 ∷ []) (pos 0 ∷ pos 0 ∷ pos 1 ∷ []);
+      expected = element (pos 0 ∷ pos 2 ∷ pos 1 ∷ []);
+    }
+    ∷ record {
+      exercise = productOf (pos 3 ∷ negsuc 0 ∷ pos 0 ∷ pos 0 ∷ []) (pos 0 ∷ pos 0 ∷ pos 0 ∷ pos 1 ∷ []) (pos 0 ∷ pos 0 ∷ pos 0 ∷ pos 1 ∷ []);
+      expected = element (pos 0 ∷ pos 0 ∷ pos 3 ∷ negsuc 0 ∷ []);
+    }
+    -- a table of degree three: accepted; a sum and an edit
+    ∷ record { exercise = checks cubic; expected = outcome (facts (record { depth = 1; leaves = 9; digits = 5 })) }
+    ∷ record {
+      exercise = adds cubic (2 ∷ 1 ∷ 3 ∷ []) (2 ∷ 2 ∷ 4 ∷ []) (9 ∷ 9 ∷ 9 ∷ 9 ∷ 9 ∷ []);
+      expected = summed (facts (record { places = 4; reach = 1 })) (1 ∷ 1 ∷ 1 ∷ 3 ∷ 9 ∷ []);
+    }
+    ∷ record {
+      exercise = runs cubic (2 ∷ 1 ∷ 3 ∷ []) (2 ∷ 2 ∷ 4 ∷ []) (9 ∷ 9 ∷ 9 ∷ 9 ∷ 9 ∷ []) (record { row = 1; place = 1; digit = 4 } ∷ []);
+      expected = ran (state (2 ∷ 1 ∷ 3 ∷ []) (2 ∷ 4 ∷ 4 ∷ []) (1 ∷ 0 ∷ 0 ∷ 3 ∷ 9 ∷ [])) (facts (record { count = 2; reach = 1 }) ∷ []);
+    }
+    -- one of degree four, with h = 2
+    ∷ record { exercise = checks quartic; expected = outcome (facts (record { depth = 2; leaves = 13; digits = 3 })) }
+    ∷ record {
+      exercise = adds quartic (1 ∷ 1 ∷ 2 ∷ []) (1 ∷ 0 ∷ 2 ∷ []) (9 ∷ 9 ∷ 9 ∷ 9 ∷ 9 ∷ 9 ∷ []);
+      expected = summed (facts (record { places = 5; reach = 2 })) (0 ∷ 0 ∷ 1 ∷ 2 ∷ 0 ∷ 9 ∷ []);
+    }
+    ∷ record {
+      exercise = runs quartic (1 ∷ 1 ∷ 2 ∷ []) (1 ∷ 0 ∷ 2 ∷ []) (9 ∷ 9 ∷ 9 ∷ 9 ∷ 9 ∷ 9 ∷ []) (record { row = 0; place = 0; digit = 2 } ∷ []);
+      expected = ran (state (2 ∷ 1 ∷ 2 ∷ []) (1 ∷ 0 ∷ 2 ∷ []) (0 ∷ 1 ∷ 0 ∷ 2 ∷ 0 ∷ 9 ∷ [])) (facts (record { count = 2; reach = 2 }) ∷ []);
+    }
+    -- of degree three and four, where ω·ω times a digit is 3 and −3 times it: words of two digits, 81 leaves
+    ∷ record { exercise = checks root; expected = outcome (facts (record { depth = 2; leaves = 81; digits = 5 })) }
+    ∷ record {
+      exercise = runs root (2 ∷ 1 ∷ 3 ∷ []) (2 ∷ 2 ∷ 4 ∷ []) (9 ∷ 9 ∷ 9 ∷ 9 ∷ 9 ∷ []) (record { row = 1; place = 1; digit = 4 } ∷ []);
+      expected = ran (state (2 ∷ 1 ∷ 3 ∷ []) (2 ∷ 4 ∷ 4 ∷ []) (1 ∷ 3 ∷ 1 ∷ 0 ∷ 3 ∷ [])) (facts (record { count = 2; reach = 2 }) ∷ []);
+    }
+    ∷ record { exercise = checks complexRoot; expected = outcome (facts (record { depth = 2; leaves = 81; digits = 5 })) }
+    ∷ record {
+      exercise = adds complexRoot (2 ∷ 1 ∷ 3 ∷ []) (2 ∷ 2 ∷ 4 ∷ []) (9 ∷ 9 ∷ 9 ∷ 9 ∷ 9 ∷ 9 ∷ []);
+      expected = summed (facts (record { places = 5; reach = 2 })) (1 ∷ 0 ∷ 3 ∷ 3 ∷ 1 ∷ 9 ∷ []);
+    }
+    ∷ record {
+      exercise = runs complexRoot (2 ∷ 1 ∷ 3 ∷ []) (2 ∷ 2 ∷ 4 ∷ []) (9 ∷ 9 ∷ 9 ∷ 9 ∷ 9 ∷ []) (record { row = 1; place = 1; digit = 4 } ∷ []);
+      expected = ran (state (2 ∷ 1 ∷ 3 ∷ []) (2 ∷ 4 ∷ 4 ∷ []) (1 ∷ 3 ∷ 3 ∷ 0 ∷ 1 ∷ [])) (facts (record { count = 2; reach = 2 }) ∷ []);
+    }
+    -- 6 where the determinant is 1, −1 or 0: β is ω and ω³ is 1 or −1, ω⁴ is 0
+    ∷ record { exercise = checks (cubicWith (pos 0 ∷ pos 0 ∷ pos 1 ∷ pos 0 ∷ pos 1 ∷ pos 0 ∷ [])); expected = outcome (refused author 6 0) }
+    ∷ record { exercise = checks (cubicWith (pos 0 ∷ pos 0 ∷ negsuc 0 ∷ pos 0 ∷ pos 1 ∷ pos 0 ∷ [])); expected = outcome (refused author 6 0) }
+    ∷ record { exercise = checks (quarticWith (pos 0 ∷ pos 0 ∷ pos 0 ∷ pos 0 ∷ pos 0 ∷ pos 1 ∷ pos 0 ∷ pos 0 ∷ [])); expected = outcome (refused author 6 0) }
+    -- 4: 64 passes in the base section at degree three, so that another rule is broken, and 65 doesn't; 33 doesn't at degree four
+    ∷ record { exercise = checks (cubicWith (pos 64 ∷ pos 0 ∷ pos 1 ∷ pos 0 ∷ pos 1 ∷ pos 0 ∷ [])); expected = outcome (refused author 6 0) }
+    ∷ record { exercise = checks (cubicWith (pos 0 ∷ pos 65 ∷ negsuc 0 ∷ pos 2 ∷ negsuc 0 ∷ pos 0 ∷ [])); expected = outcome (refused author 4 22) }
+    ∷ record { exercise = checks (quarticWith (pos 32 ∷ pos 0 ∷ pos 0 ∷ pos 1 ∷ pos 3 ∷ negsuc 0 ∷ pos 0 ∷ negsuc 32 ∷ [])); expected = outcome (refused author 4 34) }
     ∷ []
 
 -- every exercise of a table has the answer expected

@@ -5,6 +5,7 @@ use crate::input;
 use crate::input::Read;
 use crate::output;
 use reader_rules::Reading;
+use ring::Degree;
 
 // The calls on rows but for addition.
 const EDIT: u8 = 3;
@@ -85,6 +86,12 @@ pub fn on_rows(call: u8) -> bool {
     )
 }
 
+// The value of a row and its line: the degree of the table says how many parts it has.
+fn value_line(table: &[u8], row: &[u8]) -> bool {
+    let degree = layout::degree_in(table);
+    output::valued(degree, value_call::value(table, row))
+}
+
 // 4: the table, the row.
 pub fn value() -> bool {
     let mut table = [0u8; 70000];
@@ -97,7 +104,7 @@ pub fn value() -> bool {
     let Read::Got(r) = row_read else {
         return false;
     };
-    output::valued(value_call::value(&table[..t], &row[..r]))
+    value_line(&table[..t], &row[..r])
 }
 
 // The look-up of a window in a table that passes 1 to 13. No other table comes with it; there the run ends.
@@ -126,13 +133,32 @@ pub fn look_up() -> bool {
     leaf_line(&table[..n], window)
 }
 
-// 5: the parts of the first element, then those of the second.
-pub fn midpoint() -> bool {
-    let mut bytes = [0u8; 16];
-    if !input::filled(&mut bytes) {
+// The midpoint of two elements of a degree, as many parts of each, and its line.
+fn midpoint_line(degree: Degree) -> bool {
+    let mut first = [0u8; 16];
+    let mut second = [0u8; 16];
+    let end = 4 * layout::part_count(degree);
+    if !input::filled(&mut first[..end]) {
         return false;
     }
-    let x = input::element(&bytes, 0);
-    let y = input::element(&bytes, 8);
-    output::parts(b"midpoint ", midpoint::midpoint(x, y))
+    if !input::filled(&mut second[..end]) {
+        return false;
+    }
+    let x = input::element(&first);
+    let y = input::element(&second);
+    output::parts(b"midpoint", degree, midpoint::midpoint(x, y))
+}
+
+// 5: the degree, one byte, then the parts of the first element and those of the second. Another byte than 2, 3 or 4 ends the run.
+pub fn midpoint() -> bool {
+    let mut told = [0u8; 1];
+    if !input::filled(&mut told) {
+        return false;
+    }
+    match told[0] {
+        2 => midpoint_line(Degree::Two),
+        3 => midpoint_line(Degree::Three),
+        4 => midpoint_line(Degree::Four),
+        _ => false,
+    }
 }

@@ -68,14 +68,12 @@ fn number(bytes: &[u8], at: usize) -> i32
     (n as i64 - 4294967296) as i32
 }
 
-// The element at a place: its two parts.
-pub fn element(bytes: &[u8], at: usize) -> Element
-    requires { ⌜ at + 7 < length (now bytes) ⌝ }
-{
+// The element of a buffer: its four parts, those above the degree being zero.
+pub fn element(bytes: &[u8; 16]) -> Element {
     Element {
-        a: number(bytes, at),
-        b: number(bytes, at + 4),
-        c: 0,
-        d: 0,
+        a: number(bytes, 0),
+        b: number(bytes, 4),
+        c: number(bytes, 8),
+        d: number(bytes, 12),
     }
 }

@@ -7,6 +7,7 @@ use adder::Subtracted;
 use faults::Fault;
 use look_up::Found;
 use midpoint::Element;
+use ring::Degree;
 use row_edit::Edited;
 use table::Checked;
 use value_call::Valued;
@@ -151,22 +152,35 @@ pub fn looked_up(found: Found) -> bool {
     line(&mut out, end)
 }
 
-// A word and then the two parts of an element.
-pub fn parts(word: &[u8], x: Element) -> bool
+// A space and a part, from a place on; the next place.
+fn put_part(out: &mut [u8], at: usize, part: i32) -> usize
+    requires { ⌜ at + 12 ≤ length (now out) ⌝ }
+    ensures { λ r. ⌜ r ≤ at + 12 ⌝ }
+{
+    out[at] = b' ';
+    text::put_signed(out, at + 1, part)
+}
+
+// A word and then the parts of an element, as many as its degree says.
+pub fn parts(word: &[u8], degree: Degree, x: Element) -> bool
     requires { ⌜ length (now word) ≤ 20 ⌝ }
 {
+    let all = [x.a, x.b, x.c, x.d];
+    let count = layout::part_count(degree);
     let mut out = [0u8; 128];
-    let first = octets::put(&mut out, 0, word);
-    let space = text::put_signed(&mut out, first, x.a);
-    out[space] = b' ';
-    let end = text::put_signed(&mut out, space + 1, x.b);
+    let mut end = octets::put(&mut out, 0, word);
+    let mut i = 0;
+    while i < count {
+        end = put_part(&mut out, end, all[i]);
+        i += 1;
+    }
     line(&mut out, end)
 }
 
-// `value a b`, or the fault.
-pub fn valued(answer: Valued) -> bool {
+// `value` and the parts, or the fault.
+pub fn valued(degree: Degree, answer: Valued) -> bool {
     match answer {
-        Valued::Value(x) => parts(b"value ", x),
+        Valued::Value(x) => parts(b"value", degree, x),
         Valued::Refused(fault) => {
             let mut out = [0u8; 128];
             let end = fault_text::put_fault(&mut out, 0, fault);

@@ -1,7 +1,7 @@
 -- The three parts, one behind the other, are the file that the definition builds.
 use Rattle.lists.specs.Overwrite.{overwrite}
 use Rattle.lists.specs.Span.{span}
-use Rattle.carried.specs.Tables.{unsigned16, signed16, joined, record4, leafRecords, directory, sections, fileOf, ternInputs, ternWeight, ternLeaves, ternFile}
+use Rattle.carried.specs.Tables.{unsigned16, signed16, joined, recordOf, leafRecords, directory, sections, fileOf, ternInputs, ternWeight, ternLeaves, ternFile}
 use borrow.Author.Needs.{needs}
 use Rattle.carried.proofs.tern.Statement.{statement}
 use Rattle.carried.proofs.tern.Tie as tie
@@ -22,7 +22,7 @@ put-parts-requires : tie.Need-put-parts-requires
 put-parts-requires c κs = search needs
 
 returns : tie.Need-returns
-unfolding overwrite span unsigned16 signed16 joined record4 leafRecords directory sections fileOf ternInputs ternWeight ternLeaves ternFile
+unfolding overwrite span unsigned16 signed16 joined recordOf leafRecords directory sections fileOf ternInputs ternWeight ternLeaves ternFile
 returns c = c .before .put-parts .ensures
 
 pub tern-spec : {M : Type 1} → statement M
