@@ -40,8 +40,8 @@ returns-2 c = search needs
 array-share-prefix-table : tie.Need-array-share-prefix-table
 array-share-prefix-table c = omega (arith, ap valueOf (c .before .before .before .before .before .before .before .table-read .given .1), c .before .before .before .before .before .before .before .before .before .before .buffer .ensures, c .before .before .before .before .before .before .before .before .before .before .buffer .kept .0)
 
-slice-aggregate-value : tie.Need-slice-aggregate-value
-slice-aggregate-value c =
+slice-aggregate-value-line : tie.Need-slice-aggregate-value-line
+slice-aggregate-value-line c =
     let buffer = c .before .before .before .before .before .before .before .before .before .before .before .buffer in
     let table-read = c .before .before .before .before .before .before .before .before .table-read in
     sym (length-take-le _ (buffer .last .0) (omega (arith, ap valueOf (table-read .given .1), buffer .ensures, buffer .kept .0)))
@@ -49,14 +49,11 @@ slice-aggregate-value c =
 array-share-prefix-row : tie.Need-array-share-prefix-row
 array-share-prefix-row c = omega (arith, ap valueOf (c .before .before .row-read .given .1), c .before .before .before .before .before .buffer2 .ensures, c .before .before .before .before .before .buffer2 .kept .0)
 
-slice-aggregate-value-2 : tie.Need-slice-aggregate-value-2
-slice-aggregate-value-2 c = sym (length-take-le _ (c .before .before .before .before .before .before .buffer2 .last .0) (omega (arith, ap valueOf (c .before .before .before .row-read .given .1), c .before .before .before .before .before .before .buffer2 .ensures, c .before .before .before .before .before .before .buffer2 .kept .0)))
+slice-aggregate-value-line-2 : tie.Need-slice-aggregate-value-line-2
+slice-aggregate-value-line-2 c = sym (length-take-le _ (c .before .before .before .before .before .before .buffer2 .last .0) (omega (arith, ap valueOf (c .before .before .before .row-read .given .1), c .before .before .before .before .before .before .buffer2 .ensures, c .before .before .before .before .before .before .buffer2 .kept .0)))
 
-value-requires : tie.Need-value-requires
-value-requires c κs = search needs
-
-valued-requires : tie.Need-valued-requires
-valued-requires c κs = search needs
+value-line-requires : tie.Need-value-line-requires
+value-line-requires c κs = search needs
 
 returns-3 : tie.Need-returns-3
 returns-3 c = search needs
@@ -76,9 +73,8 @@ value-spec =
     enum-told-2
     returns-2
     array-share-prefix-table
-    slice-aggregate-value
+    slice-aggregate-value-line
     array-share-prefix-row
-    slice-aggregate-value-2
-    value-requires
-    valued-requires
+    slice-aggregate-value-line-2
+    value-line-requires
     returns-3)

@@ -1,76 +1,77 @@
--- A word of at most 20 bytes and two 32-bit numbers of at most 11 have room.
-use Prim.Native.Nat.{suc, _≤_}
-use mir.Facts.{toZ-ofZ}
-use mir.Val.{SFits, toZ, ofZ}
-use mir.Syntax.{w32}
-use lib.IntN.{ℤ, pos, negsuc}
-use lib.ListN.{length, length-set}
+-- A word of at most 20 bytes and four parts of at most 12, each with its space, have room.
+use mathlib.Core.Path.{_≡_, _∙_}
+use Prim.Native.Nat.{_+_, _-_, _*_, _≤_}
 use native.Mathlib.Omega.{arith}
-use Rattle.text_rules.specs.Decimal.{decimalZ}
-use Rattle.text_rules.proofs.Decimal.{decimal-short}
+use lib.ListN.{length}
 use borrow.Author.Needs.{needs}
 use Rattle.vectors.proofs.output.parts.Statement.{statement}
 use Rattle.vectors.proofs.output.parts.Tie as tie
 
--- a 32-bit number has at most ten digits and a minus
-short : (z : ℤ) → SFits w32 z → length (decimalZ z) ≤ 11
-unfolding decimalZ
-short (pos n) f = omega (arith, decimal-short 9 n (omega (arith, f .sfits)))
-short (negsuc n) f = omega (arith, decimal-short 9 (suc n) (omega (arith, f .sfits)))
+abbrev Inv-loop : tie.InvT-loop
+Inv-loop word all count out₀ end₀ i₀ out end i = (i ≤ count) × (count ≤ 4) × (end ≤ 20 + 12 * i) × (length out ≡ 128)
 
-room : (z : ℤ) → SFits w32 z → length (decimalZ (toZ w32 (ofZ w32 z))) ≤ 11
-room z f = rw (toZ-ofZ f) (short z f)
+abbrev μ-loop : tie.MeasureT-loop
+μ-loop word all count out₀ end₀ i₀ out end i = count - i
 
-slice-aggregate-put : tie.Need-slice-aggregate-put
+part-count-requires : tie.Need-part-count-requires Inv-loop μ-loop
+part-count-requires c κs = search needs
+
+slice-aggregate-put : tie.Need-slice-aggregate-put Inv-loop μ-loop
 slice-aggregate-put c = search needs
 
-put-requires : tie.Need-put-requires
+put-requires : tie.Need-put-requires Inv-loop μ-loop
 put-requires c κs = search needs
 
-slice-aggregate-put-signed : tie.Need-slice-aggregate-put-signed
-slice-aggregate-put-signed c = search needs
+loop-holds : tie.Need-loop-holds Inv-loop μ-loop
+loop-holds c = search needs
 
-put-signed-requires : tie.Need-put-signed-requires
-put-signed-requires c κs = omega (arith, room (c .before .before .before .before .before .before .args .x .a) (search needs), c .before .before .before .put .ensures .0, c .before .before .before .put .kept .0)
+slice-aggregate-put-part : tie.Need-slice-aggregate-put-part Inv-loop μ-loop
+slice-aggregate-put-part c = search needs
 
-array-write-out : tie.Need-array-write-out
-array-write-out c = omega (arith, room (c .before .before .before .before .before .before .before .before .args .x .a) (search needs), c .before .put-signed .ensures .0, c .before .before .before .before .before .put .ensures .0)
+mul-put-part : tie.Need-mul-put-part Inv-loop μ-loop
+mul-put-part c = search needs
 
-slice-aggregate-put-signed-2 : tie.Need-slice-aggregate-put-signed-2
-slice-aggregate-put-signed-2 c = search needs
+array-copy-out-put-part : tie.Need-array-copy-out-put-part Inv-loop μ-loop
+array-copy-out-put-part c = search needs
 
-add-put-signed : tie.Need-add-put-signed
-add-put-signed c = omega (arith, room (c .before .before .before .before .before .before .before .before .before .args .x .a) (search needs), c .before .before .put-signed .ensures .0, c .before .before .before .before .before .before .put .ensures .0)
+put-part-requires : tie.Need-put-part-requires Inv-loop μ-loop
+put-part-requires c κs = search needs
 
-put-signed-requires-2 : tie.Need-put-signed-requires-2
-put-signed-requires-2 c κs =
-    let a = c .before .before .before .before .before .before .before .before .before .before .args in
-    let x = a .x in
-    let put = c .before .before .before .before .before .before .before .put in
-    let put-signed = c .before .before .before .put-signed in
-    simp length-set (omega (arith, room (x .a) (search needs), room (x .b) (search needs), put-signed .ensures .0, put-signed .kept .0, put .ensures .0, put .kept .0))
+add-i : tie.Need-add-i Inv-loop μ-loop
+add-i c = search needs
 
-slice-aggregate-line : tie.Need-slice-aggregate-line
+loop-less : tie.Need-loop-less Inv-loop μ-loop
+loop-less c = search needs
+
+loop-again : tie.Need-loop-again Inv-loop μ-loop
+loop-again c = search needs
+
+slice-aggregate-line : tie.Need-slice-aggregate-line Inv-loop μ-loop
 slice-aggregate-line c = search needs
 
-line-requires : tie.Need-line-requires
+line-requires : tie.Need-line-requires Inv-loop μ-loop
 line-requires c κs = search needs
 
-returns : tie.Need-returns
+returns : tie.Need-returns Inv-loop μ-loop
 returns c = search needs
 
 pub parts-spec : {M : Type 1} → statement M
 parts-spec =
     tie.close
     (tie.spec
+    Inv-loop
+    μ-loop
+    part-count-requires
     slice-aggregate-put
     put-requires
-    slice-aggregate-put-signed
-    put-signed-requires
-    array-write-out
-    slice-aggregate-put-signed-2
-    add-put-signed
-    put-signed-requires-2
+    loop-holds
+    slice-aggregate-put-part
+    mul-put-part
+    array-copy-out-put-part
+    put-part-requires
+    add-i
+    loop-less
+    loop-again
     slice-aggregate-line
     line-requires
     returns)
