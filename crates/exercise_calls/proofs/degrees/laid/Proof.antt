@@ -1,4 +1,4 @@
--- A place in the file is a line's number and a place below sixteen.
+-- A place in the file is a line's number and a place below eight.
 use mathlib.Core.Path.{_≡_}
 use Prim.Native.Nat.{_-_, _≤_}
 use native.Mathlib.Omega.{arith}
