@@ -16,9 +16,9 @@
  * 3 of the editor. After 0 come the facts that are named at each call below; after 1, 2 or 3 the refusal number and its place.
  * docs/REFUSALS.md says what each number means, what its place counts and what to do. Words with nothing to say keep their contents.
  *
- * An element of a ring of degree d is a + b*omega, of degree three a + b*omega + c*omega^2, of degree four a + b*omega + c*omega^2 + d*omega^3:
- * it has as many parts as the degree, which is 2, 3 or 4. A table tells the degree of its ring by the length of its section 0, which is four
- * times the degree: the 16-bit number in bytes 2 and 3 of the file, the low byte first, is 8, 12 or 16. TERN and BIN are of degree two.
+ * An element has as many parts as the degree of its ring, which is 2, 3 or 4: it is a + b*omega, a + b*omega + c*omega^2 or
+ * a + b*omega + c*omega^2 + d*omega^3. A table tells the degree of its ring by the length of its section 0, which is four times the degree: the
+ * 16-bit number in bytes 2 and 3 of the file, the low byte first, is 8, 12 or 16. TERN and BIN are of degree two.
  *
  * The reach, a fact of add, subtract and edit, is the length of the longest word among the leaves that the call looked up, 1 to h: in add and
  * subtract at places 0 to n + h - 1, in an edit of place p at places p - 1 to p + h of the rows as edited, -1 left out. Digits further below a
