@@ -13,11 +13,13 @@ PLACES = 6
 
 
 def show(table, first, second, sum):
+    # As wide as the widest digit of the alphabet; those of higher degrees have more parts.
+    width = max(4, *(len(str(digit)) for digit in yoyomyrtle.alphabet(table)))
     for name, row in ('first', first), ('second', second), ('sum', sum):
-        digits = [str(digit).rjust(4) for digit in yoyomyrtle.digits(table, row)]
+        digits = [str(digit).rjust(width) for digit in yoyomyrtle.digits(table, row)]
         print(name.ljust(6), *digits, ' value', yoyomyrtle.value(table, row))
     x, y, z = (yoyomyrtle.value(table, row) for row in (first, second, sum))
-    print('the values agree' if (x.a + y.a, x.b + y.b) == z else 'the values differ')
+    print('the values agree' if all(p + q == r for p, q, r in zip(x, y, z)) else 'the values differ')
 
 
 def add_and_edit(table):

@@ -1,11 +1,12 @@
-/* Loads a table (the file named, else the carried TERN), adds two rows, edits a digit, runs a list of edits, subtracts and prints the rows.
+/* Loads a table (the file named, else the carried TERN), adds two rows, tells their values and the midpoint of these, edits a digit, runs a
+ * list of edits, subtracts and prints the rows.
  *
  *     cc -std=c99 -I include examples/caller.c target/staticlib/libadder_c.a -o caller && ./caller tables/bin.table */
 #include <stdio.h>
 
 #include "yoyomyrtle.h"
 
-enum { DIGITS = 6, DEEPEST = 8, EDITS = 3, LONGEST_FILE = 65535 };
+enum { DIGITS = 6, DEEPEST = 8, EDITS = 3, PARTS = 4, LONGEST_FILE = 65535 };
 
 /* One byte more than the longest file, so that a file that is too long is seen to be. */
 static uint8_t table[LONGEST_FILE + 1];
@@ -38,6 +39,27 @@ static void print_row(const char *name, const uint8_t *row, size_t length) {
     printf("\n");
 }
 
+/* Prints the parts of an element that words 1 and up of the answer hold. */
+static void print_parts(const char *name, size_t count) {
+    printf("%s:", name);
+    for (size_t part = 1; part <= count; part++) {
+        printf(" %d", (int)answer[part]);
+    }
+    printf("\n");
+}
+
+/* Prints the value of a row, with as many parts as the degree of the table's ring, and keeps them; 0 where it is too large. */
+static int value_of(const char *name, size_t length, const uint8_t *row, size_t digits, size_t degree, int32_t *parts) {
+    if (yoyomyrtle_value(table, length, row, digits, answer, YOYOMYRTLE_ANSWER_WORDS) != YOYOMYRTLE_FACTS) {
+        return !refused();
+    }
+    print_parts(name, degree);
+    for (size_t part = 0; part < degree; part++) {
+        parts[part] = (int32_t)answer[1 + part];
+    }
+    return 1;
+}
+
 int main(int argc, char **argv) {
     size_t length = YOYOMYRTLE_TERN_BYTES;
     if (argc < 2) {
@@ -67,6 +89,15 @@ int main(int argc, char **argv) {
     print_row("first", first, DIGITS);
     print_row("second", second, DIGITS);
     print_row("sum", sum, DIGITS + depth);
+
+    /* The base section's length is four times the degree of the ring. The midpoint has four parts of each element, whatever the degree. */
+    size_t degree = (table[2] + 256u * table[3]) / 4;
+    int32_t x[PARTS] = {0}, y[PARTS] = {0}, z[PARTS];
+    if (value_of("value of the first", length, first, DIGITS, degree, x) && value_of("value of the second", length, second, DIGITS, degree, y) &&
+        value_of("value of the sum", length, sum, DIGITS + depth, degree, z)) {
+        yoyomyrtle_midpoint(x[0], x[1], x[2], x[3], y[0], y[1], y[2], y[3], answer, YOYOMYRTLE_ANSWER_WORDS);
+        print_parts("midpoint of the rows", degree);
+    }
 
     /* Place 2 of the second row (row number 1) gets the next digit of the alphabet. */
     uint64_t digit = (second[2] + 1u) % alphabet;

@@ -1,5 +1,5 @@
-//! Loads a table (the file named, else the carried TERN), adds two rows, edits a digit, runs a list of edits, subtracts and
-//! prints the rows.
+//! Loads a table (the file named, else the carried TERN), adds two rows, tells their values and the midpoint of these, edits a
+//! digit, runs a list of edits, subtracts and prints the rows.
 //!
 //!     rustc --edition 2021 -L target/staticlib -l static=adder_c examples/caller.rs -o caller && ./caller tables/bin.table
 
@@ -25,6 +25,10 @@ extern "C" {
         sum: *mut u8, sum_len: usize, rows: *const usize, rows_len: usize, places: *const usize, places_len: usize,
         digits: *const usize, digits_len: usize, whose: *mut usize, whose_len: usize, numbers: *mut usize, numbers_len: usize,
         values: *mut usize, values_len: usize, answer: *mut i64, answer_len: usize,
+    ) -> u64;
+    fn yoyomyrtle_value(table: *const u8, table_len: usize, row: *const u8, row_len: usize, answer: *mut i64, answer_len: usize) -> u64;
+    fn yoyomyrtle_midpoint(
+        a1: i32, b1: i32, c1: i32, d1: i32, a2: i32, b2: i32, c2: i32, d2: i32, answer: *mut i64, answer_len: usize,
     ) -> u64;
     fn yoyomyrtle_tern(out: *mut u8, out_len: usize) -> u64;
 }
@@ -89,6 +93,29 @@ fn run_list(table: &[u8], rows: [&mut [u8]; 2], sum: &mut [u8], edits: &[[usize;
     Ok((0..edits).map(|k| [whose[k], numbers[k], values[k]]).collect())
 }
 
+/// An element: its parts, those above the degree zero.
+type Element = [i32; 4];
+
+/// The value of a row: as many words of the answer as the degree of the table's ring.
+#[rustfmt::skip]
+fn value(table: &[u8], row: &[u8]) -> Result<Element, Answer> {
+    let mut words = [0; 8];
+    let returned = unsafe {
+        yoyomyrtle_value(table.as_ptr(), table.len(), row.as_ptr(), row.len(), words.as_mut_ptr(), 8)
+    };
+    let [_, a, b, c, d, ..] = facts(returned, words)?;
+    Ok([a, b, c, d].map(|part| part as i32))
+}
+
+/// The midpoint has four parts of each element, whatever the degree.
+fn midpoint(x: Element, y: Element) -> Element {
+    let mut words = [0; 8];
+    let ([a, b, c, d], [e, f, g, h]) = (x, y);
+    unsafe { yoyomyrtle_midpoint(a, b, c, d, e, f, g, h, words.as_mut_ptr(), 8) };
+    let [_, a, b, c, d, ..] = words;
+    [a, b, c, d].map(|part| part as i32)
+}
+
 fn tern() -> Vec<u8> {
     let mut table = vec![0; 165];
     unsafe { yoyomyrtle_tern(table.as_mut_ptr(), table.len()) };
@@ -119,6 +146,31 @@ fn print_row(name: &str, row: &[u8]) {
     println!("{name}:{digits}");
 }
 
+fn print_fault([group, number, place, ..]: Answer) {
+    let whose = GROUPS[group as usize];
+    println!("refused {whose} {number} place {place}");
+}
+
+/// Prints the values of the rows and of the sum and the midpoint of the first two, or the fault of the first that is too large.
+fn print_values(table: &[u8], rows: [(&str, &[u8]); 3]) -> Result<(), Answer> {
+    // The base section's length is four times the degree of the ring.
+    let degree = usize::from(u16::from_le_bytes([table[2], table[3]])) / 4;
+    let print = |name: &str, parts: Element| {
+        let parts: String = parts[..degree]
+            .iter()
+            .map(|part| format!(" {part}"))
+            .collect();
+        println!("{name}:{parts}");
+    };
+    let mut values = Vec::new();
+    for (name, row) in rows {
+        values.push(value(table, row)?);
+        print(&format!("value of the {name}"), values[values.len() - 1]);
+    }
+    print("midpoint of the rows", midpoint(values[0], values[1]));
+    Ok(())
+}
+
 fn run(table: &[u8]) -> Result<(), Answer> {
     let [_, depth, leaves, digits, ..] = check(table)?;
     println!("depth {depth}, leaves {leaves}, digits {digits}");
@@ -133,6 +185,12 @@ fn run(table: &[u8]) -> Result<(), Answer> {
     print_row("first", &first);
     print_row("second", &second);
     print_row("sum", &sum);
+    if let Err(fault) = print_values(
+        table,
+        [("first", &first), ("second", &second), ("sum", &sum)],
+    ) {
+        print_fault(fault);
+    }
     // Place 2 of the second row (row number 1) gets the next digit of the alphabet.
     let digit = (u64::from(second[2]) + 1) % digits as u64;
     let [_, changed, reach, ..] = edit(table, [&mut first, &mut second], &mut sum, 1, 2, digit)?;
@@ -168,10 +226,9 @@ fn main() -> ExitCode {
             return ExitCode::from(2);
         }
     };
-    let Err([group, number, place, ..]) = run(&table) else {
+    let Err(fault) = run(&table) else {
         return ExitCode::SUCCESS;
     };
-    let whose = GROUPS[group as usize];
-    println!("refused {whose} {number} place {place}");
+    print_fault(fault);
     ExitCode::FAILURE
 }

@@ -3,9 +3,10 @@
 
     python3 examples/own_table.py mine.table
 
-Change BASE and ALPHABET for another one, such as base 2i: (0, -1, 0, 2) and the nine digits a + b*omega with a and b from -1 to 1. With an
-alphabet that has a digit without its negative the table adds and doesn't subtract, unless INPUTS is inputs(ALPHABET, differences=True). The
-method doesn't end for every choice. docs/TABLES.md says how it goes, and bin/check whether a table is one to add by.
+Change BASE and ALPHABET for another one of degree two, such as base 2i: (0, -1, 0, 2) and the nine digits a + b*omega with a and b from -1
+to 1. With an alphabet that has a digit without its negative the table adds and doesn't subtract, unless INPUTS is
+inputs(ALPHABET, differences=True). The method doesn't end for every choice. docs/TABLES.md says how it goes, and bin/check whether a table is
+one to add by.
 """
 import functools
 import itertools

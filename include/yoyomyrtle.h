@@ -5,8 +5,8 @@
  * outside and nothing else. It has no variables of its own, so that calls may run on several threads at once where none writes a buffer that
  * another is lent.
  *
- * Stack in bytes, at the most: check and run 73,500 (of these 71,000 even with TERN), add, subtract and edit 3,500, value 2,200, the others
- * 100. Where memcpy and memset are looked up on first use, the dynamic linker takes some 3,000 more at that time.
+ * Stack in bytes, at the most: check and run 73,500 (72,000 even with TERN), add, subtract and edit 4,100, value 2,500, the others 100.
+ * Where memcpy and memset are looked up on first use, the dynamic linker takes some 3,000 more at that time.
  *
  * Each buffer is a pointer and its length, and must hold as many bytes or words as its length says; the pointer may be NULL where the length
  * is 0. A buffer that a call may write, which is one without const and the answer array too, must not overlap any other buffer of that call.
@@ -15,6 +15,10 @@
  * The answer array is the last parameter. Word 0 is 0 for facts, 1 for a fault of the table's author, 2 of whoever lends the rows,
  * 3 of the editor. After 0 come the facts that are named at each call below; after 1, 2 or 3 the refusal number and its place.
  * docs/REFUSALS.md says what each number means, what its place counts and what to do. Words with nothing to say keep their contents.
+ *
+ * An element has as many parts as the degree of its ring, which is 2, 3 or 4: it is a + b*omega, a + b*omega + c*omega^2 or
+ * a + b*omega + c*omega^2 + d*omega^3. A table tells the degree of its ring by the length of its section 0, which is four times the degree: the
+ * 16-bit number in bytes 2 and 3 of the file, the low byte first, is 8, 12 or 16. TERN and BIN are of degree two.
  *
  * The reach, a fact of add, subtract and edit, is the length of the longest word among the leaves that the call looked up, 1 to h: in add and
  * subtract at places 0 to n + h - 1, in an edit of place p at places p - 1 to p + h of the rows as edited, -1 left out. Digits further below a
@@ -87,14 +91,17 @@ uint64_t yoyomyrtle_run(const uint8_t *table, size_t table_len,
                         size_t *values, size_t values_len,
                         int64_t *answer, size_t answer_len);
 
-/* The value of a row. Facts: a and b of the element a + b*omega. */
+/* The value of a row. Facts: the parts of the element, as many as the degree of the table's ring: a in word 1, b in word 2, c in word 3 from
+ * degree three on, d in word 4 at degree four. Words above the degree keep their contents. */
 uint64_t yoyomyrtle_value(const uint8_t *table, size_t table_len,
                           const uint8_t *row, size_t row_len,
                           int64_t *answer, size_t answer_len);
 
 /* The midpoint of two elements: half the sum of each two parts, where the sum is odd to the even neighbour (3/2 is 2, 1/2 is 0,
-   -1/2 is 0, -3/2 is -2). Facts: a and b. */
-uint64_t yoyomyrtle_midpoint(int32_t a1, int32_t b1, int32_t a2, int32_t b2,
+ * -1/2 is 0, -3/2 is -2). Facts: a, b, c and d in words 1 to 4, whatever the ring. It has no table to tell the degree; a caller of a smaller
+ * degree gives zeros for the parts above it, and finds zeros there. */
+uint64_t yoyomyrtle_midpoint(int32_t a1, int32_t b1, int32_t c1, int32_t d1,
+                             int32_t a2, int32_t b2, int32_t c2, int32_t d2,
                              int64_t *answer, size_t answer_len);
 
 /* The carried tables TERN and BIN. A shorter buffer: nothing is written and YOYOMYRTLE_TOO_SHORT is returned. */

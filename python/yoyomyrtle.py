@@ -29,6 +29,8 @@ nowhere else:
 
 >>> add(bin(), [1, 0], [1, 0]).reach, add(bin(), [1, 0], [0, 0]).reach
 (1, 2)
+
+The ring has degree two with these tables. It may have degree three or four, and a table says which: see `Element` and `table`.
 """
 import ctypes
 import functools
@@ -41,6 +43,8 @@ from collections import namedtuple
 _ROOT = os.path.dirname(os.path.dirname(os.path.realpath(__file__)))
 _ANSWER_WORDS, _TERN_BYTES, _BIN_BYTES = 8, 165, 187
 _FACTS, _FAULT = 0, 1
+# What the answer array holds before a call. No fact is so low, and words with nothing to say keep it.
+_KEPT = -2**63
 _GROUPS = (None, 'author', 'rows', 'editor')
 # No table is deeper, so that a sum always has room; the answer says how much of it was used.
 _DEEPEST = 8
@@ -52,21 +56,57 @@ Subtracted = namedtuple('Subtracted', 'places difference reach')
 Edited = namedtuple('Edited', 'changed first second sum reach')
 Ran = namedtuple('Ran', 'answers first second sum')
 Explained = namedtuple('Explained', 'wrong counts todo')
+# The powers of omega, as elements are printed.
+_OMEGAS = '', 'w', 'w^2', 'w^3'
 
 
-class Element(namedtuple('Element', 'a b')):
-    """The element a + b*omega; it equals the pair (a, b).
+class Element(tuple):
+    """The element a + b*omega, in a ring of degree three a + b*omega + c*omega^2, of degree four with d*omega^3 too. It has as many parts as
+    the degree and equals the tuple of them; `a`, `b`, `c` and `d` are its parts by name, those that it has.
 
-    >>> print(Element(2, 3), Element(-1, 1), Element(0, -1), Element(4, 0))
-    2+3w -1+w -w 4
+    >>> Element(2, 3), Element(1, 2, -3, 1).c
+    (Element(a=2, b=3), -3)
+    >>> print(Element(2, 3), Element(-1, 1), Element(0, -1), Element(4, 0), Element(0, 0))
+    2+3w -1+w -w 4 0
+    >>> print(Element(1, 2, -3, 1), Element(0, 0, -1), Element(5, 0, 0, 2))
+    1+2w-3w^2+w^3 -w^2 5+2w^3
     """
     __slots__ = ()
 
+    def __new__(cls, a, b, c=None, d=None):
+        parts = [a, b, c, d]
+        while parts[-1] is None:
+            parts.pop()
+        if None in parts:
+            raise TypeError('an element has 2 to 4 parts, and none of them is left out')
+        return super().__new__(cls, parts)
+
+    def __getnewargs__(self):
+        return tuple(self)
+
+    a = property(operator.itemgetter(0))
+    b = property(operator.itemgetter(1))
+
+    @property
+    def c(self):
+        return self._above(2)
+
+    @property
+    def d(self):
+        return self._above(3)
+
+    def _above(self, power):
+        if power >= len(self):
+            raise AttributeError('an element of %d parts has no %s' % (len(self), 'abcd'[power]))
+        return self[power]
+
+    def __repr__(self):
+        return 'Element(%s)' % ', '.join('%s=%r' % part for part in zip('abcd', self))
+
     def __str__(self):
-        if self.b == 0:
-            return '%d' % self.a
-        omegas = {1: '+w', -1: '-w'}.get(self.b, '%+dw' % self.b)
-        return '%d%s' % (self.a, omegas) if self.a else omegas.lstrip('+')
+        # A part of 1 or -1 is its sign alone in front of an omega.
+        shown = [{1: '+', -1: '-'}.get(part if omega else 0, '%+d' % part) + omega for part, omega in zip(self, _OMEGAS) if part]
+        return ''.join(shown).lstrip('+') or '0'
 
 
 class Refused(Exception):
@@ -139,13 +179,14 @@ def _said(name, *arguments):
 
 
 def _facts(name, *arguments):
-    answer = (ctypes.c_int64 * _ANSWER_WORDS)()
+    """The facts that a call tells, as many as there are, or the exception that its fault is."""
+    answer = (ctypes.c_int64 * _ANSWER_WORDS)(*[_KEPT] * _ANSWER_WORDS)
     status = _said(name, *arguments, answer)
     if status == _FAULT:
         raise Refused(_GROUPS[answer[0]], answer[1], answer[2])
     if status != _FACTS:
         raise OSError('%s returned %d: the library is of another version' % (name, status))
-    return answer[1:]
+    return [word for word in answer[1:] if word != _KEPT]
 
 
 def _bytes(table):
@@ -192,14 +233,14 @@ def check(table):
         ...
     yoyomyrtle.Refused: refused 14 place 2 (author): ...
     """
-    return Checked(*_facts('check', _bytes(table))[:3])
+    return Checked(*_facts('check', _bytes(table)))
 
 
 def _combined(call, table, first, second):
     """What an addition or a subtraction of two rows answers and writes: how many places, their digits, and the reach."""
     first, second = _buffer(first), _buffer(second)
     written = _buffer([], len(first) + _DEEPEST)
-    places, reach = _facts(call, _bytes(table), first, second, written)[:2]
+    places, reach = _facts(call, _bytes(table), first, second, written)
     return places, written[:places], reach
 
 
@@ -253,7 +294,7 @@ def edit(table, first, second, sum, row, place, digit):
     Edited(changed=2, first=[4, 2], second=[1, 2], sum=[3, 1, 1], reach=1)
     """
     rows = [_buffer(first), _buffer(second), _buffer(sum)]
-    changed, reach = _facts('edit', _bytes(table), *rows, _size(row), _size(place), _size(digit))[:2]
+    changed, reach = _facts('edit', _bytes(table), *rows, _size(row), _size(place), _size(digit))
     return Edited(changed, *map(list, rows), reach)
 
 
@@ -281,23 +322,30 @@ def run(table, first, second, edits):
 
 
 def value(table, row):
-    """The value of a row: its digits, each times the base to the power of its place.
+    """The value of a row: its digits, each times the base to the power of its place. It has as many parts as the degree of the table's ring.
 
     >>> value(tern(), [2, 2])
     Element(a=8, b=0)
     """
-    return Element(*_facts('value', _bytes(table), _buffer(row))[:2])
+    return Element(*_facts('value', _bytes(table), _buffer(row)))
 
 
 def midpoint(x, y):
-    """The midpoint of two elements: half the sum of each two parts, to the even neighbour where the sum is odd.
+    """The midpoint of two elements of one ring, which have the same number of parts: half the sum of each two parts, to the even neighbour
+    where the sum is odd. Either may be a whole number.
 
-    >>> print(midpoint((1, 2), -4))
-    -2+w
+    >>> print(midpoint((1, 2), -4), midpoint((1, 2, 3, 4), (1, 4, 4, 4)))
+    -2+w 1+3w+4w^2+4w^3
     >>> [midpoint(n, 0).a for n in (3, 1, -1, -3)]
     [2, 0, 0, -2]
     """
-    return Element(*_facts('midpoint', *map(_part, element(x) + element(y)))[:2])
+    given = [z if hasattr(z, '__index__') else element(z) for z in (x, y)]
+    degree, *other = {len(z) for z in given if isinstance(z, Element)} or {2}
+    if other:
+        raise ValueError('two elements with another number of parts each: %s and %s' % (*given,))
+    # The call takes four parts of each and tells four.
+    parts = [part for z in given for part in element(z, 4)]
+    return Element(*_facts('midpoint', *map(_part, parts))[:degree])
 
 
 def _carried(name, size):
@@ -332,9 +380,10 @@ def row(table, elements):
     >>> row(tern(), [-2, 0, 1])
     [4, 0, 1]
     """
-    index = {digit: at for at, digit in enumerate(alphabet(table))}
+    known = alphabet(table)
+    index = {digit: at for at, digit in enumerate(known)}
     try:
-        return [index[element(digit)] for digit in elements]
+        return [index[element(digit, len(known[0]))] for digit in elements]
     except KeyError as missing:
         raise ValueError('the alphabet has no digit %s' % missing.args) from None
 
@@ -352,22 +401,37 @@ def digits(table, row):
         raise ValueError('the alphabet has no digit with index %s' % missing.args) from None
 
 
-def element(x):
-    """A whole number, of whatever type, or a pair of them as an element."""
-    a, b = (x, 0) if hasattr(x, '__index__') else x
-    return Element(operator.index(a), operator.index(b))
+def element(x, degree=None):
+    """A whole number, of whatever type, or 2 to 4 of them as an element: with as many parts as are given, a whole number with two, or with as
+    many as the degree, those that aren't given being zero.
+
+    >>> element(3), element((0, 1)), element((0, 1), 3)
+    (Element(a=3, b=0), Element(a=0, b=1), Element(a=0, b=1, c=0))
+    """
+    whole = hasattr(x, '__index__')
+    parts = [operator.index(part) for part in ([x] if whole else x)]
+    wanted = degree or max(len(parts), 2)
+    if not whole and len(parts) < 2 or len(parts) > wanted or wanted > 4:
+        raise ValueError('%s is no element of %s parts' % (x, degree or '2 to 4'))
+    return Element(*parts, *[0] * (wanted - len(parts)))
 
 
 def _inputs(alphabet, signs):
     """The digits of an alphabet plus (sign 1) or minus (sign -1) those of the same, in the order that `inputs` tells."""
     known = [element(digit) for digit in alphabet]
-    found = {Element(x.a + sign * y.a, x.b + sign * y.b) for x in known for y in known for sign in signs}
-    return sorted(found, key=lambda x: (x < (0, 0), max(x, (-x.a, -x.b))))
+    degree = max(map(len, known), default=2)
+    known = [element(digit, degree) for digit in known]
+    found = {Element(*(p + sign * q for p, q in zip(x, y))) for x in known for y in known for sign in signs}
+
+    def size(x):
+        return max(x, tuple(-part for part in x))
+
+    return sorted(found, key=lambda x: (x != size(x), size(x)))
 
 
 def inputs(alphabet, differences=False):
     """The input digits that an alphabet needs: for addition the sums of two of its digits, for subtraction the differences too. Zero and
-    what is above it come first, in order of (a, b), then what is below zero in the order of its negatives.
+    what is above it come first, in order of their parts, a first, then what is below zero in the order of its negatives.
 
     >>> print(*inputs([0, 1, 2, -1, -2]))
     0 1 2 3 4 -1 -2 -3 -4
@@ -388,22 +452,22 @@ def _numbers(kind, numbers):
         raise ValueError("numbers that can't be written in 16 bits: %s" % trouble) from None
 
 
-def _records(elements):
-    return _numbers('h', (part for x in elements for part in element(x)))
+def _records(elements, degree):
+    return _numbers('h', (part for x in elements for part in element(x, degree)))
 
 
-def _leaves(digits, leaves):
+def _leaves(digits, leaves, degree):
     """The sections of leaves and of words."""
     index = {digit: at for at, digit in enumerate(digits)}
     indexed = []
     for word, weight in leaves.items() if hasattr(leaves, 'items') else leaves:
         try:
-            indexed.append((bytes(index[element(digit)] for digit in word), weight))
+            indexed.append((bytes(index[element(digit, degree)] for digit in word), weight))
         except (KeyError, ValueError):
             raise ValueError('the word %s has a digit that is no input digit, or is past 256 of them' % (word,)) from None
     records, words = b'', b''
     for word, weight in sorted(indexed, key=lambda leaf: leaf[0]):
-        records += _numbers('H', (len(words), len(word))) + _records([weight])
+        records += _numbers('H', (len(words), len(word))) + _records([weight], degree)
         words += word
     return records, words
 
@@ -411,9 +475,11 @@ def _leaves(digits, leaves):
 def table(base, alphabet, leaves, inputs=None):
     """The bytes of a table file; `check` says whether it is one to add by.
 
-    `base` is s, t, u, v: omega^2 = s*omega + t, and the base is u + v*omega. An element is a whole number a or a pair (a, b). `alphabet`
-    lists the digits, zero first. `leaves` has a weight for each word, as a mapping or in pairs; a word is a tuple of input digits, that of
-    the place itself and then those below it. The order of the leaves and the directory are made here.
+    `base` is s, t, u, v in a ring of degree two: omega^2 = s*omega + t, and the base is u + v*omega. In general it is the 2d numbers of the
+    file, which tell the degree d by their count: 4, 6 or 8. First come the parts of omega^d, that of the highest power first, then those of
+    the base, the lowest first. An element is a whole number a or 2 to d parts, the lowest first; further ones are zero. `alphabet` lists the
+    digits, zero first. `leaves` has a weight for each word, as a mapping or in pairs; a word is a tuple of input digits, that of the place
+    itself and then those below it. The order of the leaves and the directory are made here.
 
     `inputs` lists the input digits, zero first; without it they are the sums of two alphabet digits, as the function `inputs` gives them.
     A list may have further digits, and each of them needs leaves like any other.
@@ -426,9 +492,19 @@ def table(base, alphabet, leaves, inputs=None):
     ...     weights[-1, below] = -1 if below < 0 else 0
     >>> table((0, -1, 2, 0), [0, 1, -1], weights) == bin()
     True
+
+    The same digits and weights in the ring of degree three with omega^3 = 5*omega^2 - 3, and the value of a row:
+
+    >>> value(table((5, 0, -3, 2, 0, 0), [0, 1, -1], weights), [1, 1])
+    Element(a=3, b=0, c=0)
     """
-    digits = _inputs(alphabet, (1,)) if inputs is None else [element(digit) for digit in inputs]
-    sections = [_numbers('h', base), _records(alphabet), _records(digits), *_leaves(digits, leaves)]
+    base = list(base)
+    if len(base) not in (4, 6, 8):
+        raise ValueError('a base has 4, 6 or 8 numbers, twice as many as the degree')
+    degree = len(base) // 2
+    alphabet = list(alphabet)
+    digits = [element(digit, degree) for digit in (_inputs(alphabet, (1,)) if inputs is None else inputs)]
+    sections = [_numbers('h', base), _records(alphabet, degree), _records(digits, degree), *_leaves(digits, leaves, degree)]
     directory, end = b'', 20
     for section in sections:
         directory += _numbers('H', (end, len(section)))

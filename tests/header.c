@@ -1,6 +1,6 @@
 /* What include/yoyomyrtle.h promises besides the answers, tried: NULL where a length is 0, buffers that are only read lent twice, the words
- * of the answer that facts stand in and those that are kept, and the stack that a call takes, with the tables and rows of the stored vectors
- * (docs/VECTORS.md has their format) on standard input.
+ * of the answer that facts stand in and those that are kept, the degree that a table tells, and the stack that a call takes, with the tables
+ * and rows of the stored vectors (docs/VECTORS.md has their format) on standard input.
  *
  *     cc -std=c99 -I include tests/header.c target/staticlib/libadder_c.a -o header && ./header <crates/vectors/stdin */
 #define _XOPEN_SOURCE 700
@@ -37,31 +37,36 @@ static void fresh_answer(void) {
     }
 }
 
-/* Judges what a call has returned and its answer: words 0 to 2 are those given, and the further ones are kept. */
-static void told(const char *what, uint64_t returned, uint64_t expected, int64_t whose, int64_t second, int64_t third) {
-    judge(what, returned == expected && answer[0] == whose && answer[1] == second && answer[2] == third);
-    for (size_t word = 3; word < YOYOMYRTLE_ANSWER_WORDS; word++) {
-        judge(what, answer[word] == KEPT);
+/* Judges what a call has returned and its answer: its first words are those given, and the further ones are kept. */
+static void told(const char *what, uint64_t returned, uint64_t expected, size_t count, const int64_t *words) {
+    judge(what, returned == expected);
+    for (size_t word = 0; word < YOYOMYRTLE_ANSWER_WORDS; word++) {
+        judge(what, answer[word] == (word < count ? words[word] : KEPT));
     }
     fresh_answer();
 }
 
-/* Two facts: n + h and the reach, the count and the reach, or the parts of an element. */
+/* Facts: n + h and the reach, the count and the reach, or the first two parts of an element. */
 static void facts(const char *what, uint64_t returned, int64_t first, int64_t second) {
-    told(what, returned, YOYOMYRTLE_FACTS, 0, first, second);
+    told(what, returned, YOYOMYRTLE_FACTS, 3, (const int64_t[]){0, first, second});
+}
+
+/* The parts of an element. */
+static void parts(const char *what, uint64_t returned, size_t count, int64_t a, int64_t b, int64_t c, int64_t d) {
+    told(what, returned, YOYOMYRTLE_FACTS, 1 + count, (const int64_t[]){0, a, b, c, d});
 }
 
 /* One fact. */
 static void fact(const char *what, uint64_t returned, int64_t only) {
-    told(what, returned, YOYOMYRTLE_FACTS, 0, only, KEPT);
+    told(what, returned, YOYOMYRTLE_FACTS, 2, (const int64_t[]){0, only});
 }
 
 static void fault(const char *what, uint64_t returned, int64_t whose, int64_t number) {
-    told(what, returned, YOYOMYRTLE_FAULT, whose, number, 0);
+    told(what, returned, YOYOMYRTLE_FAULT, 3, (const int64_t[]){whose, number, 0});
 }
 
 static void too_short(const char *what, uint64_t returned) {
-    told(what, returned, YOYOMYRTLE_TOO_SHORT, KEPT, KEPT, KEPT);
+    told(what, returned, YOYOMYRTLE_TOO_SHORT, 0, NULL);
 }
 
 /* Each buffer of each call. The sum of empty rows is one digit with TERN. */
@@ -88,7 +93,7 @@ static void nothing_lent(void) {
     too_short("subtract: answer", yoyomyrtle_subtract(tern, sizeof tern, NONE, NONE, sum, 1, NONE));
     too_short("edit: answer", yoyomyrtle_edit(tern, sizeof tern, NONE, NONE, sum, 1, 0, 0, 0, NONE));
     too_short("run: answer", yoyomyrtle_run(tern, sizeof tern, NONE, NONE, sum, 1, NONE, NONE, NONE, NONE, NONE, NONE, NONE));
-    too_short("midpoint: answer", yoyomyrtle_midpoint(1, 2, 3, 4, NONE));
+    too_short("midpoint: answer", yoyomyrtle_midpoint(1, 2, 3, 4, 5, 6, 7, 8, NONE));
     too_short("tern: out", yoyomyrtle_tern(NONE));
     too_short("bin: out", yoyomyrtle_bin(NONE));
 }
@@ -132,6 +137,64 @@ static void reached(void) {
 #undef BIN_ROWS
 }
 
+static uint8_t *put_number(uint8_t *to, size_t number) {
+    to[0] = (uint8_t)(number % 256);
+    to[1] = (uint8_t)(number / 256);
+    return to + 2;
+}
+
+/* Records of BIN at a degree: what stands in front of each one's element, and that element with BIN's first part as its first and its last. */
+static uint8_t *put_records(uint8_t *to, const uint8_t *records, size_t count, size_t front, size_t degree) {
+    for (; count > 0; count--, records += front + 4) {
+        memcpy(to, records, front);
+        memset(to + front, 0, 2 * degree);
+        memcpy(to + front, records + front, 2);
+        memcpy(to + front + 2 * degree - 2, records + front, 2);
+        to += front + 2 * degree;
+    }
+    return to;
+}
+
+/* BIN in a ring of degree three or four, where omega to the power of the degree is 0, with every digit and weight times
+ * 1 + omega^(degree - 1). Its length. */
+static size_t raised(uint8_t *out, size_t degree) {
+    enum { ALPHABET = 3, INPUTS = 5, LEAVES = 13, WORDS = 23, DIRECTORY = 20, BASE = 8 };
+    const size_t lengths[] = {4 * degree, ALPHABET * 2 * degree, INPUTS * 2 * degree, LEAVES * (4 + 2 * degree), WORDS};
+    uint8_t bin[YOYOMYRTLE_BIN_BYTES], *to = out;
+    yoyomyrtle_bin(bin, sizeof bin);
+    for (size_t section = 0, offset = DIRECTORY; section < 5; offset += lengths[section++]) {
+        to = put_number(put_number(to, offset), lengths[section]);
+    }
+    memset(to, 0, 4 * degree);
+    put_number(to + 2 * degree, 2);
+    to += 4 * degree;
+    const uint8_t *digits = bin + DIRECTORY + BASE, *leaves = digits + 4 * (ALPHABET + INPUTS);
+    to = put_records(to, digits, ALPHABET + INPUTS, 0, degree);
+    to = put_records(to, leaves, LEAVES, 4, degree);
+    memcpy(to, leaves + 8 * LEAVES, WORDS);
+    return (size_t)(to + WORDS - out);
+}
+
+/* Facts of elements: of a value as many parts as the degree of the ring, of a midpoint four. The row 1 1 0 -1 has the value 1 + 2 - 8 in
+ * base 2, the sum of it and itself twice as much. */
+static void degrees(void) {
+    const uint8_t row[] = {1, 1, 0, 2};
+    uint8_t table[512], sum[sizeof row + 2];
+    yoyomyrtle_bin(table, sizeof table);
+    judge("degree two", table[2] == 8 && table[3] == 0);
+    parts("value: degree two", yoyomyrtle_value(table, YOYOMYRTLE_BIN_BYTES, row, sizeof row, ANSWER), 2, -5, 0, KEPT, KEPT);
+    for (size_t degree = 3; degree <= 4; degree++) {
+        size_t table_len = raised(table, degree);
+        told("check: degree", yoyomyrtle_check(table, table_len, ANSWER), YOYOMYRTLE_FACTS, 4, (const int64_t[]){0, 2, 13, 3});
+        facts("add: degree", yoyomyrtle_add(table, table_len, row, sizeof row, row, sizeof row, sum, sizeof sum, ANSWER), sizeof sum, 1);
+        int64_t third = degree == 3 ? -5 : 0;
+        parts("value: degree", yoyomyrtle_value(table, table_len, row, sizeof row, ANSWER), degree, -5, 0, third, -5);
+        parts("value: of the sum", yoyomyrtle_value(table, table_len, sum, sizeof sum, ANSWER), degree, -10, 0, 2 * third, -10);
+    }
+    parts("midpoint: four parts", yoyomyrtle_midpoint(1, -1, 3, INT32_MAX, 2, 0, -4, INT32_MAX, ANSWER), 4, 2, 0, 0, INT32_MAX);
+    parts("midpoint: two parts", yoyomyrtle_midpoint(-3, 5, 0, 0, 0, 2, 0, 0, ANSWER), 4, -2, 4, 0, 0);
+}
+
 /* What the calls below are given: buffers of one vector, those that it lacks being empty, and an edit. */
 static uint8_t space[BUFFERS][LONGEST], *lent[BUFFERS];
 static size_t length[BUFFERS];
@@ -150,7 +213,7 @@ static void run_call(void) {
                    answers[1], EDITS, answers[2], EDITS, ANSWER);
 }
 static void value_call(void) { yoyomyrtle_value(LENT(TABLE), LENT(FIRST), ANSWER); }
-static void midpoint_call(void) { yoyomyrtle_midpoint(1, 2, 3, 4, ANSWER); }
+static void midpoint_call(void) { yoyomyrtle_midpoint(1, 2, 3, 4, 5, 6, 7, 8, ANSWER); }
 static void tern_call(void) { yoyomyrtle_tern(space[TABLE], LONGEST); }
 static void bin_call(void) { yoyomyrtle_bin(space[TABLE], LONGEST); }
 
@@ -160,8 +223,8 @@ static struct {
     void (*call)(void);
     size_t promised, most;
 } calls[] = {
-    {"check", check_call, 73500, 0},     {"add", add_call, 3500, 0},   {"subtract", subtract_call, 3500, 0},
-    {"edit", edit_call, 3500, 0},        {"run", run_call, 73500, 0},  {"value", value_call, 2200, 0},
+    {"check", check_call, 73500, 0},     {"add", add_call, 4100, 0},   {"subtract", subtract_call, 4100, 0},
+    {"edit", edit_call, 4100, 0},        {"run", run_call, 73500, 0},  {"value", value_call, 2500, 0},
     {"midpoint", midpoint_call, 100, 0}, {"tern", tern_call, 100, 0},  {"bin", bin_call, 100, 0},
 };
 
@@ -194,9 +257,9 @@ static void read_bytes(uint8_t *to, size_t count) {
 
 /* Takes the next vector's buffers; 0 where there is none. */
 static int next_vector(void) {
-    static const size_t buffers[] = {[1] = 1, [2] = 4, [3] = 4, [4] = 2, [8] = 4, [19] = 1}, more[] = {[3] = 24, [5] = 16, [19] = 8};
+    static const size_t buffers[] = {[1] = 1, [2] = 4, [3] = 4, [4] = 2, [8] = 4, [19] = 1}, more[] = {[3] = 24, [5] = 1, [19] = 8};
     int call = getchar();
-    uint8_t bytes[24];
+    uint8_t bytes[2 * 4 * 255];
     if (call == EOF) {
         return 0;
     }
@@ -211,6 +274,8 @@ static int next_vector(void) {
         }
     }
     read_bytes(bytes, more[call]);
+    /* The one byte of a midpoint is a degree, and as many parts of two elements come behind it. */
+    read_bytes(bytes, call == 5 ? 2u * 4 * bytes[0] : 0);
     return 1;
 }
 
@@ -235,6 +300,7 @@ int main(void) {
     nothing_lent();
     lent_twice();
     reached();
+    degrees();
     stack_taken();
     printf("%d things not as promised\n", wrong);
     return wrong > 0;

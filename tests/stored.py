@@ -6,7 +6,9 @@ ROOT = os.path.join(os.path.dirname(os.path.abspath(__file__)), '..')
 STORED = os.path.join(ROOT, 'crates', 'vectors')
 
 # how many buffers follow a call's byte, and how many bytes follow them
-FOLLOWS = {1: (1, 0), 2: (4, 0), 3: (4, 24), 4: (2, 0), 5: (0, 16), 6: (0, 0), 7: (0, 0), 8: (4, 0), 19: (1, 8)}
+FOLLOWS = {1: (1, 0), 2: (4, 0), 3: (4, 24), 4: (2, 0), 5: (0, 1), 6: (0, 0), 7: (0, 0), 8: (4, 0), 19: (1, 8)}
+# the call whose one byte is a degree; behind it come as many parts of two elements, four bytes each
+MIDPOINT = 5
 
 
 def calls(stored):
@@ -20,6 +22,8 @@ def calls(stored):
             size = int.from_bytes(stored[at:at + 4], 'little')
             buffers.append(stored[at + 4:at + 4 + size])
             at += 4 + size
+        if call == MIDPOINT and at < len(stored):
+            rest += 2 * 4 * stored[at]
         at += rest
         yield call, buffers, stored[at - rest:at]
     if at != len(stored):

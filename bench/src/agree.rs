@@ -2,7 +2,7 @@
 
 use std::collections::BTreeSet;
 
-use reference::{Answer, Parts, ALL_DEGREES, DEGREES};
+use reference::{Answer, Parts, DEGREES};
 
 use crate::calls::Library;
 use crate::codes;
@@ -23,12 +23,19 @@ pub struct Tally {
     pub refusals: BTreeSet<i64>,
 }
 
-/// Compares on every table that is timed, on damaged ones and on random codes; what was tried, or the first difference.
-pub fn compare_all() -> Result<Tally, String> {
+/// Compares on every table that is timed, which are those up to some degree; with all degrees on damaged ones and on random codes too, which
+/// may be of any degree. What was tried, or the first difference.
+pub fn compare_all(most: usize) -> Result<Tally, String> {
     let mut random = Random::new(9);
     let mut tally = Tally::default();
-    for sample in tables::samples() {
-        tally.timed_calls(&sample)?;
+    let samples = tables::samples(most);
+    for sample in &samples {
+        tally.timed_calls(sample)?;
+    }
+    if most < 4 {
+        return Ok(tally);
+    }
+    for sample in &samples {
         // The reference tries all pairs of leaves, so the largest tables are damaged less often.
         let damaged = match sample.parts.leaves.len() {
             0..=1_000 => 2_000,
@@ -49,10 +56,7 @@ pub fn compare_all() -> Result<Tally, String> {
 /// A random code; often with more different weights than a bit mask holds, the first leaves' excepted, so that the check goes on.
 fn random_code(random: &mut Random) -> Parts {
     let most_leaves = 1 + random.below(400);
-    let degree = match random.one_in(8) {
-        true => random.pick(ALL_DEGREES),
-        false => random.pick(DEGREES),
-    };
+    let degree = random.pick(&DEGREES);
     let mut parts = codes::random_code(degree, most_leaves, random);
     let kept = 1 + random.below(parts.leaves.len());
     if random.one_in(2) {

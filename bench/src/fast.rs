@@ -193,17 +193,30 @@ fn edit_at<D: Degree>(
     Ok([changed, reach])
 }
 
-/// The value of a row, with the parts above the degree zero.
-pub fn value(file: &[u8], row: &[u8]) -> Result<[i64; 4], Fault> {
+/// An element of any degree: its parts are the first ones, as many as the degree.
+pub struct Value {
+    parts: [i64; 4],
+    degree: usize,
+}
+
+impl AsRef<[i64]> for Value {
+    fn as_ref(&self) -> &[i64] {
+        &self.parts[..self.degree]
+    }
+}
+
+/// The value of a row.
+pub fn value(file: &[u8], row: &[u8]) -> Result<Value, Fault> {
     by_degree!(file, value_at(row))
 }
 
-fn value_at<D: Degree>(file: &[u8], row: &[u8]) -> Result<[i64; 4], Fault> {
+fn value_at<D: Degree>(file: &[u8], row: &[u8]) -> Result<Value, Fault> {
     let table = read::<D, false>(file)?;
     let value = rows::value(&table, row)?;
     let mut parts = [0; 4];
     parts[..D::PARTS].copy_from_slice(value.as_ref());
-    Ok(parts)
+    let degree = D::PARTS;
+    Ok(Value { parts, degree })
 }
 
 fn author(number: u8, place: usize) -> Fault {

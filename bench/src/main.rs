@@ -1,8 +1,9 @@
-//! Times the static library against a fast form of the reference and prints the results as Markdown: `bench [--agree | --quick]`.
+//! Times the static library against a fast form of the reference and prints the results as Markdown: `bench [--two] [--agree | --quick]`.
 //! `bench --repeat TABLE CALL library|fast` makes one call again and again for some seconds, for a profiler.
 //!
 //! Before anything is timed, library and fast form are compared with the reference, on the tables to be timed and on damaged ones;
-//! `--agree` does only that. `--quick` takes fewer batches.
+//! `--agree` does only that. `--quick` takes fewer batches. `--two` is for a library from before job 8: it leaves out the tables of degree
+//! three and four, and compares the timed calls alone, since such a library says 3 of files that are now judged further.
 #![deny(unsafe_code)]
 
 mod agree;
@@ -54,18 +55,25 @@ use timing::Effort;
 
 fn main() -> ExitCode {
     let arguments: Vec<String> = env::args().skip(1).collect();
-    let words: Vec<&str> = arguments.iter().map(String::as_str).collect();
+    let mut words: Vec<&str> = arguments.iter().map(String::as_str).collect();
+    let two = words.first() == Some(&"--two");
+    if two {
+        words.remove(0);
+    }
+    let most = if two { 2 } else { 4 };
     let effort = match words[..] {
         [] => Some(Effort::FULL),
         ["--quick"] => Some(Effort::QUICK),
         ["--agree"] => None,
-        ["--repeat", table, call, subject] => return report::repeat(table, call, subject),
+        ["--repeat", table, call, subject] => return report::repeat(table, call, subject, most),
         _ => {
-            eprintln!("usage: bench [--agree | --quick | --repeat TABLE CALL library|fast]");
+            eprintln!(
+                "usage: bench [--two] [--agree | --quick | --repeat TABLE CALL library|fast]"
+            );
             return ExitCode::from(2);
         }
     };
-    match agree::compare_all() {
+    match agree::compare_all(most) {
         Ok(tally) => println!(
             "Library, fast form and reference gave the same answers and buffers in {} calls; refusals among them: {:?}.\n",
             tally.calls, tally.refusals
@@ -76,7 +84,7 @@ fn main() -> ExitCode {
         }
     }
     if let Some(effort) = effort {
-        report::print(effort);
+        report::print(effort, most);
     }
     ExitCode::SUCCESS
 }

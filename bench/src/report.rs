@@ -64,19 +64,18 @@ impl Sheet {
     }
 }
 
-/// Measures everything and prints it.
-pub fn print(effort: Effort) {
+/// Measures everything on tables up to some degree and prints it.
+pub fn print(effort: Effort, most: usize) {
     println!("Nanoseconds a call, the quickest of many batches that took turns. Caches are warm; buffers were not cleared between");
     println!("calls, so a sum is written over the sum before it. The tables:\n");
-    for sample in tables::samples() {
+    let samples = tables::samples(most);
+    for sample in &samples {
         println!("- {}", sample.name);
     }
-    let mut sheets = vec![comparison()];
+    let mut sheets = vec![comparison(&samples)];
     sheets.extend(tables::growing(LEAVES).map(|(family, samples)| leaf_growth(family, &samples)));
-    let accepted = tables::samples()
-        .into_iter()
-        .filter(|sample| sample.accepted);
-    sheets.extend(accepted.map(|sample| digit_growth(&sample)));
+    let accepted = samples.iter().filter(|sample| sample.accepted);
+    sheets.extend(accepted.map(digit_growth));
     for _ in 0..effort.rounds {
         let lines = sheets.iter_mut().flat_map(|sheet| &mut sheet.lines);
         lines
@@ -92,19 +91,16 @@ fn short_name(sample: &Sample) -> &str {
 }
 
 /// The main comparison: all tables, rows of 256 digits.
-fn comparison() -> Sheet {
+fn comparison(samples: &[Sample]) -> Sheet {
     let mut lines = Vec::new();
-    for sample in tables::samples() {
-        for job in jobs(&sample, 256) {
+    for sample in samples {
+        for job in jobs(sample, 256) {
             let mut subjects = vec![LIBRARY, FAST];
             if job.name == "check" && sample.accepted {
                 subjects.push(BY_PAIRS);
             }
             let race = Race::new(&subjects, job.calls, &job.lent);
-            lines.push((
-                format!("{} | {}", short_name(&sample), job.name),
-                vec![race],
-            ));
+            lines.push((format!("{} | {}", short_name(sample), job.name), vec![race]));
         }
     }
     let columns = [
@@ -172,12 +168,12 @@ fn growth(title: String, cases: Vec<(String, Vec<Job>)>) -> Sheet {
 }
 
 /// Makes one call again and again.
-pub fn repeat(table: &str, call: &str, subject: &str) -> ExitCode {
+pub fn repeat(table: &str, call: &str, subject: &str, most: usize) -> ExitCode {
     let subject = match subject {
         "library" => LIBRARY,
         _ => FAST,
     };
-    let samples = tables::samples();
+    let samples = tables::samples(most);
     let sample = samples.iter().find(|sample| short_name(sample) == table);
     let jobs = sample.map(|sample| jobs(sample, 256)).into_iter().flatten();
     let Some(job) = jobs.into_iter().find(|job| job.name == call) else {

@@ -3,7 +3,7 @@
 use reference::{Fault, Group};
 
 use crate::fast::{self, Pairs};
-use crate::interface::{Call, Calls, Lent, ANSWER_WORDS, FACTS, FAULT, PARTS, TOO_SHORT};
+use crate::interface::{Call, Calls, Lent, ANSWER_WORDS, FACTS, FAULT, TOO_SHORT};
 
 /// The fast form, with one of its ways through the pairs of rule 14.
 pub struct Fast(pub Pairs);
@@ -31,9 +31,7 @@ impl Calls for Fast {
                 let edited = fast::edit(table, [first, second], sum, [row, place, digit]);
                 store(answer, edited, words)
             }
-            Call::Value => store(answer, fast::value(table, first), |parts| {
-                std::array::from_fn::<i64, PARTS, _>(|part| parts[part])
-            }),
+            Call::Value => store(answer, fast::value(table, first), |value| value),
             Call::Run | Call::Midpoint { .. } | Call::Tern | Call::Bin => {
                 unreachable!("not a timed call")
             }
@@ -46,15 +44,17 @@ fn words<const N: usize>(facts: [usize; N]) -> [i64; N] {
 }
 
 /// Writes an answer as the C interface does; what the call returns.
-fn store<F, const N: usize>(
+fn store<F, W: AsRef<[i64]>>(
     words: &mut [i64],
     answer: Result<F, Fault>,
-    facts: impl FnOnce(F) -> [i64; N],
+    facts: impl FnOnce(F) -> W,
 ) -> u64 {
     match answer {
         Ok(known) => {
+            let facts = facts(known);
+            let facts = facts.as_ref();
             words[0] = 0;
-            words[1..=N].copy_from_slice(&facts(known));
+            words[1..=facts.len()].copy_from_slice(facts);
             FACTS
         }
         Err(fault) => {

@@ -2,7 +2,7 @@
 
 use std::ops::RangeInclusive;
 
-use reference::{Base, Element, Parts, DEGREES};
+use reference::{Base, Element, Parts};
 
 use crate::codes;
 use crate::lifts;
@@ -20,8 +20,8 @@ pub struct Sample {
     pub accepted: bool,
 }
 
-/// The tables of the main comparison; those of degree three and four where the calls take them.
-pub fn samples() -> Vec<Sample> {
+/// The tables of the main comparison, up to some degree.
+pub fn samples(most: usize) -> Vec<Sample> {
     let accepted = |name: &str, parts| sample(name, parts, true);
     let mut samples = vec![
         accepted("TERN", reference::carried::tern_parts()),
@@ -29,13 +29,10 @@ pub fn samples() -> Vec<Sample> {
         accepted("many inputs", many_inputs()),
         accepted("deep", deep()),
         sample("all inputs", all_inputs(), false),
+        accepted("degree three", degree_three()),
+        accepted("degree four", degree_four()),
     ];
-    if DEGREES.contains(&3) {
-        samples.push(accepted("degree three", degree_three()));
-    }
-    if DEGREES.contains(&4) {
-        samples.push(accepted("degree four", degree_four()));
-    }
+    samples.retain(|sample| sample.parts.degree() <= most);
     samples
 }
 
@@ -106,7 +103,7 @@ fn many_inputs() -> Parts {
     parts
 }
 
-/// A base whose cube is a whole number, in terms of another ω, with nearly 4,000 leaves.
+/// A base whose cube is a whole number, in terms of another ω, as the search finds it.
 fn degree_three() -> Parts {
     let mut random = Random::new(1);
     loop {
@@ -114,8 +111,7 @@ fn degree_three() -> Parts {
         let mut moved = found
             .iter()
             .filter_map(|parts| lifts::moved(parts, &mut random));
-        if let Some(mut parts) = moved.find(uses_all_parts) {
-            refine(&mut parts, codes::MOST_LEAVES, 6);
+        if let Some(parts) = moved.find(uses_all_parts) {
             return parts;
         }
     }

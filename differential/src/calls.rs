@@ -83,8 +83,12 @@ extern "C" {
     fn yoyomyrtle_midpoint(
         a1: i32,
         b1: i32,
+        c1: i32,
+        d1: i32,
         a2: i32,
         b2: i32,
+        c2: i32,
+        d2: i32,
         answer: *mut i64,
         answer_len: usize,
     ) -> u64;
@@ -121,9 +125,9 @@ impl Calls for Library {
                 ),
                 Call::Run => run(lent),
                 Call::Value => yoyomyrtle_value(table, table_len, first, first_len, answer, words),
-                Call::Midpoint { x, y } => {
-                    yoyomyrtle_midpoint(x[0], x[1], y[0], y[1], answer, words)
-                }
+                Call::Midpoint { x, y } => yoyomyrtle_midpoint(
+                    x[0], x[1], x[2], x[3], y[0], y[1], y[2], y[3], answer, words,
+                ),
                 Call::Tern => yoyomyrtle_tern(sum, sum_len),
                 Call::Bin => yoyomyrtle_bin(sum, sum_len),
             }

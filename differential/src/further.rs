@@ -4,7 +4,7 @@
 use std::collections::BTreeSet;
 
 use reference::file::{self, Contents};
-use reference::{Element, Operation, DEGREES};
+use reference::{Element, Operation};
 
 /// The digits of a file that passes 1 to 4.
 pub struct Digits {
@@ -18,7 +18,7 @@ impl Digits {
     pub fn of(file: &[u8]) -> Option<Self> {
         let Contents {
             alphabet, inputs, ..
-        } = file::read(file, DEGREES).ok()?;
+        } = file::read(file).ok()?;
         let of_digit = |x| Operation::Sum.with_each(x, &alphabet);
         let sums = alphabet.iter().flat_map(of_digit).collect();
         Some(Digits {

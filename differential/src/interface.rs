@@ -3,11 +3,10 @@
 /// The words that the answer array has at least; a call with fewer does nothing and returns `TOO_SHORT`.
 pub const ANSWER_WORDS: usize = 8;
 
-/// The parts of a public element, those above the degree zero: two as long as no other degree is known, four from job 8 on.
-pub const PARTS: usize = if reference::DEGREES.len() > 1 { 4 } else { 2 };
+/// The parts of an element that is passed by value, whatever the degree of the ring that it is meant in.
+pub const PARTS: usize = 4;
 
-/// An element that is passed by value. A call takes the first `PARTS` of its parts.
-pub type Passed = [i32; 4];
+pub type Passed = [i32; PARTS];
 
 /// What a call returns for facts.
 pub const FACTS: u64 = 0;
@@ -70,6 +69,11 @@ pub struct Lent {
 }
 
 impl Lent {
+    /// The degree of a table past rule 3, as its directory tells it.
+    pub fn degree(&self) -> usize {
+        usize::from(u16::from_le_bytes([self.table[2], self.table[3]])) / 4
+    }
+
     /// The numbers of the edits that are listed whole and have room for their answers.
     pub fn asked(&self) -> Vec<(u64, u64, u64)> {
         let told = self.whose.iter().zip(&self.numbers).zip(&self.values);

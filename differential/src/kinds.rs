@@ -4,8 +4,6 @@
 mod degrees;
 mod reach;
 
-use reference::DEGREES;
-
 use crate::further::{self, Digits};
 use crate::interface::{Call, Lent};
 use crate::tally::Outcome;
@@ -107,16 +105,8 @@ pub enum Kind {
 }
 
 impl Kind {
-    /// The kinds that cases of today's degrees can meet.
-    pub fn wanted() -> Vec<Kind> {
-        let mut all = Kind::OF_TWO.to_vec();
-        if DEGREES.len() > 1 {
-            all.extend(Kind::BEYOND_TWO);
-        }
-        all
-    }
-
-    const OF_TWO: [Kind; 40] = [
+    /// All of them, for the report of those that a run missed.
+    pub const ALL: [Kind; 61] = [
         Kind::Subtracted,
         Kind::SubtractedByFurther,
         Kind::UnlistedFromZero,
@@ -157,9 +147,6 @@ impl Kind {
         Kind::ReachGained,
         Kind::ReachLost,
         Kind::BaseBetweenDegrees,
-    ];
-
-    const BEYOND_TWO: [Kind; 21] = [
         Kind::RecordsOfOtherDegree,
         Kind::OverTheLimitOfFour,
         Kind::WideBaseOfThree,

@@ -4,7 +4,7 @@ use reference::by_table;
 use reference::table::{self, Reading};
 use reference::{Answer, EditFacts, Group, Operation, RowFacts};
 
-use crate::interface::{Call, Calls, Lent, ANSWER_WORDS, FACTS, FAULT, PARTS, TOO_SHORT};
+use crate::interface::{Call, Calls, Lent, ANSWER_WORDS, FACTS, FAULT, TOO_SHORT};
 
 /// The reference as an implementation of the interface.
 pub struct Model;
@@ -22,7 +22,7 @@ pub fn call_by(read: impl Fn(&[u8]) -> Reading, call: &Call, lent: &mut Lent) ->
         Call::Bin => write_carried(&reference::bin(), &mut lent.sum),
         _ if lent.answer.len() < ANSWER_WORDS => TOO_SHORT,
         Call::Midpoint { x, y } => {
-            let half = reference::midpoint(&x[..PARTS], &y[..PARTS]);
+            let half = reference::midpoint(&x, &y);
             let parts = half.into_iter().map(i64::from).collect();
             store(Answer::Facts(parts), &mut lent.answer)
         }
@@ -81,11 +81,7 @@ fn answer(reading: &Reading, call: &Call, lent: &mut Lent) -> Answer<Vec<i64>> {
                 one(answers.len())
             })
         }
-        Call::Value => facts(by_table::value(reading, first), |x| {
-            let mut parts = x.parts;
-            parts.resize(PARTS, 0);
-            parts
-        }),
+        Call::Value => facts(by_table::value(reading, first), |x| x.parts),
         Call::Midpoint { .. } | Call::Tern | Call::Bin => Answer::Facts(Vec::new()),
     }
 }

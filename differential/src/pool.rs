@@ -1,6 +1,6 @@
 //! The tables of a run.
 
-use reference::{carried, Parts, ALL_DEGREES, DEGREES};
+use reference::{carried, Parts, DEGREES};
 
 use crate::codes::{self, depth, MOST_LEAVES};
 use crate::lifts;
@@ -41,19 +41,18 @@ impl Shelf {
     }
 }
 
-/// A degree that rule 3 lets pass, degree two in half of the cases; seldom any.
+/// A degree, two in half of the cases.
 pub fn random_degree(random: &mut Random) -> usize {
-    match random.below(12) {
-        0 => random.pick(ALL_DEGREES),
-        1..=3 => 2,
-        _ => random.pick(DEGREES),
+    match random.one_in(4) {
+        true => 2,
+        false => random.pick(&DEGREES),
     }
 }
 
 /// The tables of a run.
 pub struct Pool {
-    /// Ones that are accepted where rule 3 lets their degree pass: found by the search, with input digits beyond the sums too, the two
-    /// carried ones, and what becomes of them in larger rings.
+    /// Ones that are accepted: found by the search, with input digits beyond the sums too, the two carried ones, and what becomes of them
+    /// in larger rings.
     pub tables: Shelf,
     /// Those of them that are at most two deep.
     pub shallow: Shelf,

@@ -7,7 +7,7 @@
 
 use std::collections::HashMap;
 
-use reference::{by_table, table, Answer, Base, Element, Parts, ALL_DEGREES};
+use reference::{Answer, Base, Element, Parts};
 
 use crate::division::{Dividend, Division};
 use crate::random::Random;
@@ -64,10 +64,9 @@ pub fn weights(system: &System, random: &mut Random) -> Option<Parts> {
     is_accepted(&parts).then_some(parts)
 }
 
-/// The check accepts the table, once the reference takes its degree.
+/// The reference's check accepts the table.
 pub fn is_accepted(parts: &Parts) -> bool {
-    let reading = table::read_by(&parts.write(), ALL_DEGREES);
-    matches!(by_table::check(&reading), Answer::Facts(_))
+    matches!(reference::check(&parts.write()), Answer::Facts(_))
 }
 
 /// Some of the weights of Q, a bit for each.

@@ -119,7 +119,7 @@ impl<'a> Comparison<'a> {
             .map(|number| format!("{number}: {}", self.of_number(*number)))
             .collect();
         println!("by refusal number: {}", by_number.join(", "));
-        let by_kind: Vec<String> = Kind::wanted()
+        let by_kind: Vec<String> = Kind::ALL
             .into_iter()
             .map(|kind| format!("{kind:?}: {}", self.of_kind(kind)))
             .collect();
@@ -146,7 +146,7 @@ impl<'a> Comparison<'a> {
     fn not_reached(&self) -> Vec<String> {
         let numbers = crate::wrong::NUMBERS.into_iter();
         let numbers = numbers.filter(|number| self.of_number(*number) == 0);
-        let kinds = Kind::wanted().into_iter();
+        let kinds = Kind::ALL.into_iter();
         let kinds = kinds.filter(|kind| self.of_kind(*kind) == 0);
         let numbers = numbers.map(|number| number.to_string());
         numbers

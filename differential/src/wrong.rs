@@ -9,7 +9,7 @@ use std::cell::Cell;
 
 use reference::Element;
 
-use crate::interface::{Call, Calls, Lent, FACTS, FAULT, PARTS, TOO_SHORT};
+use crate::interface::{Call, Calls, Lent, FACTS, FAULT, TOO_SHORT};
 use crate::model::Model;
 
 /// What is wrong with an implementation that is otherwise the reference.
@@ -57,6 +57,8 @@ pub enum Mistake {
     MidpointWraps,
     /// A part of the midpoint is always zero.
     MidpointDrops(usize),
+    /// A part of the second element is taken from the first.
+    MidpointTwice(usize),
     /// The answer's last word is written too.
     AnswerOverrun,
     /// A short answer array is filled as far as it reaches.
@@ -294,7 +296,6 @@ impl Wrong {
         let value = digits.fold(zero, |total, digit| &table.base.times(&total) + digit);
         if value.parts.iter().all(|part| i32::try_from(*part).is_ok()) {
             lent.answer[0] = 0;
-            lent.answer[1..=PARTS].fill(0);
             lent.answer[1..][..value.parts.len()].copy_from_slice(&value.parts);
         }
     }

@@ -3,6 +3,7 @@
 use crate::answer::{author, Fault};
 use crate::element::Element;
 use crate::ring::Base;
+use crate::DEGREES;
 
 /// Bytes of the directory: five pairs of two 16-bit numbers.
 pub const DIRECTORY: usize = 20;
@@ -28,10 +29,10 @@ pub struct Contents {
     pub words: Vec<u8>,
 }
 
-/// Rules 1 to 4, with the degrees that rule 3 is to let pass.
-pub fn read(file: &[u8], degrees: &[usize]) -> Result<Contents, Fault> {
+/// Rules 1 to 4.
+pub fn read(file: &[u8]) -> Result<Contents, Fault> {
     let sections = read_sections(file)?;
-    let form = Form::of(&sections, degrees)?;
+    let form = Form::of(&sections)?;
     form.check_sizes(file, &sections)?;
     Ok(form.contents(&sections))
 }
@@ -81,11 +82,10 @@ impl Form {
     }
 
     /// Rule 3: section 0 tells the degree d by its 4d bytes, and the others are judged by it.
-    fn of(sections: &Sections, degrees: &[usize]) -> Result<Self, Fault> {
-        let degree = sections[0].len() / 4;
-        let told = sections[0].len() == 4 * degree && degrees.contains(&degree);
-        author(told, 3, 0)?;
-        let form = Form::of_degree(degree);
+    fn of(sections: &Sections) -> Result<Self, Fault> {
+        let told = DEGREES.into_iter().find(|d| sections[0].len() == 4 * d);
+        author(told.is_some(), 3, 0)?;
+        let form = Form::of_degree(told.unwrap_or_default());
         form.check_lengths(sections)?;
         Ok(form)
     }

@@ -19,11 +19,8 @@ pub mod reach;
 pub mod ring;
 pub mod table;
 
-/// The degrees of the calls: rule 3 lets no others pass. All is written for every degree, so that job 8 needs nothing here but `ALL_DEGREES`.
-pub const DEGREES: &[usize] = &[2];
-
-/// The degrees of job 8.
-pub const ALL_DEGREES: &[usize] = &[2, 3, 4];
+/// The degrees of a ring that rule 3 lets pass (job 8).
+pub const DEGREES: [usize; 3] = [2, 3, 4];
 
 pub use answer::{Answer, Fault, Group};
 pub use by_table::{Asked, EditFacts, RowFacts, TableFacts};

@@ -6,7 +6,6 @@ use crate::answer::{author, Fault};
 use crate::element::{Element, Operation};
 use crate::file::{self, Contents, LeafRecord};
 use crate::ring::Base;
-use crate::DEGREES;
 
 /// The longest word, and the length of the strings that rule 12 speaks of.
 pub const LONGEST_WORD: usize = 8;
@@ -37,12 +36,7 @@ pub type Reading = Result<Table, Fault>;
 
 /// Rules 1 to 13.
 pub fn read(bytes: &[u8]) -> Reading {
-    read_by(bytes, DEGREES)
-}
-
-/// The same with the degrees that rule 3 is to let pass.
-pub fn read_by(bytes: &[u8], degrees: &[usize]) -> Reading {
-    let contents = file::read(bytes, degrees)?;
+    let contents = file::read(bytes)?;
     author(!contents.base.splits(), 5, 0)?;
     author(contents.base.passes(), 6, 0)?;
     judge(contents)

@@ -1,16 +1,12 @@
-//! Degrees three and four (job 8), by the reader for all degrees, whichever the calls take today.
+//! Degrees three and four (job 8).
 
-use reference::table::{self, Reading};
-use reference::{assemble, by_table, carried, check, Answer, Element, Fault, Group, Operation};
-use reference::{Parts, RowFacts, TableFacts, ALL_DEGREES, DEGREES};
-
-fn read(file: &[u8]) -> Reading {
-    table::read_by(file, ALL_DEGREES)
-}
+use reference::table::read;
+use reference::{assemble, by_table, carried, check, Answer, Element, Group, Operation};
+use reference::{Parts, RowFacts, TableFacts, DEGREES};
 
 /// What the check says of a file: facts, or number and place.
 fn said(file: &[u8]) -> Result<TableFacts, (u8, usize)> {
-    match by_table::check(&read(file)) {
+    match check(file) {
         Answer::Facts(facts) => Ok(facts),
         Answer::Fault(fault) => Err((fault.number, fault.place)),
     }
@@ -44,22 +40,6 @@ fn bin_of(degree: usize) -> Parts {
 }
 
 #[test]
-fn the_calls_take_the_degrees_of_today() {
-    for degree in 3..=4 {
-        let three = Fault {
-            group: Group::Author,
-            number: 3,
-            place: 0,
-        };
-        let expected = match DEGREES.contains(&degree) {
-            true => Answer::Facts(facts(2, 13, 3)),
-            false => Answer::Fault(three),
-        };
-        assert_eq!(check(&bin_of(degree).write()), expected);
-    }
-}
-
-#[test]
 fn tables_of_each_degree() {
     assert_eq!(said(&bin_of(3).write()), Ok(facts(2, 13, 3)));
     assert_eq!(said(&bin_of(4).write()), Ok(facts(2, 13, 3)));
@@ -78,10 +58,10 @@ fn tables_of_each_degree() {
 
 #[test]
 fn section_0_tells_the_degree() {
-    for degree in ALL_DEGREES {
+    for degree in DEGREES {
         let sections = match degree {
             2 => carried::bin_parts().sections(),
-            _ => bin_of(*degree).sections(),
+            _ => bin_of(degree).sections(),
         };
         for length in (0..=24).filter(|length| *length != 4 * degree) {
             let mut other = sections.clone();
@@ -123,16 +103,16 @@ fn records_have_the_degrees_parts() {
 
 #[test]
 fn sizes_of_numbers() {
-    for degree in ALL_DEGREES {
+    for degree in DEGREES {
         let parts = match degree {
             2 => carried::bin_parts(),
-            _ => bin_of(*degree),
+            _ => bin_of(degree),
         };
-        let base = if *degree == 4 { 32 } else { 64 };
+        let base = if degree == 4 { 32 } else { 64 };
         let (element, leaf) = (2 * degree, 4 + 2 * degree);
         let starts = [0, 4 * degree, 4 * degree + 3 * element];
         let leaves = starts[2] + 5 * element;
-        for part in 0..*degree {
+        for part in 0..degree {
             let places = [
                 (2 * part, base),
                 (2 * (degree + part), base),

@@ -35,8 +35,8 @@ pub struct Sections<'a, D: Degree> {
 /// The degree that the base section tells, if it is one of those known; else two, by which rule 3 is broken.
 pub fn degree_told(file: &[u8]) -> usize {
     let told = file.get(2..4).map_or(0, |bytes| unsigned(bytes, 0));
-    let known = reference::DEGREES.iter().find(|d| 4 * **d == told);
-    known.copied().unwrap_or(2)
+    let known = reference::DEGREES.into_iter().find(|d| 4 * d == told);
+    known.unwrap_or(2)
 }
 
 /// The sections, if no rule of 1 to 6 is broken outside section 3.

@@ -4,10 +4,9 @@
 ghost use mathlib.Core.Path.{_≡_};
 ghost use mathlib.Core.List.{[], _∷_};
 ghost use lib.ListN.{length};
-ghost use lib.IntN.{pos};
 ghost use Rattle.lists.specs.Overwrite.{overwrite};
 ghost use Rattle.faults.specs.Outcome.{facts};
-ghost use Rattle.ring.specs.declared.Degree.the-variants.{Two};
+ghost use Rattle.ring.specs.declared.Degree.the-variants.{Four};
 ghost use Rattle.layout_rules.specs.Section.{degreeIn};
 ghost use Rattle.midpoint.specs.Midpoint.{midpointOf};
 ghost use Rattle.table_rules.specs.Check.{checkOutcome};
@@ -123,11 +122,23 @@ pub extern "C" fn yoyomyrtle_value(table: &[u8], row: &[u8], answer: &mut [i64])
     answers::valued(degree, answer, value_call::value(table, row))
 }
 
+// It takes and tells all four parts, so that it needs no degree and no input is wrong: a caller of a smaller degree gives zeros above it, and
+// the midpoint of two zeros is zero.
 #[no_mangle]
-pub extern "C" fn yoyomyrtle_midpoint(a1: i32, b1: i32, a2: i32, b2: i32, answer: &mut [i64]) -> u64
-    ensures outcome { λ r. ⌜ r ≡ returned (facts (midpointOf (a1 ∷ b1 ∷ pos 0 ∷ pos 0 ∷ []) (a2 ∷ b2 ∷ pos 0 ∷ pos 0 ∷ []))) (now (answer .entry)) ⌝ }
+pub extern "C" fn yoyomyrtle_midpoint(
+    a1: i32,
+    b1: i32,
+    c1: i32,
+    d1: i32,
+    a2: i32,
+    b2: i32,
+    c2: i32,
+    d2: i32,
+    answer: &mut [i64],
+) -> u64
+    ensures outcome { λ r. ⌜ r ≡ returned (facts (midpointOf (a1 ∷ b1 ∷ c1 ∷ d1 ∷ []) (a2 ∷ b2 ∷ c2 ∷ d2 ∷ []))) (now (answer .entry)) ⌝ }
     ensures answer { λ r. ⌜ now (answer .exit)
-        ≡ answered (elementWords Two) (facts (midpointOf (a1 ∷ b1 ∷ pos 0 ∷ pos 0 ∷ []) (a2 ∷ b2 ∷ pos 0 ∷ pos 0 ∷ []))) (now (answer .entry)) ⌝ }
+        ≡ answered (elementWords Four) (facts (midpointOf (a1 ∷ b1 ∷ c1 ∷ d1 ∷ []) (a2 ∷ b2 ∷ c2 ∷ d2 ∷ []))) (now (answer .entry)) ⌝ }
 {
     if answer.len() < 8 {
         return 2;
@@ -135,16 +146,16 @@ pub extern "C" fn yoyomyrtle_midpoint(a1: i32, b1: i32, a2: i32, b2: i32, answer
     let x = Element {
         a: a1,
         b: b1,
-        c: 0,
-        d: 0,
+        c: c1,
+        d: d1,
     };
     let y = Element {
         a: a2,
         b: b2,
-        c: 0,
-        d: 0,
+        c: c2,
+        d: d2,
     };
-    let degree = Degree::Two;
+    let degree = Degree::Four;
     answer_words::put_element(degree, answer, midpoint::midpoint(x, y))
 }
 

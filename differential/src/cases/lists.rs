@@ -4,7 +4,7 @@ use reference::{Element, Operation, Parts};
 
 use super::lending::{answer_array, lend, spoil_rows};
 use crate::codes::depth;
-use crate::interface::{Call, Lent, PARTS};
+use crate::interface::{Call, Lent};
 use crate::kinds::Kind;
 use crate::needles;
 use crate::pool::Pool;
@@ -59,7 +59,7 @@ fn row_values(call: Call, comparison: &mut Comparison, lent: &Lent) {
         let mut apart = lent.clone();
         apart.first = row.to_vec();
         let given = comparison.call(Call::Value, &mut apart) == Outcome::Facts;
-        given.then(|| Element::new(&apart.answer[1..=PARTS]))
+        given.then(|| Element::new(&apart.answer[1..=lent.degree()]))
     };
     let (Some(first), Some(second)) = (value(&lent.first), value(&lent.second)) else {
         return;

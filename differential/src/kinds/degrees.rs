@@ -3,7 +3,7 @@
 
 use reference::file::{self, Contents};
 use reference::ring::determinant;
-use reference::{table, Base, Element, DEGREES};
+use reference::{table, Base, Element};
 
 use super::Kind;
 use crate::interface::{Call, Lent, PARTS};
@@ -19,7 +19,7 @@ pub fn met(call: &Call, outcome: Outcome, lent: &Lent) -> Vec<(bool, Kind)> {
     let Some(length) = base_length(call, outcome, lent) else {
         return Vec::new();
     };
-    let beyond = length > 8 && DEGREES.contains(&(length / 4));
+    let beyond = length > 8;
     match (call, outcome) {
         (Call::Check, Outcome::Fault(3)) => sections(length, lent.answer[2]),
         _ if !beyond => Vec::new(),
@@ -83,7 +83,7 @@ fn two_parts_fit(lent: &Lent) -> bool {
 
 /// Of a value that is given.
 fn given(lent: &Lent) -> Vec<(bool, Kind)> {
-    let mut high = lent.answer[..=PARTS].iter().skip(3);
+    let mut high = lent.answer[..=lent.degree()].iter().skip(3);
     let at_limit = high.any(|part| part.abs() == i64::from(i32::MAX));
     vec![
         (true, Kind::ValueBeyondTwo),
@@ -93,7 +93,7 @@ fn given(lent: &Lent) -> Vec<(bool, Kind)> {
 
 /// Of a file beyond degree two that passes 1 to 4.
 fn checked(outcome: Outcome, lent: &Lent) -> Vec<(bool, Kind)> {
-    let Ok(contents) = file::read(&lent.table, DEGREES) else {
+    let Ok(contents) = file::read(&lent.table) else {
         return Vec::new();
     };
     let Contents { base, leaves, .. } = &contents;

@@ -46,12 +46,13 @@ pub enum Slip {
     ColumnTooFew,
     /// Rule 28 looks at two parts.
     LimitOfTwoParts,
-    /// The last part of a value is told as zero, or the words above the degree keep their contents.
+    /// The last part of a value is told as zero or not at all, or zeros are told above it.
     LastPartZero,
-    HighPartsKept,
+    LastPartKept,
+    ZerosAbove,
 }
 
-/// The mistakes of this file that files of today's degrees can show.
+/// The mistakes of this file.
 pub fn mistakes() -> Vec<Mistake> {
     use Slip::*;
     let mut all = Vec::new();
@@ -66,13 +67,14 @@ pub fn mistakes() -> Vec<Mistake> {
             RecordsHighestFirst,
             Rule5,
             LastPartZero,
+            LastPartKept,
         ];
         match degree {
             2 => slips.push(Rule6),
             _ => slips.extend([
                 RecordsOfFour,
                 LeavesByBytes,
-                BaseLimit(if *degree == 4 { 64 } else { 32 }),
+                BaseLimit(if degree == 4 { 64 } else { 32 }),
                 SizesAsAtTwo,
                 Passes(-1),
                 Passes(0),
@@ -84,14 +86,11 @@ pub fn mistakes() -> Vec<Mistake> {
                 LimitOfTwoParts,
             ]),
         }
-        if *degree < PARTS {
-            slips.push(HighPartsKept);
+        if degree < PARTS {
+            slips.push(ZerosAbove);
         }
-        all.extend(
-            slips
-                .into_iter()
-                .map(|slip| Mistake::AtDegree(*degree, slip)),
-        );
+        let at_degree = |slip| Mistake::AtDegree(degree, slip);
+        all.extend(slips.into_iter().map(at_degree));
     }
     all
 }
@@ -286,8 +285,12 @@ fn spoil(
             lent.answer[degree] = 0;
             returned
         }
-        (Slip::HighPartsKept, Call::Value) if returned == FACTS => {
-            lent.answer[1 + degree..=PARTS].copy_from_slice(&before.answer[1 + degree..=PARTS]);
+        (Slip::LastPartKept, Call::Value) if returned == FACTS => {
+            lent.answer[degree] = before.answer[degree];
+            returned
+        }
+        (Slip::ZerosAbove, Call::Value) if returned == FACTS => {
+            lent.answer[1 + degree..=PARTS].fill(0);
             returned
         }
         _ => returned,
@@ -335,9 +338,8 @@ fn value_again(table: &Table, before: &Lent, lent: &mut Lent) -> Option<u64> {
             return None;
         }
     }
-    total.parts.resize(PARTS, 0);
     lent.answer.clone_from(&before.answer);
     lent.answer[0] = 0;
-    lent.answer[1..=PARTS].copy_from_slice(&total.parts);
+    lent.answer[1..=total.parts.len()].copy_from_slice(&total.parts);
     Some(FACTS)
 }

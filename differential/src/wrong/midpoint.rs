@@ -21,6 +21,7 @@ pub fn mistakes() -> Vec<Mistake> {
         .to_vec();
     all.push(Mistake::MidpointWraps);
     all.extend((0..PARTS).map(Mistake::MidpointDrops));
+    all.extend((0..PARTS).map(Mistake::MidpointTwice));
     all
 }
 
@@ -41,13 +42,14 @@ impl Rounding {
 
 impl Wrong {
     pub(super) fn spoil_midpoint(&self, x: &Passed, y: &Passed, lent: &mut Lent) {
-        for (part, (p, q)) in x.iter().zip(y).enumerate().take(PARTS) {
+        for (part, (p, q)) in x.iter().zip(y).enumerate() {
             let half = match self.mistake {
                 Mistake::MidpointRounded(rounding) => rounding.half(i64::from(*p) + i64::from(*q)),
                 Mistake::MidpointWraps => {
                     reference::midpoint(&[p.wrapping_add(*q)], &[0])[0].into()
                 }
                 Mistake::MidpointDrops(dropped) if dropped == part => 0,
+                Mistake::MidpointTwice(taken) if taken == part => i64::from(*p),
                 _ => continue,
             };
             lent.answer[1 + part] = half;

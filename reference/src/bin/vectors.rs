@@ -43,11 +43,11 @@ impl Reader<'_> {
         self.take().map(u64::from_le_bytes)
     }
 
-    /// The degree of a midpoint: until job 8 it is two and isn't told.
+    /// The degree of a midpoint, in one byte.
     fn degree(&mut self) -> Option<usize> {
-        let told = reference::DEGREES.len() > 1;
-        let degree = if told { self.take()? } else { [2] };
-        Some(usize::from(degree[0]))
+        let [degree] = self.take()?;
+        let degree = usize::from(degree);
+        reference::DEGREES.contains(&degree).then_some(degree)
     }
 
     /// The parts of an element for the midpoint.
