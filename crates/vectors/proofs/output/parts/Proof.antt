@@ -1,7 +1,6 @@
 -- A word of at most 20 bytes and four parts of at most 12, each with its space, have room.
-use mathlib.Core.Path.{_≡_, _∙_}
+use mathlib.Core.Path.{_≡_}
 use Prim.Native.Nat.{_+_, _-_, _*_, _≤_}
-use native.Mathlib.Omega.{arith}
 use lib.ListN.{length}
 use borrow.Author.Needs.{needs}
 use Rattle.vectors.proofs.output.parts.Statement.{statement}
