@@ -161,7 +161,7 @@ fn fitting(
 // Whether every upper leaf gives alphabet digits with all lower leaves that fit.
 fn all_in(
     degree: Degree,
-    base: [[i64; 4]; 4],
+    base: &[[i64; 4]; 4],
     alphabet: &[u8],
     inputs: &[u8],
     leaves: &[u8],
@@ -172,14 +172,14 @@ fn all_in(
     first: &[usize],
     count: usize,
 ) -> bool
-    requires table { ⌜ RowsWithin (2 ^ 21) base × (0 < elementCount (ofDegree degree (now inputs)))
+    requires table { ⌜ RowsWithin (2 ^ 21) (now base) × (0 < elementCount (ofDegree degree (now inputs)))
         × (leafCheck (ofDegree degree (now leaves)) (now words) (elementCount (ofDegree degree (now inputs))) .number ≡ 0) ⌝ }
     requires room { ⌜ (leafCount (ofDegree degree (now leaves)) ≤ length (now keys)) × (leafCount (ofDegree degree (now leaves)) ≤ length (now numbers))
         × (leafCount (ofDegree degree (now leaves)) ≤ length (now sets)) × (count ≤ 64) × (count ≤ length (now first)) ⌝ }
     requires known { ⌜ Keyed (ofDegree degree (now leaves)) (now words) (now keys) (leafCount (ofDegree degree (now leaves)))
         × WeightsNumbered (ofDegree degree (now leaves)) (now numbers) (now first) count (leafCount (ofDegree degree (now leaves)))
         × Covers (now numbers) (now sets) (leafCount (ofDegree degree (now leaves))) 8 ⌝ }
-    ensures { λ r. ⌜ (r ≡ true → AllPass base (ofDegree degree (now (alphabet .entry))) (ofDegree degree (now (inputs .entry))) (ofDegree degree (now (leaves .entry)))
+    ensures { λ r. ⌜ (r ≡ true → AllPass (now (base .entry)) (ofDegree degree (now (alphabet .entry))) (ofDegree degree (now (inputs .entry))) (ofDegree degree (now (leaves .entry)))
         (now (words .entry)) (leafCount (ofDegree degree (now (leaves .entry))))) ⌝ }
 {
     let mut slots = [EMPTY; SLOTS];
@@ -240,7 +240,7 @@ fn look(
         (ofDegree degree (now (leaves .entry))) (now (words .entry)) (leafCount (ofDegree degree (now (leaves .entry))))) ⌝ }
 {
     let mut first = [0; WEIGHTS];
-    let count = weight_sets::number_weights(degree, leaves, numbers, &mut first);
+    let count = weight_sets::number_weights_by(degree, leaves, numbers, &mut first);
     if WEIGHTS < count {
         return false;
     }
@@ -249,7 +249,7 @@ fn look(
     let matrix = digits::base_of(degree, base);
     all_in(
         degree,
-        matrix,
+        &matrix,
         alphabet,
         inputs,
         leaves,
