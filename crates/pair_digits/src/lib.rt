@@ -19,7 +19,7 @@ const SLOTS: usize = 256;
 const EMPTY: u8 = 255;
 
 // What an upper leaf gives to the digits of its pairs: its first digit minus the base times its weight.
-fn upper_part(
+pub fn upper_part(
     degree: Degree,
     base: &[[i64; 4]; 4],
     inputs: &[u8],

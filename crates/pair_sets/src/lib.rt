@@ -4,6 +4,7 @@ ghost use mathlib.Core.Bool.{true};
 ghost use mathlib.Core.List.{List};
 ghost use Prim.Native.Nat.{ℕ, _+_, _-_, _<_, _≤_, _^_, pred};
 ghost use lib.ListN.{length, getD};
+ghost use Rattle.ring.specs.declared.Degree.the-variants.{Two};
 ghost use Rattle.layout_rules.specs.Section.{ofDegree};
 ghost use Rattle.ring.specs.Tests.{RowsWithin};
 ghost use Rattle.digit_rules.specs.BaseMatrix.{baseMatrix};
@@ -50,6 +51,27 @@ fn keys_of(degree: Degree, leaves: &[u8], words: &[u8], keys: &mut [u64])
         let length = leaves::word_length(degree, leaves, leaf);
         keys[leaf] = word_numbers::word_number(words, start, length);
         leaf += 1;
+    }
+}
+
+// The same with the degree as a constant where it is two, so that the size of a record is one too.
+fn keys_of_at_two(leaves: &[u8], words: &[u8], keys: &mut [u64])
+    requires room { ⌜ leafCount (ofDegree Two (now leaves)) ≤ length (now keys) ⌝ }
+    requires ordered { ⌜ WordsOrdered (ofDegree Two (now leaves)) (now words) ⌝ }
+    ensures { λ r. ⌜ Keyed (ofDegree Two (now (leaves .entry))) (now (words .entry)) (now (keys .exit)) (leafCount (ofDegree Two (now (leaves .entry)))) ⌝ }
+{
+    keys_of(Degree::Two, leaves, words, keys)
+}
+
+fn keys_of_by(degree: Degree, leaves: &[u8], words: &[u8], keys: &mut [u64])
+    requires room { ⌜ leafCount (ofDegree degree (now leaves)) ≤ length (now keys) ⌝ }
+    requires ordered { ⌜ WordsOrdered (ofDegree degree (now leaves)) (now words) ⌝ }
+    ensures { λ r. ⌜ Keyed (ofDegree degree (now (leaves .entry))) (now (words .entry)) (now (keys .exit)) (leafCount (ofDegree degree (now (leaves .entry)))) ⌝ }
+{
+    match degree {
+        Degree::Two => keys_of_at_two(leaves, words, keys),
+        Degree::Three => keys_of(degree, leaves, words, keys),
+        Degree::Four => keys_of(degree, leaves, words, keys),
     }
 }
 
@@ -244,7 +266,7 @@ fn look(
     if WEIGHTS < count {
         return false;
     }
-    keys_of(degree, leaves, words, keys);
+    keys_of_by(degree, leaves, words, keys);
     weight_sets::eights(numbers, leaves::leaf_count(degree, leaves), sets);
     let matrix = digits::base_of(degree, base);
     all_in(

@@ -204,43 +204,7 @@ fn good_set(
     good
 }
 
-// The same with the degree as a constant where it is two, as above.
-fn good_set_at_two(
-    alphabet: &[u8],
-    slots: &[u8; SLOTS],
-    part: [i64; 4],
-    leaves: &[u8],
-    first: &[usize],
-    count: usize,
-) -> u64
-    requires part { ⌜ Slotted (ofDegree Two (now alphabet)) (now slots) × Within (2 ^ 55 + 32768) part ⌝ }
-    requires weights { ⌜ (count ≤ 64) × (count ≤ length (now first)) ⌝ }
-    ensures { λ r. ⌜ Good (ofDegree Two (now (alphabet .entry))) (ofDegree Two (now (leaves .entry))) (now (first .entry)) part r ⌝ }
-{
-    good_set(Degree::Two, alphabet, slots, part, leaves, first, count)
-}
-
-fn good_set_by(
-    degree: Degree,
-    alphabet: &[u8],
-    slots: &[u8; SLOTS],
-    part: [i64; 4],
-    leaves: &[u8],
-    first: &[usize],
-    count: usize,
-) -> u64
-    requires part { ⌜ Slotted (ofDegree degree (now alphabet)) (now slots) × Within (2 ^ 55 + 32768) part ⌝ }
-    requires weights { ⌜ (count ≤ 64) × (count ≤ length (now first)) ⌝ }
-    ensures { λ r. ⌜ Good (ofDegree degree (now (alphabet .entry))) (ofDegree degree (now (leaves .entry))) (now (first .entry)) part r ⌝ }
-{
-    match degree {
-        Degree::Two => good_set_at_two(alphabet, slots, part, leaves, first, count),
-        Degree::Three => good_set(degree, alphabet, slots, part, leaves, first, count),
-        Degree::Four => good_set(degree, alphabet, slots, part, leaves, first, count),
-    }
-}
-
-// The weights that give alphabet digits with an upper leaf. A function of its own, so that nothing is made ready for it where it isn't called.
+// The weights that give alphabet digits with an upper leaf.
 fn judge(
     degree: Degree,
     base: &[[i64; 4]; 4],
@@ -259,8 +223,97 @@ fn judge(
     ensures { λ r. ⌜ Good (ofDegree degree (now (alphabet .entry))) (ofDegree degree (now (leaves .entry))) (now (first .entry))
         (upperPart (now (base .entry)) (ofDegree degree (now (inputs .entry))) (ofDegree degree (now (leaves .entry))) (now (words .entry)) upper) r ⌝ }
 {
-    let part = pair_digits::upper_part_by(degree, base, inputs, leaves, words, upper);
-    good_set_by(degree, alphabet, slots, part, leaves, first, count)
+    let part = pair_digits::upper_part(degree, base, inputs, leaves, words, upper);
+    good_set(degree, alphabet, slots, part, leaves, first, count)
+}
+
+// The same with the degree as a constant where it is two, as above.
+fn judge_at_two(
+    base: &[[i64; 4]; 4],
+    alphabet: &[u8],
+    slots: &[u8; SLOTS],
+    inputs: &[u8],
+    leaves: &[u8],
+    words: &[u8],
+    upper: usize,
+    first: &[usize],
+    count: usize,
+) -> u64
+    requires part { ⌜ RowsWithin (2 ^ 21) (now base) × Slotted (ofDegree Two (now alphabet)) (now slots)
+        × (getD (wordGiven (ofDegree Two (now leaves)) (now words) upper) 0 0 < elementCount (ofDegree Two (now inputs))) ⌝ }
+    requires weights { ⌜ (count ≤ 64) × (count ≤ length (now first)) ⌝ }
+    ensures { λ r. ⌜ Good (ofDegree Two (now (alphabet .entry))) (ofDegree Two (now (leaves .entry))) (now (first .entry))
+        (upperPart (now (base .entry)) (ofDegree Two (now (inputs .entry))) (ofDegree Two (now (leaves .entry))) (now (words .entry)) upper) r ⌝ }
+{
+    judge(
+        Degree::Two,
+        base,
+        alphabet,
+        slots,
+        inputs,
+        leaves,
+        words,
+        upper,
+        first,
+        count,
+    )
+}
+
+fn judge_by(
+    degree: Degree,
+    base: &[[i64; 4]; 4],
+    alphabet: &[u8],
+    slots: &[u8; SLOTS],
+    inputs: &[u8],
+    leaves: &[u8],
+    words: &[u8],
+    upper: usize,
+    first: &[usize],
+    count: usize,
+) -> u64
+    requires part { ⌜ RowsWithin (2 ^ 21) (now base) × Slotted (ofDegree degree (now alphabet)) (now slots)
+        × (getD (wordGiven (ofDegree degree (now leaves)) (now words) upper) 0 0 < elementCount (ofDegree degree (now inputs))) ⌝ }
+    requires weights { ⌜ (count ≤ 64) × (count ≤ length (now first)) ⌝ }
+    ensures { λ r. ⌜ Good (ofDegree degree (now (alphabet .entry))) (ofDegree degree (now (leaves .entry))) (now (first .entry))
+        (upperPart (now (base .entry)) (ofDegree degree (now (inputs .entry))) (ofDegree degree (now (leaves .entry))) (now (words .entry)) upper) r ⌝ }
+{
+    match degree {
+        Degree::Two => judge_at_two(
+            base,
+            alphabet,
+            slots,
+            inputs,
+            leaves,
+            words,
+            upper,
+            first,
+            count,
+        ),
+        Degree::Three => judge(
+            degree,
+            base,
+            alphabet,
+            slots,
+            inputs,
+            leaves,
+            words,
+            upper,
+            first,
+            count,
+        ),
+        Degree::Four => judge(
+            degree,
+            base,
+            alphabet,
+            slots,
+            inputs,
+            leaves,
+            words,
+            upper,
+            first,
+            count,
+        ),
+    }
 }
 
 // The same, judged once for each first digit and weight of an upper leaf: leaves come in the order of their first digits.
@@ -293,7 +346,7 @@ pub fn judged(
     if made[number] == digit {
         return good[number];
     }
-    let set = judge(
+    let set = judge_by(
         degree,
         base,
         alphabet,

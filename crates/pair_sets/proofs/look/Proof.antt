@@ -28,8 +28,8 @@ same-length c = search needs
 returns : tie.Need-returns
 returns c = λ no. clash no refl
 
-keys-of-requires : tie.Need-keys-of-requires
-keys-of-requires c κs =
+keys-of-by-requires : tie.Need-keys-of-by-requires
+keys-of-by-requires c κs =
     let a = c .before .before .before .before .before .before .before .before .before .before .before .before .before .before .before .before .args in
     let leaves = ofDegree (a .degree) (a .leaves .now) in
     let inputs = ofDegree (a .degree) (a .inputs .now) in
@@ -65,7 +65,7 @@ all-in-requires c κs =
     let numbers = c .before .before .before .before .before .before .before .before .before .before .before .before .before .before .before .before .before .before .before .numbers in
     let first2 = c .before .before .before .before .before .before .before .before .before .before .before .before .before .before .before .before .before .first2 in
     let if1 = c .before .before .before .before .before .before .before .before .before .before .before .before .before .before .before .before .if1 in
-    let keys-of = c .before .before .before .before .before .before .before .before .before .before .before .before .before .before .keys-of in
+    let keys-of = c .before .before .before .before .before .before .before .before .before .before .before .before .before .before .keys-of-by in
     let keys = c .before .before .before .before .before .before .before .before .before .before .before .before .before .keys in
     let leaf-count = c .before .before .before .before .before .before .before .before .before .before .leaf-count in
     let eights = c .before .before .before .before .before .before .before .before .eights in
@@ -108,7 +108,7 @@ look-spec =
     number-weights-by-requires
     same-length
     returns
-    keys-of-requires
+    keys-of-by-requires
     leaf-count-requires
     eights-requires
     base-of-requires

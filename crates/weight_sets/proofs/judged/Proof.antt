@@ -52,8 +52,8 @@ returns c =
       pre .1 .1,
     )
 
-judge-requires : tie.Need-judge-requires
-judge-requires c κs = search needs
+judge-by-requires : tie.Need-judge-by-requires
+judge-by-requires c κs = search needs
 
 mul-good : tie.Need-mul-good
 mul-good c = search needs
@@ -76,11 +76,11 @@ returns-2 c =
     let first = a .first .now in
     let base = a .base .now in
     let wide = c .before .before .before .wide in (
-      c .judge .ensures,
-      judged-next base alphabet inputs leaves first (a .made .now) (a .good .now) (a .number) (wide .result) (c .judge .result)
-          (subst (λ p. Good alphabet leaves first p (c .judge .result))
+      c .judge-by .ensures,
+      judged-next base alphabet inputs leaves first (a .made .now) (a .good .now) (a .number) (wide .result) (c .judge-by .result)
+          (subst (λ p. Good alphabet leaves first p (c .judge-by .result))
           (λ i. minus (recordAt inputs (sym (wide .ensures .0 ∙ c .before .before .before .before .byte-at .ensures ∙ ap (λ w. getD w 0 0) (c .before .before .before .before .before .word .ensures)) i)) (paddedTimes (partCount (a .degree)) base (sym (c .before .before .before .before .before .before .before .before .before .before .before .pre .1 .0 .3) i)))
-          (c .judge .ensures))
+          (c .judge-by .ensures))
           (c .before .before .before .before .before .before .before .before .before .before .before .pre .1 .1),
     )
 
@@ -97,7 +97,7 @@ judged-spec =
     mul-result
     element-copy-out-result
     returns
-    judge-requires
+    judge-by-requires
     mul-good
     element-write-good
     mul-made
