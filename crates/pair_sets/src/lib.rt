@@ -18,7 +18,7 @@ ghost use Rattle.pair_sets.specs.Runs.{WordsOrdered, Keyed, InRun, AllPa
 ghost use Rattle.weight_sets.specs.Weights.{WeightsNumbered, Covers};
 use ring::Degree;
 
-// The fewest leaves that are looked at, few leaves, the most leaves, and the most different weights.
+// The fewest leaves, few leaves, the most leaves, and the most different weights.
 const FEWEST: usize = 32;
 
 const FEW: usize = 512;
@@ -284,7 +284,37 @@ fn look(
     )
 }
 
-// The same for few leaves, since cleared room costs time.
+// The same for the fewest leaves, for few and for many, since cleared room costs time.
+fn look_at_fewest(
+    degree: Degree,
+    base: &[u8],
+    alphabet: &[u8],
+    inputs: &[u8],
+    leaves: &[u8],
+    words: &[u8],
+) -> bool
+    requires table { ⌜ BasePart (ofDegree degree (now base)) × (0 < elementCount (ofDegree degree (now inputs)))
+        × (leafCheck (ofDegree degree (now leaves)) (now words) (elementCount (ofDegree degree (now inputs))) .number ≡ 0) ⌝ }
+    requires fewest { ⌜ leafCount (ofDegree degree (now leaves)) ≤ 32 ⌝ }
+    ensures { λ r. ⌜ (r ≡ true → AllPass (baseMatrix (ofDegree degree (now (base .entry)))) (ofDegree degree (now (alphabet .entry))) (ofDegree degree (now (inputs .entry)))
+        (ofDegree degree (now (leaves .entry))) (now (words .entry)) (leafCount (ofDegree degree (now (leaves .entry))))) ⌝ }
+{
+    let mut keys = [0; FEWEST];
+    let mut sets = [0; FEWEST];
+    let mut numbers = [0; FEWEST];
+    look(
+        degree,
+        base,
+        alphabet,
+        inputs,
+        leaves,
+        words,
+        &mut keys,
+        &mut sets,
+        &mut numbers,
+    )
+}
+
 fn look_at_few(
     degree: Degree,
     base: &[u8],
@@ -345,7 +375,7 @@ fn look_at_many(
     )
 }
 
-// Whether every fitting pair is seen to give an alphabet digit. Of so few leaves that the pairs are judged sooner it says nothing.
+// Whether every fitting pair is seen to give an alphabet digit.
 pub fn all_pass(
     degree: Degree,
     base: &[u8],
@@ -360,8 +390,8 @@ pub fn all_pass(
         (ofDegree degree (now (leaves .entry))) (now (words .entry)) (leafCount (ofDegree degree (now (leaves .entry))))) ⌝ }
 {
     let count = leaves::leaf_count(degree, leaves);
-    if count < FEWEST {
-        return false;
+    if count <= FEWEST {
+        return look_at_fewest(degree, base, alphabet, inputs, leaves, words);
     }
     if count <= FEW {
         return look_at_few(degree, base, alphabet, inputs, leaves, words);

@@ -111,6 +111,39 @@ fn out_index_at_two(
     )
 }
 
+// Above two the degree is no constant. What is made ready for this call isn't at degree two, as it would be in the function below.
+fn out_index_above_two(
+    degree: Degree,
+    base: [[i64; 4]; 4],
+    alphabet: &[u8],
+    inputs: &[u8],
+    leaves: &[u8],
+    input: usize,
+    below: usize,
+    own: usize,
+    slots: &mut [u8; DIGITS],
+) -> usize
+    requires sizes { ⌜ RowsWithin (2 ^ 21) base × (input < elementCount (ofDegree degree (now inputs)))
+        × (below < leafCount (ofDegree degree (now leaves))) × (own < leafCount (ofDegree degree (now leaves))) ⌝ }
+    requires alphabet { ⌜ (elementCount (ofDegree degree (now alphabet)) ≤ 256) × Firsts (ofDegree degree (now alphabet)) (now slots) ⌝ }
+    ensures index { λ r. ⌜ r ≡ alphabetIndex (ofDegree degree (now (alphabet .entry)))
+        (outDigit (elements (partCount degree) base) (recordAt (ofDegree degree (now (inputs .entry))) input)
+        (weightGiven (ofDegree degree (now (leaves .entry))) below) (weightGiven (ofDegree degree (now (leaves .entry))) own)) ⌝ }
+    ensures slots { λ r. ⌜ Firsts (ofDegree degree (now (alphabet .entry))) (now (slots .exit)) ⌝ }
+{
+    out_index(
+        degree,
+        base,
+        alphabet,
+        inputs,
+        leaves,
+        input,
+        below,
+        own,
+        slots,
+    )
+}
+
 fn out_index_by(
     degree: Degree,
     base: [[i64; 4]; 4],
@@ -132,7 +165,7 @@ fn out_index_by(
 {
     match degree {
         Degree::Two => out_index_at_two(base, alphabet, inputs, leaves, input, below, own, slots),
-        Degree::Three => out_index(
+        Degree::Three => out_index_above_two(
             degree,
             base,
             alphabet,
@@ -143,7 +176,7 @@ fn out_index_by(
             own,
             slots,
         ),
-        Degree::Four => out_index(
+        Degree::Four => out_index_above_two(
             degree,
             base,
             alphabet,

@@ -104,13 +104,21 @@ fn row_value_at_two(base: [[i64; 4]; 4], alphabet: &[u8], row: &[u8]) -> Worth
     row_value(Degree::Two, base, alphabet, row)
 }
 
+// Above two the degree is no constant. What is made ready for this call isn't at degree two, as it would be in the function below.
+fn row_value_above_two(degree: Degree, base: [[i64; 4]; 4], alphabet: &[u8], row: &[u8]) -> Worth
+    requires { ⌜ RowsWithin (2 ^ 21) base × Indexes (elementCount (ofDegree degree (now alphabet))) (now row) ⌝ }
+    ensures { λ r. ⌜ outcomeOf r ≡ worthOf base (ofDegree degree (now (alphabet .entry))) (now (row .entry)) ⌝ }
+{
+    row_value(degree, base, alphabet, row)
+}
+
 pub fn row_value_by(degree: Degree, base: [[i64; 4]; 4], alphabet: &[u8], row: &[u8]) -> Worth
     requires { ⌜ RowsWithin (2 ^ 21) base × Indexes (elementCount (ofDegree degree (now alphabet))) (now row) ⌝ }
     ensures { λ r. ⌜ outcomeOf r ≡ worthOf base (ofDegree degree (now (alphabet .entry))) (now (row .entry)) ⌝ }
 {
     match degree {
         Degree::Two => row_value_at_two(base, alphabet, row),
-        Degree::Three => row_value(degree, base, alphabet, row),
-        Degree::Four => row_value(degree, base, alphabet, row),
+        Degree::Three => row_value_above_two(degree, base, alphabet, row),
+        Degree::Four => row_value_above_two(degree, base, alphabet, row),
     }
 }

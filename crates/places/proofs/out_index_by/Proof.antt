@@ -12,14 +12,14 @@ out-index-at-two-requires c κs = rw (c .before .enum-told .given .1) at (c .bef
 enum-told-2 : tie.Need-enum-told-2
 enum-told-2 c = search needs
 
-out-index-requires : tie.Need-out-index-requires
-out-index-requires c κs = search needs
+out-index-above-two-requires : tie.Need-out-index-above-two-requires
+out-index-above-two-requires c κs = search needs
 
 enum-told-3 : tie.Need-enum-told-3
 enum-told-3 c = search needs
 
-out-index-requires-2 : tie.Need-out-index-requires-2
-out-index-requires-2 c κs = search needs
+out-index-above-two-requires-2 : tie.Need-out-index-above-two-requires-2
+out-index-above-two-requires-2 c κs = search needs
 
 returns : tie.Need-returns
 returns c = rw (c .before .before .enum-told .given .1) (c .out-index-at-two .ensures)
@@ -37,9 +37,9 @@ out-index-by-spec =
     enum-told
     out-index-at-two-requires
     enum-told-2
-    out-index-requires
+    out-index-above-two-requires
     enum-told-3
-    out-index-requires-2
+    out-index-above-two-requires-2
     returns
     returns-2
     returns-3)

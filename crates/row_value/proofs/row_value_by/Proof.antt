@@ -12,14 +12,14 @@ row-value-at-two-requires c κs = rw (c .enum-told .given .1) at (c .before .bef
 enum-told-2 : tie.Need-enum-told-2
 enum-told-2 c = search needs
 
-row-value-requires : tie.Need-row-value-requires
-row-value-requires c κs = search needs
+row-value-above-two-requires : tie.Need-row-value-above-two-requires
+row-value-above-two-requires c κs = search needs
 
 enum-told-3 : tie.Need-enum-told-3
 enum-told-3 c = search needs
 
-row-value-requires-2 : tie.Need-row-value-requires-2
-row-value-requires-2 c κs = search needs
+row-value-above-two-requires-2 : tie.Need-row-value-above-two-requires-2
+row-value-above-two-requires-2 c κs = search needs
 
 returns : tie.Need-returns
 returns c = rw (c .before .enum-told .given .1) (c .row-value-at-two .ensures)
@@ -37,9 +37,9 @@ row-value-by-spec =
     enum-told
     row-value-at-two-requires
     enum-told-2
-    row-value-requires
+    row-value-above-two-requires
     enum-told-3
-    row-value-requires-2
+    row-value-above-two-requires-2
     returns
     returns-2
     returns-3)
