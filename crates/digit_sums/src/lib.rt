@@ -3,6 +3,7 @@
 ghost use mathlib.Core.Path.{_≡_};
 ghost use mathlib.Core.Bool.{true};
 ghost use Prim.Native.Nat.{ℕ, _≤_, _<_, _^_};
+ghost use Rattle.ring.specs.declared.Degree.the-variants.{Two};
 ghost use Rattle.layout_rules.specs.Section.{ofDegree};
 ghost use Rattle.lists.specs.Scan.{every};
 ghost use Rattle.faults.specs.Check.{none};
@@ -36,6 +37,23 @@ fn link(degree: Degree, inputs: &[u8], heads: &mut [u8; SLOTS], links: &mut [u8;
         links[k] = heads[place];
         heads[place] = k as u8;
         k += 1;
+    }
+}
+
+// The same with the degree as a constant where it is two, so that sizes and parts are chosen once and not for each digit.
+fn link_at_two(inputs: &[u8], heads: &mut [u8; SLOTS], links: &mut [u8; MOST])
+    requires { ⌜ elementCount (ofDegree Two (now inputs)) ≤ 136 ⌝ }
+{
+    link(Degree::Two, inputs, heads, links)
+}
+
+fn link_by(degree: Degree, inputs: &[u8], heads: &mut [u8; SLOTS], links: &mut [u8; MOST])
+    requires { ⌜ elementCount (ofDegree degree (now inputs)) ≤ 136 ⌝ }
+{
+    match degree {
+        Degree::Two => link_at_two(inputs, heads, links),
+        Degree::Three => link(degree, inputs, heads, links),
+        Degree::Four => link(degree, inputs, heads, links),
     }
 }
 
@@ -146,6 +164,54 @@ fn mark_all(
     true
 }
 
+// The same with the degree as a constant where it is two, as above.
+fn mark_all_at_two(
+    operation: Operation,
+    alphabet: &[u8],
+    inputs: &[u8],
+    heads: &[u8; SLOTS],
+    links: &[u8; MOST],
+    marks: &mut [u8; MOST],
+) -> bool
+    requires inputs { ⌜ elementCount (ofDegree Two (now inputs)) ≤ 136 ⌝ }
+    requires marked { ⌜ Marked (ofDegree Two (now inputs)) (located (ofDegree Two (now inputs)) (now heads) (now links)) (now marks) ⌝ }
+    ensures listed { λ r. ⌜ (r ≡ true → allPairsListed operation (ofDegree Two (now (alphabet .entry))) (ofDegree Two (now (inputs .entry))) ≡ true) ⌝ }
+    ensures marked { λ r. ⌜ Marked (ofDegree Two (now (inputs .entry))) (located (ofDegree Two (now (inputs .entry))) (now (heads .entry)) (now (links .entry)))
+        (now (marks .exit)) ⌝ }
+{
+    mark_all(
+        Degree::Two,
+        operation,
+        alphabet,
+        inputs,
+        heads,
+        links,
+        marks,
+    )
+}
+
+fn mark_all_by(
+    degree: Degree,
+    operation: Operation,
+    alphabet: &[u8],
+    inputs: &[u8],
+    heads: &[u8; SLOTS],
+    links: &[u8; MOST],
+    marks: &mut [u8; MOST],
+) -> bool
+    requires inputs { ⌜ elementCount (ofDegree degree (now inputs)) ≤ 136 ⌝ }
+    requires marked { ⌜ Marked (ofDegree degree (now inputs)) (located (ofDegree degree (now inputs)) (now heads) (now links)) (now marks) ⌝ }
+    ensures listed { λ r. ⌜ (r ≡ true → allPairsListed operation (ofDegree degree (now (alphabet .entry))) (ofDegree degree (now (inputs .entry))) ≡ true) ⌝ }
+    ensures marked { λ r. ⌜ Marked (ofDegree degree (now (inputs .entry))) (located (ofDegree degree (now (inputs .entry))) (now (heads .entry)) (now (links .entry)))
+        (now (marks .exit)) ⌝ }
+{
+    match degree {
+        Degree::Two => mark_all_at_two(operation, alphabet, inputs, heads, links, marks),
+        Degree::Three => mark_all(degree, operation, alphabet, inputs, heads, links, marks),
+        Degree::Four => mark_all(degree, operation, alphabet, inputs, heads, links, marks),
+    }
+}
+
 // Whether an input digit is found at its own index: by its mark, or looked for now.
 fn found_at(
     degree: Degree,
@@ -212,9 +278,9 @@ pub fn inputs_kept(degree: Degree, alphabet: &[u8], inputs: &[u8]) -> bool
     }
     let mut heads = [255; SLOTS];
     let mut links = [255; MOST];
-    link(degree, inputs, &mut heads, &mut links);
+    link_by(degree, inputs, &mut heads, &mut links);
     let mut marks = [0; MOST];
-    if !mark_all(
+    if !mark_all_by(
         degree,
         Operation::Plus,
         alphabet,
@@ -237,9 +303,9 @@ pub fn differences_kept(degree: Degree, alphabet: &[u8], inputs: &[u8]) -> bool
     }
     let mut heads = [255; SLOTS];
     let mut links = [255; MOST];
-    link(degree, inputs, &mut heads, &mut links);
+    link_by(degree, inputs, &mut heads, &mut links);
     let mut marks = [0; MOST];
-    mark_all(
+    mark_all_by(
         degree,
         Operation::Minus,
         alphabet,

@@ -2,6 +2,7 @@
 ghost use mathlib.Core.Path.{_≡_};
 ghost use Prim.Native.Nat.{ℕ, _+_, _*_, _≤_, _<_};
 ghost use lib.ListN.{getD};
+ghost use Rattle.ring.specs.declared.Degree.the-variants.{Two};
 ghost use Rattle.layout_rules.specs.Section.{ofDegree};
 ghost use Rattle.digit_rules.specs.Record.{elementCount};
 ghost use Rattle.digit_rules.specs.Digits.{pairIndex};
@@ -46,6 +47,54 @@ fn learn(
             index
         }
         Operation::Minus => index,
+    }
+}
+
+// The same with the degree as a constant where it is two, so that sizes and parts are chosen once and not for each input digit.
+fn learn_at_two(
+    operation: Operation,
+    alphabet: &[u8],
+    inputs: &[u8],
+    upper: usize,
+    lower: usize,
+    known: &mut [u8; 256],
+) -> u8
+    requires sizes { ⌜ (elementCount (ofDegree Two (now alphabet)) ≤ 16) × (elementCount (ofDegree Two (now inputs)) < 256) ⌝ }
+    requires indexes { ⌜ (upper < elementCount (ofDegree Two (now alphabet))) × (lower < elementCount (ofDegree Two (now alphabet))) ⌝ }
+    requires known { ⌜ Known operation (ofDegree Two (now alphabet)) (ofDegree Two (now inputs)) (now known) ⌝ }
+    ensures index { λ r. ⌜ r ≡ pairIndex operation (ofDegree Two (now (alphabet .entry))) (ofDegree Two (now (inputs .entry))) upper lower ⌝ }
+    ensures known { λ r. ⌜ Known operation (ofDegree Two (now (alphabet .entry))) (ofDegree Two (now (inputs .entry))) (now (known .exit)) ⌝ }
+{
+    learn(
+        Degree::Two,
+        operation,
+        alphabet,
+        inputs,
+        upper,
+        lower,
+        known,
+    )
+}
+
+fn learn_by(
+    degree: Degree,
+    operation: Operation,
+    alphabet: &[u8],
+    inputs: &[u8],
+    upper: usize,
+    lower: usize,
+    known: &mut [u8; 256],
+) -> u8
+    requires sizes { ⌜ (elementCount (ofDegree degree (now alphabet)) ≤ 16) × (elementCount (ofDegree degree (now inputs)) < 256) ⌝ }
+    requires indexes { ⌜ (upper < elementCount (ofDegree degree (now alphabet))) × (lower < elementCount (ofDegree degree (now alphabet))) ⌝ }
+    requires known { ⌜ Known operation (ofDegree degree (now alphabet)) (ofDegree degree (now inputs)) (now known) ⌝ }
+    ensures index { λ r. ⌜ r ≡ pairIndex operation (ofDegree degree (now (alphabet .entry))) (ofDegree degree (now (inputs .entry))) upper lower ⌝ }
+    ensures known { λ r. ⌜ Known operation (ofDegree degree (now (alphabet .entry))) (ofDegree degree (now (inputs .entry))) (now (known .exit)) ⌝ }
+{
+    match degree {
+        Degree::Two => learn_at_two(operation, alphabet, inputs, upper, lower, known),
+        Degree::Three => learn(degree, operation, alphabet, inputs, upper, lower, known),
+        Degree::Four => learn(degree, operation, alphabet, inputs, upper, lower, known),
     }
 }
 
@@ -104,7 +153,7 @@ pub fn input_row(
     while place < end {
         let upper = rows::byte_at(change, 0, first, place) as usize;
         let lower = rows::byte_at(change, 1, second, place) as usize;
-        row[place] = learn(
+        row[place] = learn_by(
             degree,
             operation,
             alphabet,

@@ -70,13 +70,22 @@ pub fn length(degree: Degree, leaves: &[u8], leaf: usize) -> usize
     0
 }
 
+// The weight of a leaf that there is.
+pub fn weight_at(degree: Degree, leaves: &[u8], leaf: usize) -> [i64; 4]
+    requires { ⌜ leaf < leafCount (ofDegree degree (now leaves)) ⌝ }
+    ensures weight { λ r. ⌜ r ≡ weightGiven (ofDegree degree (now (leaves .entry))) leaf ⌝ }
+    ensures within { λ r. ⌜ Within 32768 r ⌝ }
+{
+    digits::element(degree, leaves, record_start(degree, leaves, leaf) + 4)
+}
+
 // A leaf's weight: zero where there is no such leaf.
 pub fn weight(degree: Degree, leaves: &[u8], leaf: usize) -> [i64; 4]
     ensures weight { λ r. ⌜ r ≡ weightGiven (ofDegree degree (now (leaves .entry))) leaf ⌝ }
     ensures within { λ r. ⌜ Within 32768 r ⌝ }
 {
     if leaf < leaf_count(degree, leaves) {
-        return digits::element(degree, leaves, record_start(degree, leaves, leaf) + 4);
+        return weight_at(degree, leaves, leaf);
     }
     [0, 0, 0, 0]
 }

@@ -4,6 +4,7 @@ ghost use mathlib.Core.Bool.{true};
 ghost use Prim.Native.Nat.{ℕ, _+_, _*_, _≤_, _<_, _^_};
 ghost use lib.ListN.{length};
 ghost use lib.IntN.{natAbs};
+ghost use Rattle.ring.specs.declared.Degree.the-variants.{Two};
 ghost use Rattle.ring.specs.Degree.{partCount, baseLimit};
 ghost use Rattle.layout_rules.specs.Section.{elementSize, ofDegree};
 ghost use Rattle.lists.specs.Scan.{firstFailing, every};
@@ -135,6 +136,46 @@ fn none_outside(degree: Degree, part: &[u8], size: usize, limit: usize) -> bool
     most < 65536
 }
 
+// The same at degree two, of elements and of leaves. With the sizes as constants the compiler's loop takes several records at a time.
+fn elements_at_two(part: &[u8], limit: usize) -> bool
+    requires { ⌜ limit ≤ 1024 ⌝ }
+    ensures { λ r. ⌜ (r ≡ true → every (numberAllowed 4 limit (ofDegree Two (now (part .entry)))) 0 (numberCount Two 4 (length (now (part .entry)))) ≡ true) ⌝ }
+{
+    none_outside(Degree::Two, part, 4, limit)
+}
+
+fn leaves_at_two(part: &[u8], limit: usize) -> bool
+    requires { ⌜ limit ≤ 1024 ⌝ }
+    ensures { λ r. ⌜ (r ≡ true → every (numberAllowed 8 limit (ofDegree Two (now (part .entry)))) 0 (numberCount Two 8 (length (now (part .entry)))) ≡ true) ⌝ }
+{
+    none_outside(Degree::Two, part, 8, limit)
+}
+
+// Chosen by the size, which is no other where rule 4 asks.
+fn none_outside_at_two(part: &[u8], size: usize, limit: usize) -> bool
+    requires { ⌜ (4 ≤ size) × (limit ≤ 1024) ⌝ }
+    ensures { λ r. ⌜ (r ≡ true → every (numberAllowed size limit (ofDegree Two (now (part .entry)))) 0 (numberCount Two size (length (now (part .entry)))) ≡ true) ⌝ }
+{
+    if size == 8 {
+        return leaves_at_two(part, limit);
+    }
+    if size == 4 {
+        return elements_at_two(part, limit);
+    }
+    none_outside(Degree::Two, part, size, limit)
+}
+
+fn none_outside_by(degree: Degree, part: &[u8], size: usize, limit: usize) -> bool
+    requires { ⌜ (elementSize degree ≤ size) × (limit ≤ 1024) ⌝ }
+    ensures { λ r. ⌜ (r ≡ true → every (numberAllowed size limit (ofDegree degree (now (part .entry)))) 0 (numberCount degree size (length (now (part .entry)))) ≡ true) ⌝ }
+{
+    match degree {
+        Degree::Two => none_outside_at_two(part, size, limit),
+        Degree::Three => none_outside(degree, part, size, limit),
+        Degree::Four => none_outside(degree, part, size, limit),
+    }
+}
+
 // Rule 4 in one section, handed on as its part of the file; `start` is where the part starts in the file.
 pub fn limits_in(degree: Degree, part: &[u8], start: usize, section: usize) -> Refusal
     requires { ⌜ (section < 4) × (start ≤ 65535) ⌝ }
@@ -142,7 +183,7 @@ pub fn limits_in(degree: Degree, part: &[u8], start: usize, section: usize) -> R
 {
     let size = layout::size_of_record(degree, section);
     let limit = size_limit(degree, section);
-    if none_outside(degree, part, size, limit) {
+    if none_outside_by(degree, part, size, limit) {
         return Refusal {
             number: 0,
             place: 0,

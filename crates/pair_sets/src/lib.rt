@@ -4,6 +4,7 @@ ghost use mathlib.Core.Bool.{true};
 ghost use mathlib.Core.List.{List};
 ghost use Prim.Native.Nat.{ℕ, _+_, _-_, _<_, _≤_, _^_, pred};
 ghost use lib.ListN.{length, getD};
+ghost use Rattle.ring.specs.declared.Degree.the-variants.{Two};
 ghost use Rattle.layout_rules.specs.Section.{ofDegree};
 ghost use Rattle.ring.specs.Tests.{RowsWithin};
 ghost use Rattle.digit_rules.specs.BaseMatrix.{baseMatrix};
@@ -17,7 +18,7 @@ ghost use Rattle.pair_sets.specs.Runs.{WordsOrdered, Keyed, InRun, AllPa
 ghost use Rattle.weight_sets.specs.Weights.{WeightsNumbered, Covers};
 use ring::Degree;
 
-// The fewest leaves that are looked at, few leaves, the most leaves, and the most different weights.
+// The fewest leaves, few leaves, the most leaves, and the most different weights.
 const FEWEST: usize = 32;
 
 const FEW: usize = 512;
@@ -50,6 +51,27 @@ fn keys_of(degree: Degree, leaves: &[u8], words: &[u8], keys: &mut [u64])
         let length = leaves::word_length(degree, leaves, leaf);
         keys[leaf] = word_numbers::word_number(words, start, length);
         leaf += 1;
+    }
+}
+
+// The same with the degree as a constant where it is two, so that the size of a record is one too.
+fn keys_of_at_two(leaves: &[u8], words: &[u8], keys: &mut [u64])
+    requires room { ⌜ leafCount (ofDegree Two (now leaves)) ≤ length (now keys) ⌝ }
+    requires ordered { ⌜ WordsOrdered (ofDegree Two (now leaves)) (now words) ⌝ }
+    ensures { λ r. ⌜ Keyed (ofDegree Two (now (leaves .entry))) (now (words .entry)) (now (keys .exit)) (leafCount (ofDegree Two (now (leaves .entry)))) ⌝ }
+{
+    keys_of(Degree::Two, leaves, words, keys)
+}
+
+fn keys_of_by(degree: Degree, leaves: &[u8], words: &[u8], keys: &mut [u64])
+    requires room { ⌜ leafCount (ofDegree degree (now leaves)) ≤ length (now keys) ⌝ }
+    requires ordered { ⌜ WordsOrdered (ofDegree degree (now leaves)) (now words) ⌝ }
+    ensures { λ r. ⌜ Keyed (ofDegree degree (now (leaves .entry))) (now (words .entry)) (now (keys .exit)) (leafCount (ofDegree degree (now (leaves .entry)))) ⌝ }
+{
+    match degree {
+        Degree::Two => keys_of_at_two(leaves, words, keys),
+        Degree::Three => keys_of(degree, leaves, words, keys),
+        Degree::Four => keys_of(degree, leaves, words, keys),
     }
 }
 
@@ -161,7 +183,7 @@ fn fitting(
 // Whether every upper leaf gives alphabet digits with all lower leaves that fit.
 fn all_in(
     degree: Degree,
-    base: [[i64; 4]; 4],
+    base: &[[i64; 4]; 4],
     alphabet: &[u8],
     inputs: &[u8],
     leaves: &[u8],
@@ -172,14 +194,14 @@ fn all_in(
     first: &[usize],
     count: usize,
 ) -> bool
-    requires table { ⌜ RowsWithin (2 ^ 21) base × (0 < elementCount (ofDegree degree (now inputs)))
+    requires table { ⌜ RowsWithin (2 ^ 21) (now base) × (0 < elementCount (ofDegree degree (now inputs)))
         × (leafCheck (ofDegree degree (now leaves)) (now words) (elementCount (ofDegree degree (now inputs))) .number ≡ 0) ⌝ }
     requires room { ⌜ (leafCount (ofDegree degree (now leaves)) ≤ length (now keys)) × (leafCount (ofDegree degree (now leaves)) ≤ length (now numbers))
         × (leafCount (ofDegree degree (now leaves)) ≤ length (now sets)) × (count ≤ 64) × (count ≤ length (now first)) ⌝ }
     requires known { ⌜ Keyed (ofDegree degree (now leaves)) (now words) (now keys) (leafCount (ofDegree degree (now leaves)))
         × WeightsNumbered (ofDegree degree (now leaves)) (now numbers) (now first) count (leafCount (ofDegree degree (now leaves)))
         × Covers (now numbers) (now sets) (leafCount (ofDegree degree (now leaves))) 8 ⌝ }
-    ensures { λ r. ⌜ (r ≡ true → AllPass base (ofDegree degree (now (alphabet .entry))) (ofDegree degree (now (inputs .entry))) (ofDegree degree (now (leaves .entry)))
+    ensures { λ r. ⌜ (r ≡ true → AllPass (now (base .entry)) (ofDegree degree (now (alphabet .entry))) (ofDegree degree (now (inputs .entry))) (ofDegree degree (now (leaves .entry)))
         (now (words .entry)) (leafCount (ofDegree degree (now (leaves .entry))))) ⌝ }
 {
     let mut slots = [EMPTY; SLOTS];
@@ -240,16 +262,16 @@ fn look(
         (ofDegree degree (now (leaves .entry))) (now (words .entry)) (leafCount (ofDegree degree (now (leaves .entry))))) ⌝ }
 {
     let mut first = [0; WEIGHTS];
-    let count = weight_sets::number_weights(degree, leaves, numbers, &mut first);
+    let count = weight_sets::number_weights_by(degree, leaves, numbers, &mut first);
     if WEIGHTS < count {
         return false;
     }
-    keys_of(degree, leaves, words, keys);
+    keys_of_by(degree, leaves, words, keys);
     weight_sets::eights(numbers, leaves::leaf_count(degree, leaves), sets);
     let matrix = digits::base_of(degree, base);
     all_in(
         degree,
-        matrix,
+        &matrix,
         alphabet,
         inputs,
         leaves,
@@ -262,7 +284,37 @@ fn look(
     )
 }
 
-// The same for few leaves, since cleared room costs time.
+// The same for the fewest leaves, for few and for many, since cleared room costs time.
+fn look_at_fewest(
+    degree: Degree,
+    base: &[u8],
+    alphabet: &[u8],
+    inputs: &[u8],
+    leaves: &[u8],
+    words: &[u8],
+) -> bool
+    requires table { ⌜ BasePart (ofDegree degree (now base)) × (0 < elementCount (ofDegree degree (now inputs)))
+        × (leafCheck (ofDegree degree (now leaves)) (now words) (elementCount (ofDegree degree (now inputs))) .number ≡ 0) ⌝ }
+    requires fewest { ⌜ leafCount (ofDegree degree (now leaves)) ≤ 32 ⌝ }
+    ensures { λ r. ⌜ (r ≡ true → AllPass (baseMatrix (ofDegree degree (now (base .entry)))) (ofDegree degree (now (alphabet .entry))) (ofDegree degree (now (inputs .entry)))
+        (ofDegree degree (now (leaves .entry))) (now (words .entry)) (leafCount (ofDegree degree (now (leaves .entry))))) ⌝ }
+{
+    let mut keys = [0; FEWEST];
+    let mut sets = [0; FEWEST];
+    let mut numbers = [0; FEWEST];
+    look(
+        degree,
+        base,
+        alphabet,
+        inputs,
+        leaves,
+        words,
+        &mut keys,
+        &mut sets,
+        &mut numbers,
+    )
+}
+
 fn look_at_few(
     degree: Degree,
     base: &[u8],
@@ -323,7 +375,7 @@ fn look_at_many(
     )
 }
 
-// Whether every fitting pair is seen to give an alphabet digit. Of so few leaves that the pairs are judged sooner it says nothing.
+// Whether every fitting pair is seen to give an alphabet digit.
 pub fn all_pass(
     degree: Degree,
     base: &[u8],
@@ -338,8 +390,8 @@ pub fn all_pass(
         (ofDegree degree (now (leaves .entry))) (now (words .entry)) (leafCount (ofDegree degree (now (leaves .entry))))) ⌝ }
 {
     let count = leaves::leaf_count(degree, leaves);
-    if count < FEWEST {
-        return false;
+    if count <= FEWEST {
+        return look_at_fewest(degree, base, alphabet, inputs, leaves, words);
     }
     if count <= FEW {
         return look_at_few(degree, base, alphabet, inputs, leaves, words);

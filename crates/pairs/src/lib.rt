@@ -70,7 +70,7 @@ fn fit(upper: &[u8], lower: &[u8]) -> bool
 // upper word's tail on, which may be the guessed one.
 fn bad_lower(
     degree: Degree,
-    base: [[i64; 4]; 4],
+    base: &[[i64; 4]; 4],
     alphabet: &[u8],
     known: bool,
     slots: &[u8; SLOTS],
@@ -80,17 +80,17 @@ fn bad_lower(
     upper: usize,
     guess: usize,
 ) -> Run
-    requires table { ⌜ RowsWithin (2 ^ 21) base × (0 < elementCount (ofDegree degree (now inputs)))
+    requires table { ⌜ RowsWithin (2 ^ 21) (now base) × (0 < elementCount (ofDegree degree (now inputs)))
         × (leafCheck (ofDegree degree (now leaves)) (now words) (elementCount (ofDegree degree (now inputs))) .number ≡ 0) ⌝ }
     requires upper { ⌜ upper < leafCount (ofDegree degree (now leaves)) ⌝ }
     requires slots { ⌜ (known ≡ true → Slotted (ofDegree degree (now alphabet)) (now slots)) ⌝ }
-    ensures { λ r. ⌜ r .bad ≡ firstFailing (pairPasses (elements (partCount degree) base) (recordAt (ofDegree degree (now (inputs .entry))))
+    ensures { λ r. ⌜ r .bad ≡ firstFailing (pairPasses (elements (partCount degree) (now (base .entry))) (recordAt (ofDegree degree (now (inputs .entry))))
         (codeOf (ofDegree degree (now (leaves .entry))) (now (words .entry))) (inAlphabet (ofDegree degree (now (alphabet .entry)))) upper) 0
         (leafCount (ofDegree degree (now (leaves .entry)))) ⌝ }
 {
     let count = leaves::leaf_count(degree, leaves);
     let top = leaves::word(degree, leaves, words, upper);
-    let part = pair_digits::upper_part(degree, base, inputs, leaves, words, upper);
+    let part = pair_digits::upper_part_by(degree, base, inputs, leaves, words, upper);
     let lowest = look_up::look_up_from(degree, leaves, words, tail_window(top), guess);
     let mut lower = lowest.leaf;
     while lower < count {
@@ -100,7 +100,7 @@ fn bad_lower(
                 end: lower,
             };
         }
-        if !pair_digits::gives_digit(degree, alphabet, known, slots, part, leaves, lower) {
+        if !pair_digits::gives_digit_by(degree, alphabet, known, slots, part, leaves, lower) {
             return Run {
                 bad: lower,
                 end: lower,
@@ -136,7 +136,7 @@ pub fn bad_pair(
     while upper < count {
         let run = bad_lower(
             degree,
-            matrix,
+            &matrix,
             alphabet,
             known,
             &slots,

@@ -13,13 +13,13 @@ use Rattle.lists.specs.Scan.{firstFailing}
 use Rattle.lists.specs.Overwrite.{overwrite}
 use Rattle.lists.proofs.Scan.{scan-on, scan-here, scan-out}
 use Rattle.lists.proofs.Overwrite.{overwrite-none}
-use Rattle.ring.specs.Tests.{Within}
 use Rattle.digit_rules.specs.Record.{elementCount}
 use Rattle.numeration.specs.Group.{Operations}
 use Rattle.numeration.specs.Conversion.{leafInto, weightInto}
 use Rattle.numeration.specs.ReachOf.{reachOf}
 use Rattle.numeration.proofs.Reach.{reach-next}
-use Rattle.leaf_rules.specs.Leaf.{codeOf}
+use Rattle.leaf_rules.specs.Leaf.{leafCount, codeOf}
+use Rattle.leaf_rules.specs.Given.{weightGiven}
 use Rattle.place_rules.specs.Place.{indexAt, digitAllowed}
 use Rattle.lists.proofs.Entries.{first-written}
 use Rattle.place_rules.proofs.Place.{index-in, index-out}
@@ -31,12 +31,12 @@ module _ (o : Operations (List ℤ)) (alphabet inputs leaves : Section) (words r
   abbrev pub index : ℕ → ℕ
   index k = indexAt o alphabet inputs leaves words row (from + k)
 
-  pub record Converted (out : List ℕ) (below : List ℤ) (reach k : ℕ) : Type 0 where
+  pub record Converted (out : List ℕ) (below reach k : ℕ) : Type 0 where
     pub passed : firstFailing allowed k (count - k) ≡ firstFailing allowed 0 count
     pub written : out ≡ overwrite entry 0 (span index 0 k)
     pub long : length out ≡ length entry
-    pub weight : below ≡ weightInto (codeOf leaves words) row (from + k)
-    pub small : Within 32768 below
+    pub weight : weightGiven leaves below ≡ weightInto (codeOf leaves words) row (from + k)
+    pub listed : below < leafCount leaves
     pub longest : reach ≡ reachOf (codeOf leaves words) row from k
     pub reached : k ≤ count
 
@@ -44,7 +44,7 @@ module _ (o : Operations (List ℤ)) (alphabet inputs leaves : Section) (words r
   abbrev pub Gives : List ℕ → ℕ → ℕ → Type 0
   Gives out reach r = (r ≡ firstFailing allowed 0 count) × ((reach ≡ reachOf (codeOf leaves words) row from r) × (out ≡ overwrite entry 0 (span index 0 r)))
 
-  pub converted-start : (below : List ℤ) (reach : ℕ) → below ≡ weightInto (codeOf leaves words) row from → Within 32768 below → reach ≡ reachOf (codeOf leaves words) row from 0 → Converted entry below reach 0
+  pub converted-start : (below reach : ℕ) → weightGiven leaves below ≡ weightInto (codeOf leaves words) row from → below < leafCount leaves → reach ≡ reachOf (codeOf leaves words) row from 0 → Converted entry below reach 0
   unfolding span
   converted-start below reach w s l =
       record {
@@ -52,13 +52,13 @@ module _ (o : Operations (List ℤ)) (alphabet inputs leaves : Section) (words r
         written = sym (overwrite-none entry 0);
         long = refl;
         weight = w ∙ ap (weightInto (codeOf leaves words) row) (sym (add-zero from));
-        small = s;
+        listed = s;
         longest = l;
         reached = omega arith;
       }
 
-  module _ (out : List ℕ) (below : List ℤ) (reach k : ℕ) (is : Converted out below reach k) where
-    pub converted-next : (own : List ℤ) (v size next : ℕ) → k < count → count ≤ length entry → v ≡ index k → v < elementCount alphabet → own ≡ weightInto (codeOf leaves words) row (from + k + 1) → Within 32768 own
+  module _ (out : List ℕ) (below reach k : ℕ) (is : Converted out below reach k) where
+    pub converted-next : (own v size next : ℕ) → k < count → count ≤ length entry → v ≡ index k → v < elementCount alphabet → weightGiven leaves own ≡ weightInto (codeOf leaves words) row (from + k + 1) → own < leafCount leaves
         → size ≡ codeOf leaves words .size (leafInto (codeOf leaves words) row (from + k + 1)) → next ≡ max reach size → Converted (set out k v) own next (k + 1)
     converted-next own v size next h room e l w s looked longer =
         record {
@@ -66,7 +66,7 @@ module _ (o : Operations (List ℤ)) (alphabet inputs leaves : Section) (words r
           written = first-written entry out index k v (omega arith) (is .written) e;
           long = length-set out k v ∙ is .long;
           weight = w ∙ ap (weightInto (codeOf leaves words) row) (add-assoc from k 1);
-          small = s;
+          listed = s;
           longest = longer ∙ (λ i. max (is .longest i) (looked i)) ∙ sym (reach-next (codeOf leaves words) row from k);
           reached = omega arith;
         }

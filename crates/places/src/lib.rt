@@ -7,6 +7,7 @@ ghost use Rattle.lists.specs.Span.{span};
 ghost use Rattle.lists.specs.Scan.{firstFailing};
 ghost use Rattle.lists.specs.Overwrite.{overwrite};
 ghost use Rattle.ring.specs.Tests.{Within, RowsWithin};
+ghost use Rattle.ring.specs.declared.Degree.the-variants.{Two};
 ghost use Rattle.layout_rules.specs.Section.{ofDegree};
 ghost use Rattle.digit_rules.specs.Record.{recordAt, elementCount};
 ghost use Rattle.numeration.specs.Code.{Inputs};
@@ -14,6 +15,7 @@ ghost use Rattle.numeration.specs.Conversion.{outDigit};
 ghost use Rattle.numeration.specs.Elements.{elements};
 ghost use Rattle.numeration.specs.ReachOf.{reachOf};
 ghost use Rattle.leaf_rules.specs.Leaf.{leafCount, codeOf};
+ghost use Rattle.leaf_rules.specs.Given.{weightGiven};
 ghost use Rattle.place_rules.specs.Place.{alphabetIndex, indexAt, digitAllowed};
 ghost use Rattle.place_rules.specs.Helpers.{Begun};
 ghost use Rattle.places.specs.Helpers.{Firsts};
@@ -47,31 +49,145 @@ fn index_of(degree: Degree, alphabet: &[u8], x: [i64; 4], slots: &mut [u8; DIGIT
     index
 }
 
-// The alphabet index of the digit that comes out, or the alphabet's size.
+// The alphabet index of the digit that comes out, or the alphabet's size, by the leaves that the weights are read from.
 fn out_index(
     degree: Degree,
     base: [[i64; 4]; 4],
     alphabet: &[u8],
     inputs: &[u8],
+    leaves: &[u8],
     input: usize,
-    below: [i64; 4],
-    own: [i64; 4],
+    below: usize,
+    own: usize,
     slots: &mut [u8; DIGITS],
 ) -> usize
-    requires sizes { ⌜ RowsWithin (2 ^ 21) base × (input < elementCount (ofDegree degree (now inputs))) × Within 32768 below × Within 32768 own ⌝ }
+    requires sizes { ⌜ RowsWithin (2 ^ 21) base × (input < elementCount (ofDegree degree (now inputs)))
+        × (below < leafCount (ofDegree degree (now leaves))) × (own < leafCount (ofDegree degree (now leaves))) ⌝ }
     requires alphabet { ⌜ (elementCount (ofDegree degree (now alphabet)) ≤ 256) × Firsts (ofDegree degree (now alphabet)) (now slots) ⌝ }
     ensures index { λ r. ⌜ r ≡ alphabetIndex (ofDegree degree (now (alphabet .entry)))
-        (outDigit (elements (partCount degree) base) (recordAt (ofDegree degree (now (inputs .entry))) input) below own) ⌝ }
+        (outDigit (elements (partCount degree) base) (recordAt (ofDegree degree (now (inputs .entry))) input)
+        (weightGiven (ofDegree degree (now (leaves .entry))) below) (weightGiven (ofDegree degree (now (leaves .entry))) own)) ⌝ }
     ensures slots { λ r. ⌜ Firsts (ofDegree degree (now (alphabet .entry))) (now (slots .exit)) ⌝ }
 {
     let digit = converted_digit::out_digit(
         degree,
         base,
         digits::record_at(degree, inputs, input),
-        below,
-        own,
+        leaves::weight_at(degree, leaves, below),
+        leaves::weight_at(degree, leaves, own),
     );
     index_of(degree, alphabet, digit, slots)
+}
+
+// The same with the degree as a constant where it is two, so that sizes and parts are chosen once and not for each element.
+fn out_index_at_two(
+    base: [[i64; 4]; 4],
+    alphabet: &[u8],
+    inputs: &[u8],
+    leaves: &[u8],
+    input: usize,
+    below: usize,
+    own: usize,
+    slots: &mut [u8; DIGITS],
+) -> usize
+    requires sizes { ⌜ RowsWithin (2 ^ 21) base × (input < elementCount (ofDegree Two (now inputs)))
+        × (below < leafCount (ofDegree Two (now leaves))) × (own < leafCount (ofDegree Two (now leaves))) ⌝ }
+    requires alphabet { ⌜ (elementCount (ofDegree Two (now alphabet)) ≤ 256) × Firsts (ofDegree Two (now alphabet)) (now slots) ⌝ }
+    ensures index { λ r. ⌜ r ≡ alphabetIndex (ofDegree Two (now (alphabet .entry)))
+        (outDigit (elements (partCount Two) base) (recordAt (ofDegree Two (now (inputs .entry))) input)
+        (weightGiven (ofDegree Two (now (leaves .entry))) below) (weightGiven (ofDegree Two (now (leaves .entry))) own)) ⌝ }
+    ensures slots { λ r. ⌜ Firsts (ofDegree Two (now (alphabet .entry))) (now (slots .exit)) ⌝ }
+{
+    out_index(
+        Degree::Two,
+        base,
+        alphabet,
+        inputs,
+        leaves,
+        input,
+        below,
+        own,
+        slots,
+    )
+}
+
+// Above two the degree is no constant. What is made ready for this call isn't at degree two, as it would be in the function below.
+fn out_index_above_two(
+    degree: Degree,
+    base: [[i64; 4]; 4],
+    alphabet: &[u8],
+    inputs: &[u8],
+    leaves: &[u8],
+    input: usize,
+    below: usize,
+    own: usize,
+    slots: &mut [u8; DIGITS],
+) -> usize
+    requires sizes { ⌜ RowsWithin (2 ^ 21) base × (input < elementCount (ofDegree degree (now inputs)))
+        × (below < leafCount (ofDegree degree (now leaves))) × (own < leafCount (ofDegree degree (now leaves))) ⌝ }
+    requires alphabet { ⌜ (elementCount (ofDegree degree (now alphabet)) ≤ 256) × Firsts (ofDegree degree (now alphabet)) (now slots) ⌝ }
+    ensures index { λ r. ⌜ r ≡ alphabetIndex (ofDegree degree (now (alphabet .entry)))
+        (outDigit (elements (partCount degree) base) (recordAt (ofDegree degree (now (inputs .entry))) input)
+        (weightGiven (ofDegree degree (now (leaves .entry))) below) (weightGiven (ofDegree degree (now (leaves .entry))) own)) ⌝ }
+    ensures slots { λ r. ⌜ Firsts (ofDegree degree (now (alphabet .entry))) (now (slots .exit)) ⌝ }
+{
+    out_index(
+        degree,
+        base,
+        alphabet,
+        inputs,
+        leaves,
+        input,
+        below,
+        own,
+        slots,
+    )
+}
+
+fn out_index_by(
+    degree: Degree,
+    base: [[i64; 4]; 4],
+    alphabet: &[u8],
+    inputs: &[u8],
+    leaves: &[u8],
+    input: usize,
+    below: usize,
+    own: usize,
+    slots: &mut [u8; DIGITS],
+) -> usize
+    requires sizes { ⌜ RowsWithin (2 ^ 21) base × (input < elementCount (ofDegree degree (now inputs)))
+        × (below < leafCount (ofDegree degree (now leaves))) × (own < leafCount (ofDegree degree (now leaves))) ⌝ }
+    requires alphabet { ⌜ (elementCount (ofDegree degree (now alphabet)) ≤ 256) × Firsts (ofDegree degree (now alphabet)) (now slots) ⌝ }
+    ensures index { λ r. ⌜ r ≡ alphabetIndex (ofDegree degree (now (alphabet .entry)))
+        (outDigit (elements (partCount degree) base) (recordAt (ofDegree degree (now (inputs .entry))) input)
+        (weightGiven (ofDegree degree (now (leaves .entry))) below) (weightGiven (ofDegree degree (now (leaves .entry))) own)) ⌝ }
+    ensures slots { λ r. ⌜ Firsts (ofDegree degree (now (alphabet .entry))) (now (slots .exit)) ⌝ }
+{
+    match degree {
+        Degree::Two => out_index_at_two(base, alphabet, inputs, leaves, input, below, own, slots),
+        Degree::Three => out_index_above_two(
+            degree,
+            base,
+            alphabet,
+            inputs,
+            leaves,
+            input,
+            below,
+            own,
+            slots,
+        ),
+        Degree::Four => out_index_above_two(
+            degree,
+            base,
+            alphabet,
+            inputs,
+            leaves,
+            input,
+            below,
+            own,
+            slots,
+        ),
+    }
 }
 
 // How many first digits are looked up beforehand: none for the few places of an edit, or where a first digit alone tells the leaf, since
@@ -132,7 +248,7 @@ pub fn convert(
     let mut found = [place_weights::NO_LEAF; place_weights::WINDOWS];
     let mut slots = [0u8; DIGITS];
     let lowest = place_weights::leaf_into(degree, leaves, words, row, from);
-    let mut below = leaves::weight(degree, leaves, lowest.leaf);
+    let mut below = lowest.leaf;
     let mut reach = reach_below(from, lowest.length);
     let mut k = 0;
     while k < count {
@@ -149,13 +265,14 @@ pub fn convert(
             &mut found,
             reach,
         );
-        let own = leaves::weight(degree, leaves, upper.leaf);
+        let own = upper.leaf;
         let input = first as usize;
-        let index = out_index(
+        let index = out_index_by(
             degree,
             base,
             alphabet,
             inputs,
+            leaves,
             input,
             below,
             own,

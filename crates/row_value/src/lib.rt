@@ -7,6 +7,7 @@ ghost use lib.Dec.{leb};
 ghost use Rattle.ring.specs.Padded.{width};
 ghost use Rattle.ring.specs.Element.{zeros};
 ghost use Rattle.ring.specs.Tests.{Within, RowsWithin};
+ghost use Rattle.ring.specs.declared.Degree.the-variants.{Two};
 ghost use Rattle.layout_rules.specs.Section.{ofDegree};
 ghost use Rattle.midpoint.specs.Midpoint.{parts};
 ghost use Rattle.row_rules.specs.Fit.{Indexes};
@@ -76,7 +77,7 @@ fn counted_places(degree: Degree, alphabet: &[u8], row: &[u8]) -> usize
 }
 
 // The value of a row, from the top place down: base times total plus digit.
-pub fn row_value(degree: Degree, base: [[i64; 4]; 4], alphabet: &[u8], row: &[u8]) -> Worth
+fn row_value(degree: Degree, base: [[i64; 4]; 4], alphabet: &[u8], row: &[u8]) -> Worth
     requires { ⌜ RowsWithin (2 ^ 21) base × Indexes (elementCount (ofDegree degree (now alphabet))) (now row) ⌝ }
     ensures { λ r. ⌜ outcomeOf r ≡ worthOf base (ofDegree degree (now (alphabet .entry))) (now (row .entry)) ⌝ }
 {
@@ -93,4 +94,31 @@ pub fn row_value(degree: Degree, base: [[i64; 4]; 4], alphabet: &[u8], row: &[u8
         left = place;
     }
     Worth::Whole(shown(total))
+}
+
+// The same with the degree as a constant where it is two, so that sizes and parts are chosen once and not at each place.
+fn row_value_at_two(base: [[i64; 4]; 4], alphabet: &[u8], row: &[u8]) -> Worth
+    requires { ⌜ RowsWithin (2 ^ 21) base × Indexes (elementCount (ofDegree Two (now alphabet))) (now row) ⌝ }
+    ensures { λ r. ⌜ outcomeOf r ≡ worthOf base (ofDegree Two (now (alphabet .entry))) (now (row .entry)) ⌝ }
+{
+    row_value(Degree::Two, base, alphabet, row)
+}
+
+// Above two the degree is no constant. What is made ready for this call isn't at degree two, as it would be in the function below.
+fn row_value_above_two(degree: Degree, base: [[i64; 4]; 4], alphabet: &[u8], row: &[u8]) -> Worth
+    requires { ⌜ RowsWithin (2 ^ 21) base × Indexes (elementCount (ofDegree degree (now alphabet))) (now row) ⌝ }
+    ensures { λ r. ⌜ outcomeOf r ≡ worthOf base (ofDegree degree (now (alphabet .entry))) (now (row .entry)) ⌝ }
+{
+    row_value(degree, base, alphabet, row)
+}
+
+pub fn row_value_by(degree: Degree, base: [[i64; 4]; 4], alphabet: &[u8], row: &[u8]) -> Worth
+    requires { ⌜ RowsWithin (2 ^ 21) base × Indexes (elementCount (ofDegree degree (now alphabet))) (now row) ⌝ }
+    ensures { λ r. ⌜ outcomeOf r ≡ worthOf base (ofDegree degree (now (alphabet .entry))) (now (row .entry)) ⌝ }
+{
+    match degree {
+        Degree::Two => row_value_at_two(base, alphabet, row),
+        Degree::Three => row_value_above_two(degree, base, alphabet, row),
+        Degree::Four => row_value_above_two(degree, base, alphabet, row),
+    }
 }

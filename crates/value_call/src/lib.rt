@@ -27,7 +27,7 @@ fn total(degree: Degree, base: &[u8], alphabet: &[u8], row: &[u8]) -> Valued
     requires { ⌜ BasePart (ofDegree degree (now base)) × Indexes (elementCount (ofDegree degree (now alphabet))) (now row) ⌝ }
     ensures { λ r. ⌜ valuedAs r ≡ worthOf (baseMatrix (ofDegree degree (now (base .entry)))) (ofDegree degree (now (alphabet .entry))) (now (row .entry)) ⌝ }
 {
-    match row_value::row_value(degree, digits::base_of(degree, base), alphabet, row) {
+    match row_value::row_value_by(degree, digits::base_of(degree, base), alphabet, row) {
         Worth::Whole(element) => Valued::Value(element),
         Worth::Over(place) => Valued::Refused(Fault::Rows { number: 28, place }),
     }

@@ -4,6 +4,7 @@ ghost use mathlib.Core.Bool.{true};
 ghost use mathlib.Core.List.{List};
 ghost use Prim.Native.Nat.{ℕ, _+_, _<_, _≤_, _^_};
 ghost use lib.ListN.{length, getD};
+ghost use Rattle.ring.specs.declared.Degree.the-variants.{Two};
 ghost use Rattle.layout_rules.specs.Section.{ofDegree};
 ghost use Rattle.ring.specs.Tests.{Within, RowsWithin};
 ghost use Rattle.digit_rules.specs.Record.{elementCount};
@@ -52,12 +53,7 @@ fn number_in(
 
 // Numbers the different weights as they come up, with a leaf for each number; their count, or too high a one where there are too many
 // or two have the same slot.
-pub fn number_weights(
-    degree: Degree,
-    leaves: &[u8],
-    numbers: &mut [u8],
-    first: &mut [usize],
-) -> usize
+fn number_weights(degree: Degree, leaves: &[u8], numbers: &mut [u8], first: &mut [usize]) -> usize
     requires { ⌜ (leafCount (ofDegree degree (now leaves)) ≤ length (now numbers)) × (64 ≤ length (now first)) ⌝ }
     ensures { λ r. ⌜ (r ≤ 64 → WeightsNumbered (ofDegree degree (now (leaves .entry))) (now (numbers .exit)) (now (first .exit)) r (leafCount (ofDegree degree (now (leaves .entry))))) ⌝ }
 {
@@ -87,6 +83,30 @@ pub fn number_weights(
         leaf += 1;
     }
     count
+}
+
+// The same with the degree as a constant where it is two, so that sizes and parts are chosen once and not for each leaf.
+fn number_weights_at_two(leaves: &[u8], numbers: &mut [u8], first: &mut [usize]) -> usize
+    requires { ⌜ (leafCount (ofDegree Two (now leaves)) ≤ length (now numbers)) × (64 ≤ length (now first)) ⌝ }
+    ensures { λ r. ⌜ (r ≤ 64 → WeightsNumbered (ofDegree Two (now (leaves .entry))) (now (numbers .exit)) (now (first .exit)) r (leafCount (ofDegree Two (now (leaves .entry))))) ⌝ }
+{
+    number_weights(Degree::Two, leaves, numbers, first)
+}
+
+pub fn number_weights_by(
+    degree: Degree,
+    leaves: &[u8],
+    numbers: &mut [u8],
+    first: &mut [usize],
+) -> usize
+    requires { ⌜ (leafCount (ofDegree degree (now leaves)) ≤ length (now numbers)) × (64 ≤ length (now first)) ⌝ }
+    ensures { λ r. ⌜ (r ≤ 64 → WeightsNumbered (ofDegree degree (now (leaves .entry))) (now (numbers .exit)) (now (first .exit)) r (leafCount (ofDegree degree (now (leaves .entry))))) ⌝ }
+{
+    match degree {
+        Degree::Two => number_weights_at_two(leaves, numbers, first),
+        Degree::Three => number_weights(degree, leaves, numbers, first),
+        Degree::Four => number_weights(degree, leaves, numbers, first),
+    }
 }
 
 // A set of one number.
@@ -177,17 +197,129 @@ fn good_set(
     let mut number = 0;
     while number < count {
         let leaf = first[number];
-        let given = pair_digits::gives_digit(degree, alphabet, true, slots, part, leaves, leaf);
+        let given = pair_digits::gives_digit_by(degree, alphabet, true, slots, part, leaves, leaf);
         good = good | single_if(given, number);
         number += 1;
     }
     good
 }
 
+// The weights that give alphabet digits with an upper leaf.
+fn judge(
+    degree: Degree,
+    base: &[[i64; 4]; 4],
+    alphabet: &[u8],
+    slots: &[u8; SLOTS],
+    inputs: &[u8],
+    leaves: &[u8],
+    words: &[u8],
+    upper: usize,
+    first: &[usize],
+    count: usize,
+) -> u64
+    requires part { ⌜ RowsWithin (2 ^ 21) (now base) × Slotted (ofDegree degree (now alphabet)) (now slots)
+        × (getD (wordGiven (ofDegree degree (now leaves)) (now words) upper) 0 0 < elementCount (ofDegree degree (now inputs))) ⌝ }
+    requires weights { ⌜ (count ≤ 64) × (count ≤ length (now first)) ⌝ }
+    ensures { λ r. ⌜ Good (ofDegree degree (now (alphabet .entry))) (ofDegree degree (now (leaves .entry))) (now (first .entry))
+        (upperPart (now (base .entry)) (ofDegree degree (now (inputs .entry))) (ofDegree degree (now (leaves .entry))) (now (words .entry)) upper) r ⌝ }
+{
+    let part = pair_digits::upper_part(degree, base, inputs, leaves, words, upper);
+    good_set(degree, alphabet, slots, part, leaves, first, count)
+}
+
+// The same with the degree as a constant where it is two, as above.
+fn judge_at_two(
+    base: &[[i64; 4]; 4],
+    alphabet: &[u8],
+    slots: &[u8; SLOTS],
+    inputs: &[u8],
+    leaves: &[u8],
+    words: &[u8],
+    upper: usize,
+    first: &[usize],
+    count: usize,
+) -> u64
+    requires part { ⌜ RowsWithin (2 ^ 21) (now base) × Slotted (ofDegree Two (now alphabet)) (now slots)
+        × (getD (wordGiven (ofDegree Two (now leaves)) (now words) upper) 0 0 < elementCount (ofDegree Two (now inputs))) ⌝ }
+    requires weights { ⌜ (count ≤ 64) × (count ≤ length (now first)) ⌝ }
+    ensures { λ r. ⌜ Good (ofDegree Two (now (alphabet .entry))) (ofDegree Two (now (leaves .entry))) (now (first .entry))
+        (upperPart (now (base .entry)) (ofDegree Two (now (inputs .entry))) (ofDegree Two (now (leaves .entry))) (now (words .entry)) upper) r ⌝ }
+{
+    judge(
+        Degree::Two,
+        base,
+        alphabet,
+        slots,
+        inputs,
+        leaves,
+        words,
+        upper,
+        first,
+        count,
+    )
+}
+
+fn judge_by(
+    degree: Degree,
+    base: &[[i64; 4]; 4],
+    alphabet: &[u8],
+    slots: &[u8; SLOTS],
+    inputs: &[u8],
+    leaves: &[u8],
+    words: &[u8],
+    upper: usize,
+    first: &[usize],
+    count: usize,
+) -> u64
+    requires part { ⌜ RowsWithin (2 ^ 21) (now base) × Slotted (ofDegree degree (now alphabet)) (now slots)
+        × (getD (wordGiven (ofDegree degree (now leaves)) (now words) upper) 0 0 < elementCount (ofDegree degree (now inputs))) ⌝ }
+    requires weights { ⌜ (count ≤ 64) × (count ≤ length (now first)) ⌝ }
+    ensures { λ r. ⌜ Good (ofDegree degree (now (alphabet .entry))) (ofDegree degree (now (leaves .entry))) (now (first .entry))
+        (upperPart (now (base .entry)) (ofDegree degree (now (inputs .entry))) (ofDegree degree (now (leaves .entry))) (now (words .entry)) upper) r ⌝ }
+{
+    match degree {
+        Degree::Two => judge_at_two(
+            base,
+            alphabet,
+            slots,
+            inputs,
+            leaves,
+            words,
+            upper,
+            first,
+            count,
+        ),
+        Degree::Three => judge(
+            degree,
+            base,
+            alphabet,
+            slots,
+            inputs,
+            leaves,
+            words,
+            upper,
+            first,
+            count,
+        ),
+        Degree::Four => judge(
+            degree,
+            base,
+            alphabet,
+            slots,
+            inputs,
+            leaves,
+            words,
+            upper,
+            first,
+            count,
+        ),
+    }
+}
+
 // The same, judged once for each first digit and weight of an upper leaf: leaves come in the order of their first digits.
 pub fn judged(
     degree: Degree,
-    base: [[i64; 4]; 4],
+    base: &[[i64; 4]; 4],
     alphabet: &[u8],
     slots: &[u8; SLOTS],
     inputs: &[u8],
@@ -200,22 +332,32 @@ pub fn judged(
     made: &mut [usize; WEIGHTS],
     good: &mut [u64; WEIGHTS],
 ) -> u64
-    requires part { ⌜ RowsWithin (2 ^ 21) base × Slotted (ofDegree degree (now alphabet)) (now slots)
+    requires part { ⌜ RowsWithin (2 ^ 21) (now base) × Slotted (ofDegree degree (now alphabet)) (now slots)
         × (getD (wordGiven (ofDegree degree (now leaves)) (now words) upper) 0 0 < elementCount (ofDegree degree (now inputs))) ⌝ }
     requires number { ⌜ (number < 64) × (count ≤ 64) × (count ≤ length (now first))
         × (weightGiven (ofDegree degree (now leaves)) (getD (now first) number 0) ≡ weightGiven (ofDegree degree (now leaves)) upper) ⌝ }
-    requires kept { ⌜ Judged base (ofDegree degree (now alphabet)) (ofDegree degree (now inputs)) (ofDegree degree (now leaves)) (now first) (now made) (now good) ⌝ }
+    requires kept { ⌜ Judged (now base) (ofDegree degree (now alphabet)) (ofDegree degree (now inputs)) (ofDegree degree (now leaves)) (now first) (now made) (now good) ⌝ }
     ensures good { λ r. ⌜ Good (ofDegree degree (now (alphabet .entry))) (ofDegree degree (now (leaves .entry))) (now (first .entry))
-        (upperPart base (ofDegree degree (now (inputs .entry))) (ofDegree degree (now (leaves .entry))) (now (words .entry)) upper) r ⌝ }
-    ensures kept { λ r. ⌜ Judged base (ofDegree degree (now (alphabet .entry))) (ofDegree degree (now (inputs .entry))) (ofDegree degree (now (leaves .entry))) (now (first .entry))
+        (upperPart (now (base .entry)) (ofDegree degree (now (inputs .entry))) (ofDegree degree (now (leaves .entry))) (now (words .entry)) upper) r ⌝ }
+    ensures kept { λ r. ⌜ Judged (now (base .entry)) (ofDegree degree (now (alphabet .entry))) (ofDegree degree (now (inputs .entry))) (ofDegree degree (now (leaves .entry))) (now (first .entry))
         (now (made .exit)) (now (good .exit)) ⌝ }
 {
     let digit = octets::wide(octets::byte_at(leaves::word(degree, leaves, words, upper), 0)) + 1;
     if made[number] == digit {
         return good[number];
     }
-    let part = pair_digits::upper_part(degree, base, inputs, leaves, words, upper);
-    let set = good_set(degree, alphabet, slots, part, leaves, first, count);
+    let set = judge_by(
+        degree,
+        base,
+        alphabet,
+        slots,
+        inputs,
+        leaves,
+        words,
+        upper,
+        first,
+        count,
+    );
     good[number] = set;
     made[number] = digit;
     set

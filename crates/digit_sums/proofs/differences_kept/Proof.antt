@@ -13,15 +13,15 @@ record-count-requires c κs = search needs
 returns : tie.Need-returns
 returns c = λ no. clash no refl
 
-link-requires : tie.Need-link-requires
-link-requires c κs = omega (arith, c .before .before .before .record-count .ensures, c .before .before .if1 .left)
+link-by-requires : tie.Need-link-by-requires
+link-by-requires c κs = omega (arith, c .before .before .before .record-count .ensures, c .before .before .if1 .left)
 
-mark-all-requires : tie.Need-mark-all-requires
-mark-all-requires c κs = (omega (arith, c .before .before .before .before .before .before .before .record-count .ensures, c .before .before .before .before .before .before .if1 .left), none-marked _ _ 136)
+mark-all-by-requires : tie.Need-mark-all-by-requires
+mark-all-by-requires c κs = (omega (arith, c .before .before .before .before .before .before .before .record-count .ensures, c .before .before .before .before .before .before .if1 .left), none-marked _ _ 136)
 
 returns-2 : tie.Need-returns-2
-returns-2 c = λ yes. differences-listed _ _ (c .mark-all .ensures .0 yes)
+returns-2 c = λ yes. differences-listed _ _ (c .mark-all-by .ensures .0 yes)
 
 pub differences-kept-spec : {M : Type 1} → statement M
 differences-kept-spec =
-    tie.close (tie.spec record-count-requires returns link-requires mark-all-requires returns-2)
+    tie.close (tie.spec record-count-requires returns link-by-requires mark-all-by-requires returns-2)

@@ -23,20 +23,20 @@ record-allowed-requires c κs = search needs
 returns-3 : tie.Need-returns-3
 returns-3 c = λ no. clash no refl
 
-link-requires : tie.Need-link-requires
-link-requires c κs = omega (arith, c .before .before .before .before .before .before .record-count .ensures, c .before .before .before .before .if2 .left)
+link-by-requires : tie.Need-link-by-requires
+link-by-requires c κs = omega (arith, c .before .before .before .before .before .before .record-count .ensures, c .before .before .before .before .if2 .left)
 
-mark-all-requires : tie.Need-mark-all-requires
-mark-all-requires c κs = (omega (arith, c .before .before .before .before .before .before .before .before .before .before .record-count .ensures, c .before .before .before .before .before .before .before .before .if2 .left), none-marked _ _ 136)
+mark-all-by-requires : tie.Need-mark-all-by-requires
+mark-all-by-requires c κs = (omega (arith, c .before .before .before .before .before .before .before .before .before .before .record-count .ensures, c .before .before .before .before .before .before .before .before .if2 .left), none-marked _ _ 136)
 
 returns-4 : tie.Need-returns-4
 returns-4 c = λ no. clash no refl
 
 each-found-requires : tie.Need-each-found-requires
-each-found-requires c κs = (omega (arith, c .before .before .before .before .before .before .before .before .before .before .before .before .before .before .before .record-count .ensures, c .before .before .before .before .before .before .before .before .before .before .before .before .before .if2 .left), c .before .before .before .before .mark-all .ensures .1)
+each-found-requires c κs = (omega (arith, c .before .before .before .before .before .before .before .before .before .before .before .before .before .before .before .record-count .ensures, c .before .before .before .before .before .before .before .before .before .before .before .before .before .if2 .left), c .before .before .before .before .mark-all-by .ensures .1)
 
 returns-5 : tie.Need-returns-5
-returns-5 c = λ yes. located-kept _ _ _ (sym (c .before .before .before .before .before .before .before .before .before .before .before .before .before .record-allowed .ensures) ∙ not-false _ (c .before .before .before .before .before .before .before .before .before .before .before .before .if3 .left)) (c .each-found .ensures yes) _ (c .before .before .before .before .before .mark-all .ensures .0 (not-false _ (c .before .before .before .before .if4 .left)))
+returns-5 c = λ yes. located-kept _ _ _ (sym (c .before .before .before .before .before .before .before .before .before .before .before .before .before .record-allowed .ensures) ∙ not-false _ (c .before .before .before .before .before .before .before .before .before .before .before .before .if3 .left)) (c .each-found .ensures yes) _ (c .before .before .before .before .before .mark-all-by .ensures .0 (not-false _ (c .before .before .before .before .if4 .left)))
 
 pub inputs-kept-spec : {M : Type 1} → statement M
 inputs-kept-spec =
@@ -47,8 +47,8 @@ inputs-kept-spec =
     returns-2
     record-allowed-requires
     returns-3
-    link-requires
-    mark-all-requires
+    link-by-requires
+    mark-all-by-requires
     returns-4
     each-found-requires
     returns-5)

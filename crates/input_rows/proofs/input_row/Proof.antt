@@ -38,8 +38,8 @@ byte-at-requires-2 c κs = search needs
 cast-lower : tie.Need-cast-lower Inv-loop μ-loop
 cast-lower c = search needs
 
-learn-requires : tie.Need-learn-requires Inv-loop μ-loop
-learn-requires c κs =
+learn-by-requires : tie.Need-learn-by-requires Inv-loop μ-loop
+learn-by-requires c κs =
     let pre = c .before .before .before .before .before .before .before .before .before .pre in
     let here = c .before .before .before .before .loop .place in
     ((pre .5, pre .2), ((omega (arith, c .before .before .byte-at .ensures, pre .3 here (c .before .before .before .loop-test .taken)), omega (arith, c .before .byte-at2 .ensures, pre .4 here (c .before .before .before .loop-test .taken))), c .before .before .before .before .loop .inv .3))
@@ -65,9 +65,9 @@ loop-again c =
     let loop = c .before .before .before .before .before .before .before .before .loop in
     let run = c .known-run .ensures in
     let f = inputAt (a .operation) (ofDegree (a .degree) (a .alphabet .now)) (ofDegree (a .degree) (a .inputs .now)) (changed (a .change) 0 (a .first .now)) (changed (a .change) 1 (a .second .now)) in
-    let known = c .before .before .before .learn .ensures .1 in
-    let index = c .before .before .before .learn .ensures .0 ∙ ap₂ (pairIndex (a .operation) (ofDegree (a .degree) (a .alphabet .now)) (ofDegree (a .degree) (a .inputs .now))) (c .before .before .before .before .before .before .byte-at .ensures) (c .before .before .before .before .before .byte-at2 .ensures) in
-    let here = row-next f (a .from) (loop .place) (loop .row) (c .before .before .before .learn .result) (loop .inv .0) (omega (arith, pre .1, c .before .before .before .before .before .before .before .loop-test .taken)) (loop .inv .2) index in
+    let known = c .before .before .before .learn-by .ensures .1 in
+    let index = c .before .before .before .learn-by .ensures .0 ∙ ap₂ (pairIndex (a .operation) (ofDegree (a .degree) (a .alphabet .now)) (ofDegree (a .degree) (a .inputs .now))) (c .before .before .before .before .before .before .byte-at .ensures) (c .before .before .before .before .before .byte-at2 .ensures) in
+    let here = row-next f (a .from) (loop .place) (loop .row) (c .before .before .before .learn-by .result) (loop .inv .0) (omega (arith, pre .1, c .before .before .before .before .before .before .before .loop-test .taken)) (loop .inv .2) index in
     (omega (arith, run .0 .0, loop .inv .0), run .0 .1, run .1 f (a .from) (omega (arith, loop .inv .0)) here (λ k low high. known .right _ _ (omega (arith, pre .3 k (omega (arith, run .0 .1)), pre .5)) (omega (arith, pre .4 k (omega (arith, run .0 .1)), pre .5))), known)
 
 returns : tie.Need-returns Inv-loop μ-loop
@@ -86,7 +86,7 @@ input-row-spec =
     cast-upper
     byte-at-requires-2
     cast-lower
-    learn-requires
+    learn-by-requires
     array-write-row
     add-known-run
     known-run-requires

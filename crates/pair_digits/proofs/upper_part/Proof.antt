@@ -31,18 +31,18 @@ weight-requires : tie.Need-weight-requires
 weight-requires c κs = search needs
 
 times-base-requires : tie.Need-times-base-requires
-times-base-requires c κs = (c .before .before .before .before .before .before .before .pre .0, within-le 32768 (2 ^ 32) _ (lit≤ tt) (c .weight .ensures .1))
+times-base-requires c κs = (c .before .before .before .before .before .before .before .before .pre .0, within-le 32768 (2 ^ 32) _ (lit≤ tt) (c .weight .ensures .1))
 
 difference-requires : tie.Need-difference-requires
 difference-requires c κs =
-    (within-le 32768 (2 ^ 61) _ (lit≤ tt) (c .before .before .record-at .ensures .1), within-le (2 ^ 55) (2 ^ 61) _ (lit≤ tt) (c .times-base .ensures .1))
+    (within-le 32768 (2 ^ 61) _ (lit≤ tt) (c .before .before .before .record-at .ensures .1), within-le (2 ^ 55) (2 ^ 61) _ (lit≤ tt) (c .times-base .ensures .1))
 
 returns : tie.Need-returns
 returns c =
-    let first = c .before .before .before .before .byte-at .ensures ∙ ap (λ w. getD w 0 0) (c .before .before .before .before .before .word .ensures) in
-    let input = c .before .before .before .record-at .ensures .0 ∙ ap (recordAt (ofDegree (c .before .before .before .before .before .before .before .before .before .args .degree) (c .before .before .before .before .before .before .before .before .before .args .inputs .now))) first in
-    let product = c .before .times-base .ensures .0 ∙ ap (paddedTimes (partCount (c .before .before .before .before .before .before .before .before .before .args .degree)) (c .before .before .before .before .before .before .before .before .before .args .base)) (c .before .before .weight .ensures .0) in
-    let whole = within-minus 32768 (2 ^ 55) (c .before .before .before .record-at .result) (c .before .times-base .result) (c .before .before .before .record-at .ensures .1) (c .before .times-base .ensures .1) in
+    let first = c .before .before .before .before .before .byte-at .ensures ∙ ap (λ w. getD w 0 0) (c .before .before .before .before .before .before .word .ensures) in
+    let input = c .before .before .before .before .record-at .ensures .0 ∙ ap (recordAt (ofDegree (c .before .before .before .before .before .before .before .before .before .before .args .degree) (c .before .before .before .before .before .before .before .before .before .before .args .inputs .now))) first in
+    let product = c .before .times-base .ensures .0 ∙ ap (paddedTimes (partCount (c .before .before .before .before .before .before .before .before .before .before .args .degree)) (c .before .before .before .before .before .before .before .before .before .before .args .base .now)) (c .before .before .weight .ensures .0) in
+    let whole = within-minus 32768 (2 ^ 55) (c .before .before .before .before .record-at .result) (c .before .times-base .result) (c .before .before .before .before .record-at .ensures .1) (c .before .times-base .ensures .1) in
     (c .difference .ensures ∙ (λ i. minus (input i) (product i)), subst (Within (2 ^ 55 + 32768)) (sym (c .difference .ensures)) (within-le (32768 + 2 ^ 55) (2 ^ 55 + 32768) _ (lit≤ tt) whole))
 
 pub upper-part-spec : {M : Type 1} → statement M

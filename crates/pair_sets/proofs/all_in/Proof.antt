@@ -117,7 +117,7 @@ loop-again c =
     let loop = c .before .before .before .before .before .before .before .before .before .loop in
     let fitting = c .before .before .before .before .before .before .before .fitting in (
       omega (arith, fitting .ensures .0, leaf-count .ensures),
-      all-next leaves words (elementCount inputs) (pre .0 .1) (formed leaves words (elementCount inputs) (pre .0 .1) (pre .0 .2)) (a .base) inputs (ofDegree (a .degree) (a .alphabet .now)) (a .numbers .now) (a .first .now) (a .count)
+      all-next leaves words (elementCount inputs) (pre .0 .1) (formed leaves words (elementCount inputs) (pre .0 .1) (pre .0 .2)) (a .base .now) inputs (ofDegree (a .degree) (a .alphabet .now)) (a .numbers .now) (a .first .now) (a .count)
           (pre .1 .1 .1) (loop .upper) (omega (arith, leaf-count .ensures)) (fitting .result .set) (c .before .judged .result)
           (fitting .ensures .1 words (ready-words leaves words (elementCount inputs) (formed leaves words (elementCount inputs) (pre .0 .1) (pre .0 .2)) (λ i. omega (arith, shared-slice-known4 .given i))) (pre .1 .1 .0))
           (omega (arith, c .if2 .left)) (c .before .judged .ensures .0) (loop .inv .1),

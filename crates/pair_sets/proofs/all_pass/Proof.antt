@@ -1,4 +1,4 @@
--- Yes is said only where the look at few or at many leaves says it.
+-- Yes is said only where the look at the fewest, at few or at many leaves says it.
 use Rattle.lists.proofs.Test.{clash}
 use mathlib.Core.Path.{refl}
 use borrow.Author.Needs.{needs}
@@ -8,8 +8,11 @@ use Rattle.pair_sets.proofs.all_pass.Tie as tie
 leaf-count-requires : tie.Need-leaf-count-requires
 leaf-count-requires c κs = search needs
 
+look-at-fewest-requires : tie.Need-look-at-fewest-requires
+look-at-fewest-requires c κs = search needs
+
 returns : tie.Need-returns
-returns c = λ no. clash no refl
+returns c = search needs
 
 look-at-few-requires : tie.Need-look-at-few-requires
 look-at-few-requires c κs = search needs
@@ -31,6 +34,7 @@ all-pass-spec =
     tie.close
     (tie.spec
     leaf-count-requires
+    look-at-fewest-requires
     returns
     look-at-few-requires
     returns-2

@@ -16,11 +16,11 @@ use borrow.Author.Needs.{needs}
 use Rattle.pair_sets.proofs.look.Statement.{statement}
 use Rattle.pair_sets.proofs.look.Tie as tie
 
-slice-aggregate-number-weights : tie.Need-slice-aggregate-number-weights
-slice-aggregate-number-weights c = search needs
+slice-aggregate-number-weights-by : tie.Need-slice-aggregate-number-weights-by
+slice-aggregate-number-weights-by c = search needs
 
-number-weights-requires : tie.Need-number-weights-requires
-number-weights-requires c κs = search needs
+number-weights-by-requires : tie.Need-number-weights-by-requires
+number-weights-by-requires c κs = search needs
 
 same-length : tie.Need-same-length
 same-length c = search needs
@@ -28,8 +28,8 @@ same-length c = search needs
 returns : tie.Need-returns
 returns c = λ no. clash no refl
 
-keys-of-requires : tie.Need-keys-of-requires
-keys-of-requires c κs =
+keys-of-by-requires : tie.Need-keys-of-by-requires
+keys-of-by-requires c κs =
     let a = c .before .before .before .before .before .before .before .before .before .before .before .before .before .before .before .before .args in
     let leaves = ofDegree (a .degree) (a .leaves .now) in
     let inputs = ofDegree (a .degree) (a .inputs .now) in
@@ -44,11 +44,11 @@ leaf-count-requires c κs = search needs
 eights-requires : tie.Need-eights-requires
 eights-requires c κs =
     let pre = c .before .before .before .before .before .before .before .before .before .before .before .before .before .before .before .before .before .before .before .before .before .before .pre in
-    let number-weights = c .before .before .before .before .before .before .before .before .before .before .before .number-weights in
+    let number-weights-by = c .before .before .before .before .before .before .before .before .before .before .before .number-weights-by in
     let numbers = c .before .before .before .before .before .before .before .before .before .before .numbers in
     let if1 = c .before .before .before .before .before .before .before .if1 in (
       (omega (arith, c .before .leaf-count .ensures, numbers .given, pre .1 .2), omega (arith, c .before .leaf-count .ensures, pre .1 .1)),
-      λ k h. omega (arith, number-weights .ensures (omega (arith, if1 .left)) k (omega (arith, c .before .leaf-count .ensures)) .0, if1 .left),
+      λ k h. omega (arith, number-weights-by .ensures (omega (arith, if1 .left)) k (omega (arith, c .before .leaf-count .ensures)) .0, if1 .left),
     )
 
 base-of-requires : tie.Need-base-of-requires
@@ -59,18 +59,18 @@ slice-aggregate-all-in c = search needs
 
 all-in-requires : tie.Need-all-in-requires
 all-in-requires c κs =
-    let a = c .before .before .before .before .before .before .before .before .before .before .before .before .before .before .before .before .before .before .before .before .before .before .before .before .before .before .before .before .before .before .args in
-    let pre = c .before .before .before .before .before .before .before .before .before .before .before .before .before .before .before .before .before .before .before .before .before .before .before .before .before .before .before .before .before .before .pre in
-    let number-weights = c .before .before .before .before .before .before .before .before .before .before .before .before .before .before .before .before .before .before .before .number-weights in
-    let numbers = c .before .before .before .before .before .before .before .before .before .before .before .before .before .before .before .before .before .before .numbers in
-    let first2 = c .before .before .before .before .before .before .before .before .before .before .before .before .before .before .before .before .first2 in
-    let if1 = c .before .before .before .before .before .before .before .before .before .before .before .before .before .before .before .if1 in
-    let keys-of = c .before .before .before .before .before .before .before .before .before .before .before .before .before .keys-of in
-    let keys = c .before .before .before .before .before .before .before .before .before .before .before .before .keys in
-    let leaf-count = c .before .before .before .before .before .before .before .before .before .leaf-count in
-    let eights = c .before .before .before .before .before .before .before .eights in
-    let sets = c .before .before .before .before .before .before .sets in
-    let base-of = c .before .before .before .before .base-of in (
+    let a = c .before .before .before .before .before .before .before .before .before .before .before .before .before .before .before .before .before .before .before .before .before .before .before .before .before .before .before .before .before .before .before .args in
+    let pre = c .before .before .before .before .before .before .before .before .before .before .before .before .before .before .before .before .before .before .before .before .before .before .before .before .before .before .before .before .before .before .before .pre in
+    let number-weights-by = c .before .before .before .before .before .before .before .before .before .before .before .before .before .before .before .before .before .before .before .before .number-weights-by in
+    let numbers = c .before .before .before .before .before .before .before .before .before .before .before .before .before .before .before .before .before .before .before .numbers in
+    let first2 = c .before .before .before .before .before .before .before .before .before .before .before .before .before .before .before .before .before .first2 in
+    let if1 = c .before .before .before .before .before .before .before .before .before .before .before .before .before .before .before .before .if1 in
+    let keys-of = c .before .before .before .before .before .before .before .before .before .before .before .before .before .before .keys-of-by in
+    let keys = c .before .before .before .before .before .before .before .before .before .before .before .before .before .keys in
+    let leaf-count = c .before .before .before .before .before .before .before .before .before .before .leaf-count in
+    let eights = c .before .before .before .before .before .before .before .before .eights in
+    let sets = c .before .before .before .before .before .before .before .sets in
+    let base-of = c .before .before .before .before .before .base-of in (
       (subst (RowsWithin (2 ^ 21)) (sym (base-of .ensures)) (base-within (ofDegree (a .degree) (a .base .now)) (pre .0 .0)), pre .0 .1, pre .0 .2),
       (
         (
@@ -80,7 +80,7 @@ all-in-requires c κs =
           omega (arith, if1 .left),
           omega (arith, if1 .left, first2 .given),
         ),
-        (keys-of .ensures, number-weights .ensures (omega (arith, if1 .left)), λ l k h there. eights .ensures l k h (omega (arith, there, leaf-count .ensures))),
+        (keys-of .ensures, number-weights-by .ensures (omega (arith, if1 .left)), λ l k h there. eights .ensures l k h (omega (arith, there, leaf-count .ensures))),
       ),
     )
 
@@ -95,20 +95,20 @@ same-length-4 c = search needs
 
 returns-2 : tie.Need-returns-2
 returns-2 c =
-    let a = c .before .before .before .before .before .before .before .before .before .before .before .before .before .before .before .before .before .before .before .before .before .before .before .before .before .before .before .before .before .before .before .args in
+    let a = c .before .before .before .before .before .before .before .before .before .before .before .before .before .before .before .before .before .before .before .before .before .before .before .before .before .before .before .before .before .before .before .before .args in
     let leaves = ofDegree (a .degree) (a .leaves .now) in
-    let base-of = c .before .before .before .before .before .base-of in
+    let base-of = c .before .before .before .before .before .before .base-of in
     λ yes. subst (λ b. AllPass b (ofDegree (a .degree) (a .alphabet .now)) (ofDegree (a .degree) (a .inputs .now)) leaves (a .words .now) (leafCount leaves)) (base-of .ensures) (c .all-in .ensures yes)
 
 pub look-spec : {M : Type 1} → statement M
 look-spec =
     tie.close
     (tie.spec
-    slice-aggregate-number-weights
-    number-weights-requires
+    slice-aggregate-number-weights-by
+    number-weights-by-requires
     same-length
     returns
-    keys-of-requires
+    keys-of-by-requires
     leaf-count-requires
     eights-requires
     base-of-requires

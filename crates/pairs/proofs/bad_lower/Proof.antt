@@ -29,11 +29,11 @@ use Rattle.pairs.proofs.bad_lower.Statement.{statement}
 use Rattle.pairs.proofs.bad_lower.Tie as tie
 
 abbrev Inv-loop : tie.InvT-loop
-Inv-loop degree alphabet known slots inputs leaves words upper guess count top part lower₀ lower =
+Inv-loop degree base alphabet known slots inputs leaves words upper guess count top part lower₀ lower =
     (lowestFit (codeOf (ofDegree degree leaves) words) upper ≤ lower) × ((matrix : List (List ℤ)) → part ≡ upperPart matrix (ofDegree degree inputs) (ofDegree degree leaves) words upper → (j : ℕ) → j < lower → pairPasses (elements (partCount degree) matrix) (recordAt (ofDegree degree inputs)) (codeOf (ofDegree degree leaves) words) (inAlphabet (ofDegree degree alphabet)) upper j ≡ true)
 
 abbrev μ-loop : tie.MeasureT-loop
-μ-loop degree alphabet known slots inputs leaves words upper guess count top part lower₀ lower = count - lower
+μ-loop degree base alphabet known slots inputs leaves words upper guess count top part lower₀ lower = count - lower
 
 well : (s : tie.Start Inv-loop μ-loop) → LeavesFormed (ofDegree (s .args .degree) (s .args .leaves .now)) (s .args .words .now) (elementCount (ofDegree (s .args .degree) (s .args .inputs .now)))
 well s = formed (ofDegree (s .args .degree) (s .args .leaves .now)) (s .args .words .now) (elementCount (ofDegree (s .args .degree) (s .args .inputs .now))) (s .pre .0 .1) (s .pre .0 .2)
@@ -56,17 +56,17 @@ fit-says c =
     let h : loop .lower < leafCount leaves = omega (arith, counted (c .before .before .before .before .before .before .before .before), c .before .before .loop-test .taken) in
     c .fit .ensures ∙ (λ i. agree (λ k. getD (top i) (k + 1) 0) (λ k. getD (low i) k 0) (min (pred (length (top i))) (length (low i)))) ∙ fit-is leaves words (elementCount (ofDegree (s .args .degree) (s .args .inputs .now))) (s .pre .0 .1) (well s) (s .args .upper) (s .pre .1 .0) (loop .lower) h
 
-pair-says : (c : tie.After-gives-digit Inv-loop μ-loop) (matrix : List (List ℤ)) →
+pair-says : (c : tie.After-gives-digit-by Inv-loop μ-loop) (matrix : List (List ℤ)) →
     (let a = c .before .before .before .before .before .before .before .before .before .before .before .before .before .before .before .args in
-    c .before .before .before .before .before .before .before .before .upper-part .result ≡ upperPart matrix (ofDegree (a .degree) (a .inputs .now)) (ofDegree (a .degree) (a .leaves .now)) (a .words .now) (a .upper)
-    → c .gives-digit .result ≡ pairPasses (elements (partCount (a .degree)) matrix) (recordAt (ofDegree (a .degree) (a .inputs .now))) (codeOf (ofDegree (a .degree) (a .leaves .now)) (a .words .now)) (inAlphabet (ofDegree (a .degree) (a .alphabet .now))) (a .upper)
+    c .before .before .before .before .before .before .before .before .upper-part-by .result ≡ upperPart matrix (ofDegree (a .degree) (a .inputs .now)) (ofDegree (a .degree) (a .leaves .now)) (a .words .now) (a .upper)
+    → c .gives-digit-by .result ≡ pairPasses (elements (partCount (a .degree)) matrix) (recordAt (ofDegree (a .degree) (a .inputs .now))) (codeOf (ofDegree (a .degree) (a .leaves .now)) (a .words .now)) (inAlphabet (ofDegree (a .degree) (a .alphabet .now))) (a .upper)
     (c .before .before .before .before .before .loop .lower))
 pair-says c matrix own =
     let s = c .before .before .before .before .before .before .before .before .before .before .before .before .before .before .before in
     let d = c .before .before in
     let l = d .before .before .before .loop .lower in
     let h : d .before .before .before .loop .lower < leafCount (ofDegree (s .args .degree) (s .args .leaves .now)) = omega (arith, counted (d .before .before .before .before .before .before .before .before), d .before .before .loop-test .taken) in
-    c .gives-digit .ensures ∙ ap (λ p. inAlphabet (ofDegree (s .args .degree) (s .args .alphabet .now)) (plus p (weightGiven (ofDegree (s .args .degree) (s .args .leaves .now)) l))) own ∙ pair-is (ofDegree (s .args .degree) (s .args .leaves .now)) (s .args .words .now)
+    c .gives-digit-by .ensures ∙ ap (λ p. inAlphabet (ofDegree (s .args .degree) (s .args .alphabet .now)) (plus p (weightGiven (ofDegree (s .args .degree) (s .args .leaves .now)) l))) own ∙ pair-is (ofDegree (s .args .degree) (s .args .leaves .now)) (s .args .words .now)
     (elementCount (ofDegree (s .args .degree) (s .args .inputs .now))) (s .pre .0 .1) (well s) (s .args .upper) (s .pre .1 .0) matrix (ofDegree (s .args .degree) (s .args .inputs .now)) (inAlphabet (ofDegree (s .args .degree) (s .args .alphabet .now))) l h
     (sym (fit-says d) ∙ not-false _ (c .before .if1 .left))
 
@@ -76,8 +76,8 @@ leaf-count-requires c κs = search needs
 word-requires : tie.Need-word-requires Inv-loop μ-loop
 word-requires c κs = search needs
 
-upper-part-requires : tie.Need-upper-part-requires Inv-loop μ-loop
-upper-part-requires c κs =
+upper-part-by-requires : tie.Need-upper-part-by-requires Inv-loop μ-loop
+upper-part-by-requires c κs =
     let s = (c .before .before .before .before .before .before) in
     (s .pre .0 .0, first-input (ofDegree (s .args .degree) (s .args .leaves .now)) (s .args .words .now) (elementCount (ofDegree (s .args .degree) (s .args .inputs .now))) (s .pre .0 .1) (well s) (s .args .upper) (s .pre .1 .0))
 
@@ -107,27 +107,27 @@ fit-requires c κs = search needs
 returns : tie.Need-returns Inv-loop μ-loop
 returns c =
     let s = c .before .before .before .before .before .before .before .before .before .before .before .before .before .before in
-    let upper-part = c .before .before .before .before .before .before .before .upper-part in
+    let upper-part-by = c .before .before .before .before .before .before .before .upper-part-by in
     let loop = c .before .before .before .before .loop in
     let leaves = ofDegree (s .args .degree) (s .args .leaves .now) in
     let count = counted (c .before .before .before .before .before .before .before .before .before) in
-    count ∙ ends-unfit leaves (s .args .words .now) (elementCount (ofDegree (s .args .degree) (s .args .inputs .now))) (s .pre .0 .1) (well s) (s .args .upper) (s .pre .1 .0) (s .args .base) (ofDegree (s .args .degree) (s .args .inputs .now))
+    count ∙ ends-unfit leaves (s .args .words .now) (elementCount (ofDegree (s .args .degree) (s .args .inputs .now))) (s .pre .0 .1) (well s) (s .args .upper) (s .pre .1 .0) (s .args .base .now) (ofDegree (s .args .degree) (s .args .inputs .now))
     (inAlphabet (ofDegree (s .args .degree) (s .args .alphabet .now))) (loop .lower) (loop .inv .0) (omega (arith, count, c .before .before .before .loop-test .taken))
-    (sym (fit-says (c .before)) ∙ not-true _ (c .if1 .taken)) (loop .inv .1 (s .args .base) (upper-part .ensures .0))
+    (sym (fit-says (c .before)) ∙ not-true _ (c .if1 .taken)) (loop .inv .1 (s .args .base .now) (upper-part-by .ensures .0))
 
-gives-digit-requires : tie.Need-gives-digit-requires Inv-loop μ-loop
-gives-digit-requires c κs = (c .before .before .before .before .before .before .before .before .before .before .before .before .before .before .pre .1 .1, c .before .before .before .before .before .before .before .upper-part .ensures .1)
+gives-digit-by-requires : tie.Need-gives-digit-by-requires Inv-loop μ-loop
+gives-digit-by-requires c κs = (c .before .before .before .before .before .before .before .before .before .before .before .before .before .before .pre .1 .1, c .before .before .before .before .before .before .before .upper-part-by .ensures .1)
 
 returns-2 : tie.Need-returns-2 Inv-loop μ-loop
 returns-2 c =
     let s = c .before .before .before .before .before .before .before .before .before .before .before .before .before .before .before .before in
-    let upper-part = c .before .before .before .before .before .before .before .before .before .upper-part in
+    let upper-part-by = c .before .before .before .before .before .before .before .before .before .upper-part-by in
     let loop = c .before .before .before .before .before .before .loop in
     let loop-test = c .before .before .before .before .before .loop-test in
-    ends-bad (ofDegree (s .args .degree) (s .args .leaves .now)) (s .args .words .now) (elementCount (ofDegree (s .args .degree) (s .args .inputs .now))) (s .pre .0 .1) (well s) (s .args .upper) (s .pre .1 .0) (s .args .base) (ofDegree (s .args .degree) (s .args .inputs .now))
+    ends-bad (ofDegree (s .args .degree) (s .args .leaves .now)) (s .args .words .now) (elementCount (ofDegree (s .args .degree) (s .args .inputs .now))) (s .pre .0 .1) (well s) (s .args .upper) (s .pre .1 .0) (s .args .base .now) (ofDegree (s .args .degree) (s .args .inputs .now))
     (inAlphabet (ofDegree (s .args .degree) (s .args .alphabet .now))) (loop .lower)
     (omega (arith, counted (c .before .before .before .before .before .before .before .before .before .before .before), loop-test .taken))
-    (sym (pair-says (c .before) (s .args .base) (upper-part .ensures .0)) ∙ not-true _ (c .if2 .taken)) (loop .inv .1 (s .args .base) (upper-part .ensures .0))
+    (sym (pair-says (c .before) (s .args .base .now) (upper-part-by .ensures .0)) ∙ not-true _ (c .if2 .taken)) (loop .inv .1 (s .args .base .now) (upper-part-by .ensures .0))
 
 add-lower : tie.Need-add-lower Inv-loop μ-loop
 add-lower c = omega arith
@@ -143,7 +143,7 @@ returns-3 c =
     let s = (c .before .before .before .before .before .before .before .before .before .before .before) in
     let loop = c .before .loop in
     let count = counted (c .before .before .before .before .before .before) in
-    count ∙ ends-all (ofDegree (s .args .degree) (s .args .leaves .now)) (s .args .words .now) (elementCount (ofDegree (s .args .degree) (s .args .inputs .now))) (s .pre .0 .1) (well s) (s .args .upper) (s .pre .1 .0) (s .args .base) (ofDegree (s .args .degree) (s .args .inputs .now)) (inAlphabet (ofDegree (s .args .degree) (s .args .alphabet .now))) (loop .lower) (omega (arith, count, c .loop-test .left)) (loop .inv .1 (s .args .base) (c .before .before .before .before .upper-part .ensures .0))
+    count ∙ ends-all (ofDegree (s .args .degree) (s .args .leaves .now)) (s .args .words .now) (elementCount (ofDegree (s .args .degree) (s .args .inputs .now))) (s .pre .0 .1) (well s) (s .args .upper) (s .pre .1 .0) (s .args .base .now) (ofDegree (s .args .degree) (s .args .inputs .now)) (inAlphabet (ofDegree (s .args .degree) (s .args .alphabet .now))) (loop .lower) (omega (arith, count, c .loop-test .left)) (loop .inv .1 (s .args .base .now) (c .before .before .before .before .upper-part-by .ensures .0))
 
 pub bad-lower-spec : {M : Type 1} → statement M
 bad-lower-spec =
@@ -153,14 +153,14 @@ bad-lower-spec =
     μ-loop
     leaf-count-requires
     word-requires
-    upper-part-requires
+    upper-part-by-requires
     tail-window-requires
     look-up-from-requires
     loop-holds
     word-requires-2
     fit-requires
     returns
-    gives-digit-requires
+    gives-digit-by-requires
     returns-2
     add-lower
     loop-less

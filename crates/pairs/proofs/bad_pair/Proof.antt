@@ -27,13 +27,13 @@ abbrev μ-loop : tie.MeasureT-loop
 
 -- the lowest lower leaf of the upper one, by the base's matrix
 lower-is : (c : tie.After-bad-lower Inv-loop μ-loop) →
-    (let a = c .before .before .before .before .before .before .before .before .before .before .before .before .before .args in
-    c .bad-lower .result .bad ≡ badLower (ofDegree (a .degree) (a .base .now)) (ofDegree (a .degree) (a .alphabet .now)) (ofDegree (a .degree) (a .inputs .now)) (ofDegree (a .degree) (a .leaves .now)) (a .words .now) (c .before .before .before .loop .upper))
+    (let a = c .before .before .before .before .before .before .before .before .before .before .before .before .before .before .args in
+    c .bad-lower .result .bad ≡ badLower (ofDegree (a .degree) (a .base .now)) (ofDegree (a .degree) (a .alphabet .now)) (ofDegree (a .degree) (a .inputs .now)) (ofDegree (a .degree) (a .leaves .now)) (a .words .now) (c .before .before .before .before .loop .upper))
 unfolding badLower
 lower-is c =
-    let s = c .before .before .before .before .before .before .before .before .before .before .before .before .before in
-    let base-of = c .before .before .before .before .before .before .before .base-of in
-    c .bad-lower .ensures ∙ ap (λ b. firstFailing (pairPasses (elements (partCount (s .args .degree)) b) (recordAt (ofDegree (s .args .degree) (s .args .inputs .now))) (codeOf (ofDegree (s .args .degree) (s .args .leaves .now)) (s .args .words .now)) (inAlphabet (ofDegree (s .args .degree) (s .args .alphabet .now))) (c .before .before .before .loop .upper)) 0 (leafCount (ofDegree (s .args .degree) (s .args .leaves .now)))) (base-of .ensures)
+    let s = c .before .before .before .before .before .before .before .before .before .before .before .before .before .before in
+    let base-of = c .before .before .before .before .before .before .before .before .base-of in
+    c .bad-lower .ensures ∙ ap (λ b. firstFailing (pairPasses (elements (partCount (s .args .degree)) b) (recordAt (ofDegree (s .args .degree) (s .args .inputs .now))) (codeOf (ofDegree (s .args .degree) (s .args .leaves .now)) (s .args .words .now)) (inAlphabet (ofDegree (s .args .degree) (s .args .alphabet .now))) (c .before .before .before .before .loop .upper)) 0 (leafCount (ofDegree (s .args .degree) (s .args .leaves .now)))) (base-of .ensures)
 
 base-of-requires : tie.Need-base-of-requires Inv-loop μ-loop
 base-of-requires c κs = c .before .before .before .before .before .pre .0
@@ -49,24 +49,24 @@ loop-holds c = λ j h. absurd (not-suc-le-zero h)
 
 bad-lower-requires : tie.Need-bad-lower-requires Inv-loop μ-loop
 bad-lower-requires c κs =
-    let a = c .before .before .before .before .before .before .before .before .before .before .before .before .args in
-    let pre = c .before .before .before .before .before .before .before .before .before .before .before .before .pre in
-    let base-of = c .before .before .before .before .before .before .base-of in
-    let slot-digits = c .before .before .before .before .slot-digits in
+    let a = c .before .before .before .before .before .before .before .before .before .before .before .before .before .args in
+    let pre = c .before .before .before .before .before .before .before .before .before .before .before .before .before .pre in
+    let base-of = c .before .before .before .before .before .before .before .base-of in
+    let slot-digits = c .before .before .before .before .before .slot-digits in
     let base = ofDegree (a .degree) (a .base .now) in (
       (subst (RowsWithin (2 ^ 21)) (sym (base-of .ensures)) (base-within base (pre .0)), pre .1, pre .2),
       (
-        omega (arith, c .before .before .before .leaf-count .ensures, c .before .loop-test .taken),
+        omega (arith, c .before .before .before .before .leaf-count .ensures, c .before .before .loop-test .taken),
         slot-digits .ensures,
       ),
     )
 
 returns : tie.Need-returns Inv-loop μ-loop
 returns c =
-    let a = c .before .before .before .before .before .before .before .before .before .before .before .before .before .before .args in
-    let leaf-count = c .before .before .before .before .before .leaf-count in
-    let loop = c .before .before .before .before .loop in
-    pair-found (ofDegree (a .degree) (a .base .now)) (ofDegree (a .degree) (a .alphabet .now)) (ofDegree (a .degree) (a .inputs .now)) (ofDegree (a .degree) (a .leaves .now)) (a .words .now) (loop .upper) (c .before .bad-lower .result .bad) (omega (arith, leaf-count .ensures, c .before .before .before .loop-test .taken)) (lower-is (c .before)) (omega (arith, leaf-count .ensures, c .if1 .taken)) (loop .inv)
+    let a = c .before .before .before .before .before .before .before .before .before .before .before .before .before .before .before .args in
+    let leaf-count = c .before .before .before .before .before .before .leaf-count in
+    let loop = c .before .before .before .before .before .loop in
+    pair-found (ofDegree (a .degree) (a .base .now)) (ofDegree (a .degree) (a .alphabet .now)) (ofDegree (a .degree) (a .inputs .now)) (ofDegree (a .degree) (a .leaves .now)) (a .words .now) (loop .upper) (c .before .bad-lower .result .bad) (omega (arith, leaf-count .ensures, c .before .before .before .before .loop-test .taken)) (lower-is (c .before)) (omega (arith, leaf-count .ensures, c .if1 .taken)) (loop .inv)
 
 add-upper : tie.Need-add-upper Inv-loop μ-loop
 add-upper c = omega arith
@@ -76,8 +76,8 @@ loop-less c = omega arith
 
 loop-again : tie.Need-loop-again Inv-loop μ-loop
 loop-again c =
-    let a = c .before .before .before .before .before .before .before .before .before .before .before .before .before .before .args in
-    below-more _ _ (c .before .before .before .before .loop .inv) (upper-passes (ofDegree (a .degree) (a .base .now)) (ofDegree (a .degree) (a .alphabet .now)) (ofDegree (a .degree) (a .inputs .now)) (ofDegree (a .degree) (a .leaves .now)) (a .words .now) (c .before .before .before .before .loop .upper) (omega (arith, lower-is (c .before), c .before .before .before .before .before .leaf-count .ensures, c .if1 .left)))
+    let a = c .before .before .before .before .before .before .before .before .before .before .before .before .before .before .before .args in
+    below-more _ _ (c .before .before .before .before .before .loop .inv) (upper-passes (ofDegree (a .degree) (a .base .now)) (ofDegree (a .degree) (a .alphabet .now)) (ofDegree (a .degree) (a .inputs .now)) (ofDegree (a .degree) (a .leaves .now)) (a .words .now) (c .before .before .before .before .before .loop .upper) (omega (arith, lower-is (c .before), c .before .before .before .before .before .before .leaf-count .ensures, c .if1 .left)))
 
 returns-2 : tie.Need-returns-2 Inv-loop μ-loop
 returns-2 c =

@@ -13,8 +13,8 @@ use Rattle.value_call.proofs.total.Tie as tie
 base-of-requires : tie.Need-base-of-requires
 base-of-requires c κs = search needs
 
-row-value-requires : tie.Need-row-value-requires
-row-value-requires c κs = (subst (RowsWithin (2 ^ 21)) (sym (c .base-of .ensures)) (base-within _ (c .before .before .before .before .pre .0)), c .before .before .before .before .pre .1)
+row-value-by-requires : tie.Need-row-value-by-requires
+row-value-by-requires c κs = (subst (RowsWithin (2 ^ 21)) (sym (c .base-of .ensures)) (base-within _ (c .before .before .before .before .pre .0)), c .before .before .before .before .pre .1)
 
 enum-known-element : tie.Need-enum-known-element
 enum-known-element c = search needs
@@ -24,18 +24,18 @@ enum-known-place c = search needs
 
 returns : tie.Need-returns
 returns c =
-    sym (ap outcomeOf (c .before .element .given .1)) ∙ c .before .before .before .row-value .ensures ∙ (λ i. worthOf (c .before .before .before .before .base-of .ensures i) (ofDegree (c .before .before .before .before .before .before .before .before .args .degree) (c .before .before .before .before .before .before .before .before .args .alphabet .now)) (c .before .before .before .before .before .before .before .before .args .row .now))
+    sym (ap outcomeOf (c .before .element .given .1)) ∙ c .before .before .before .row-value-by .ensures ∙ (λ i. worthOf (c .before .before .before .before .base-of .ensures i) (ofDegree (c .before .before .before .before .before .before .before .before .args .degree) (c .before .before .before .before .before .before .before .before .args .alphabet .now)) (c .before .before .before .before .before .before .before .before .args .row .now))
 
 returns-2 : tie.Need-returns-2
 returns-2 c =
-    sym (ap outcomeOf (c .before .place .given .1)) ∙ c .before .before .before .row-value .ensures ∙ (λ i. worthOf (c .before .before .before .before .base-of .ensures i) (ofDegree (c .before .before .before .before .before .before .before .before .args .degree) (c .before .before .before .before .before .before .before .before .args .alphabet .now)) (c .before .before .before .before .before .before .before .before .args .row .now))
+    sym (ap outcomeOf (c .before .place .given .1)) ∙ c .before .before .before .row-value-by .ensures ∙ (λ i. worthOf (c .before .before .before .before .base-of .ensures i) (ofDegree (c .before .before .before .before .before .before .before .before .args .degree) (c .before .before .before .before .before .before .before .before .args .alphabet .now)) (c .before .before .before .before .before .before .before .before .args .row .now))
 
 pub total-spec : {M : Type 1} → statement M
 total-spec =
     tie.close
     (tie.spec
     base-of-requires
-    row-value-requires
+    row-value-by-requires
     enum-known-element
     enum-known-place
     returns

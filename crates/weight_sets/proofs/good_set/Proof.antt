@@ -25,8 +25,8 @@ mul-leaf c = omega arith
 shared-slice-read-leaf : tie.Need-shared-slice-read-leaf Inv-loop μ-loop
 shared-slice-read-leaf c = omega arith
 
-gives-digit-requires : tie.Need-gives-digit-requires Inv-loop μ-loop
-gives-digit-requires c κs = search needs
+gives-digit-by-requires : tie.Need-gives-digit-by-requires Inv-loop μ-loop
+gives-digit-by-requires c κs = search needs
 
 single-if-requires : tie.Need-single-if-requires Inv-loop μ-loop
 single-if-requires c κs = search needs
@@ -41,7 +41,7 @@ loop-again : tie.Need-loop-again Inv-loop μ-loop
 loop-again c =
     let a = c .before .before .before .before .before .before .before .before .args in
     let loop = c .before .before .before .before .loop in
-    good-next (ofDegree (a .degree) (a .alphabet .now)) (ofDegree (a .degree) (a .leaves .now)) (a .first .now) (a .part) (loop .good) (c .single-if .result) (loop .number) (c .before .gives-digit .result) (c .before .gives-digit .ensures)
+    good-next (ofDegree (a .degree) (a .alphabet .now)) (ofDegree (a .degree) (a .leaves .now)) (a .first .now) (a .part) (loop .good) (c .single-if .result) (loop .number) (c .before .gives-digit-by .result) (c .before .gives-digit-by .ensures)
     (c .single-if .ensures) (loop .inv)
 
 returns : tie.Need-returns Inv-loop μ-loop
@@ -56,7 +56,7 @@ good-set-spec =
     loop-holds
     mul-leaf
     shared-slice-read-leaf
-    gives-digit-requires
+    gives-digit-by-requires
     single-if-requires
     add-number
     loop-less

@@ -45,20 +45,15 @@ returns c =
     let words = a .words .now in
     let number = a .number in
     let upper = a .upper in
-    let pre = c .before .before .before .before .before .before .before .before .before .before .before .pre in
-    let word = c .before .before .before .before .before .word in
-    let byte-at = c .before .before .before .before .byte-at in (
-      subst (λ w. Good (ofDegree (a .degree) (a .alphabet .now)) leaves (a .first .now) (minus (recordAt (ofDegree (a .degree) (a .inputs .now)) (getD (wordGiven leaves words upper) 0 0)) (paddedTimes (partCount (a .degree)) (a .base) w)) (getD (a .good .now) number 0)) (pre .1 .0 .3)
+    let pre = c .before .before .before .before .before .before .before .before .before .before .before .pre in (
+      subst (λ w. Good (ofDegree (a .degree) (a .alphabet .now)) leaves (a .first .now) (minus (recordAt (ofDegree (a .degree) (a .inputs .now)) (getD (wordGiven leaves words upper) 0 0)) (paddedTimes (partCount (a .degree)) (a .base .now) w)) (getD (a .good .now) number 0)) (pre .1 .0 .3)
           (pre .1 .1 number (getD (wordGiven leaves words upper) 0 0)
-          (c .before .if1 .taken ∙ ap (λ (x : ℕ). x + 1) (c .before .before .before .wide .ensures .0 ∙ byte-at .ensures ∙ ap (λ w. getD w 0 0) (word .ensures)))),
+          (c .before .if1 .taken ∙ ap (λ (x : ℕ). x + 1) (c .before .before .before .wide .ensures .0 ∙ c .before .before .before .before .byte-at .ensures ∙ ap (λ w. getD w 0 0) (c .before .before .before .before .before .word .ensures)))),
       pre .1 .1,
     )
 
-upper-part-requires : tie.Need-upper-part-requires
-upper-part-requires c κs = search needs
-
-good-set-requires : tie.Need-good-set-requires
-good-set-requires c κs = search needs
+judge-by-requires : tie.Need-judge-by-requires
+judge-by-requires c κs = search needs
 
 mul-good : tie.Need-mul-good
 mul-good c = search needs
@@ -74,22 +69,19 @@ element-write-made c = search needs
 
 returns-2 : tie.Need-returns-2
 returns-2 c =
-    let a = c .before .before .before .before .before .before .before .before .before .before .before .before .args in
+    let a = c .before .before .before .before .before .before .before .before .before .before .before .args in
     let alphabet = ofDegree (a .degree) (a .alphabet .now) in
     let leaves = ofDegree (a .degree) (a .leaves .now) in
     let inputs = ofDegree (a .degree) (a .inputs .now) in
     let first = a .first .now in
-    let base = a .base in
-    let pre = c .before .before .before .before .before .before .before .before .before .before .before .before .pre in
-    let word = c .before .before .before .before .before .before .word in
-    let byte-at = c .before .before .before .before .before .byte-at in
-    let wide = c .before .before .before .before .wide in (
-      subst (λ p. Good alphabet leaves first p (c .good-set .result)) (c .before .upper-part .ensures .0) (c .good-set .ensures),
-      judged-next base alphabet inputs leaves first (a .made .now) (a .good .now) (a .number) (wide .result) (c .good-set .result)
-          (subst (λ p. Good alphabet leaves first p (c .good-set .result))
-          (c .before .upper-part .ensures .0 ∙ (λ i. minus (recordAt inputs (sym (wide .ensures .0 ∙ byte-at .ensures ∙ ap (λ w. getD w 0 0) (word .ensures)) i)) (paddedTimes (partCount (a .degree)) base (sym (pre .1 .0 .3) i))))
-          (c .good-set .ensures))
-          (pre .1 .1),
+    let base = a .base .now in
+    let wide = c .before .before .before .wide in (
+      c .judge-by .ensures,
+      judged-next base alphabet inputs leaves first (a .made .now) (a .good .now) (a .number) (wide .result) (c .judge-by .result)
+          (subst (λ p. Good alphabet leaves first p (c .judge-by .result))
+          (λ i. minus (recordAt inputs (sym (wide .ensures .0 ∙ c .before .before .before .before .byte-at .ensures ∙ ap (λ w. getD w 0 0) (c .before .before .before .before .before .word .ensures)) i)) (paddedTimes (partCount (a .degree)) base (sym (c .before .before .before .before .before .before .before .before .before .before .before .pre .1 .0 .3) i)))
+          (c .judge-by .ensures))
+          (c .before .before .before .before .before .before .before .before .before .before .before .pre .1 .1),
     )
 
 pub judged-spec : {M : Type 1} → statement M
@@ -105,8 +97,7 @@ judged-spec =
     mul-result
     element-copy-out-result
     returns
-    upper-part-requires
-    good-set-requires
+    judge-by-requires
     mul-good
     element-write-good
     mul-made
