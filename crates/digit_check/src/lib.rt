@@ -120,6 +120,23 @@ fn alphabet_rule(degree: Degree, alphabet: &[u8]) -> Refusal
     }
 }
 
+// The same with the degree as a constant where it is two, so that sizes and parts are chosen once and not for each digit.
+fn alphabet_rule_at_two(alphabet: &[u8]) -> Refusal
+    ensures { λ r. ⌜ r ≡ alphabetCheck (ofDegree Two (now (alphabet .entry))) ⌝ }
+{
+    alphabet_rule(Degree::Two, alphabet)
+}
+
+fn alphabet_rule_by(degree: Degree, alphabet: &[u8]) -> Refusal
+    ensures { λ r. ⌜ r ≡ alphabetCheck (ofDegree degree (now (alphabet .entry))) ⌝ }
+{
+    match degree {
+        Degree::Two => alphabet_rule_at_two(alphabet),
+        Degree::Three => alphabet_rule(degree, alphabet),
+        Degree::Four => alphabet_rule(degree, alphabet),
+    }
+}
+
 // Whether what the operation makes of alphabet digit i and each that it is taken with is an input digit.
 fn pairs_listed(
     degree: Degree,
@@ -245,7 +262,7 @@ pub fn digits(degree: Degree, base: &[u8], alphabet: &[u8], inputs: &[u8]) -> Re
     if first.number != 0 {
         return first;
     }
-    let second = alphabet_rule(degree, alphabet);
+    let second = alphabet_rule_by(degree, alphabet);
     if second.number != 0 {
         return second;
     }

@@ -6,11 +6,12 @@ ghost use lib.ListN.{length};
 ghost use lib.IntN.{natAbs};
 ghost use Rattle.ring.specs.declared.Degree.the-variants.{Two};
 ghost use Rattle.ring.specs.Degree.{partCount, baseLimit};
-ghost use Rattle.layout_rules.specs.Section.{elementSize, ofDegree};
+ghost use Rattle.faults.specs.Check.{none};
+ghost use Rattle.layout_rules.specs.Section.{elementSize, recordSize, ofDegree, degreeIn};
 ghost use Rattle.lists.specs.Scan.{firstFailing, every};
 ghost use Rattle.layout_rules.specs.Number.{signedAt};
 ghost use Rattle.layout_rules.specs.Directory.{directoryCheck};
-ghost use Rattle.layout_rules.specs.Limit.{sizeLimit, numberPlace, numberCount, numberAllowed, limitCheckIn, limitCheck};
+ghost use Rattle.layout_rules.specs.Limit.{sizeLimit, numberPlace, numberCount, numberAllowed, limitCheckIn, limitCheckOf, limitCheck};
 use faults::Refusal;
 use ring::Degree;
 
@@ -136,46 +137,6 @@ fn none_outside(degree: Degree, part: &[u8], size: usize, limit: usize) -> bool
     most < 65536
 }
 
-// The same at degree two, of elements and of leaves. With the sizes as constants the compiler's loop takes several records at a time.
-fn elements_at_two(part: &[u8], limit: usize) -> bool
-    requires { ⌜ limit ≤ 1024 ⌝ }
-    ensures { λ r. ⌜ (r ≡ true → every (numberAllowed 4 limit (ofDegree Two (now (part .entry)))) 0 (numberCount Two 4 (length (now (part .entry)))) ≡ true) ⌝ }
-{
-    none_outside(Degree::Two, part, 4, limit)
-}
-
-fn leaves_at_two(part: &[u8], limit: usize) -> bool
-    requires { ⌜ limit ≤ 1024 ⌝ }
-    ensures { λ r. ⌜ (r ≡ true → every (numberAllowed 8 limit (ofDegree Two (now (part .entry)))) 0 (numberCount Two 8 (length (now (part .entry)))) ≡ true) ⌝ }
-{
-    none_outside(Degree::Two, part, 8, limit)
-}
-
-// Chosen by the size, which is no other where rule 4 asks.
-fn none_outside_at_two(part: &[u8], size: usize, limit: usize) -> bool
-    requires { ⌜ (4 ≤ size) × (limit ≤ 1024) ⌝ }
-    ensures { λ r. ⌜ (r ≡ true → every (numberAllowed size limit (ofDegree Two (now (part .entry)))) 0 (numberCount Two size (length (now (part .entry)))) ≡ true) ⌝ }
-{
-    if size == 8 {
-        return leaves_at_two(part, limit);
-    }
-    if size == 4 {
-        return elements_at_two(part, limit);
-    }
-    none_outside(Degree::Two, part, size, limit)
-}
-
-fn none_outside_by(degree: Degree, part: &[u8], size: usize, limit: usize) -> bool
-    requires { ⌜ (elementSize degree ≤ size) × (limit ≤ 1024) ⌝ }
-    ensures { λ r. ⌜ (r ≡ true → every (numberAllowed size limit (ofDegree degree (now (part .entry)))) 0 (numberCount degree size (length (now (part .entry)))) ≡ true) ⌝ }
-{
-    match degree {
-        Degree::Two => none_outside_at_two(part, size, limit),
-        Degree::Three => none_outside(degree, part, size, limit),
-        Degree::Four => none_outside(degree, part, size, limit),
-    }
-}
-
 // Rule 4 in one section, handed on as its part of the file; `start` is where the part starts in the file.
 pub fn limits_in(degree: Degree, part: &[u8], start: usize, section: usize) -> Refusal
     requires { ⌜ (section < 4) × (start ≤ 65535) ⌝ }
@@ -183,7 +144,7 @@ pub fn limits_in(degree: Degree, part: &[u8], start: usize, section: usize) -> R
 {
     let size = layout::size_of_record(degree, section);
     let limit = size_limit(degree, section);
-    if none_outside_by(degree, part, size, limit) {
+    if none_outside(degree, part, size, limit) {
         return Refusal {
             number: 0,
             place: 0,
@@ -203,12 +164,58 @@ pub fn limits_in(degree: Degree, part: &[u8], start: usize, section: usize) -> R
     }
 }
 
+// Rule 4 in one section of a file of degree two: it is kept, or there is no answer.
+fn section_at_two(file: &[u8], section: usize, size: usize, limit: usize) -> bool
+    requires file { ⌜ directoryCheck (now file) .number ≡ 0 ⌝ }
+    requires section { ⌜ (section < 4) × (size ≡ recordSize Two section) × (limit ≡ sizeLimit Two section) ⌝ }
+    ensures { λ r. ⌜ (r ≡ true → degreeIn (now (file .entry)) ≡ Two → none ≡ limitCheckOf (now (file .entry)) section) ⌝ }
+{
+    let start = layout::section_start(file, section);
+    let end = layout::section_end(file, section);
+    none_outside(Degree::Two, &file[start..end], size, limit)
+}
+
+// The same in the four sections that have elements. With sizes and limits as constants the compiler's loops take several records at a time.
+fn sections_at_two(file: &[u8]) -> bool
+    requires { ⌜ directoryCheck (now file) .number ≡ 0 ⌝ }
+    ensures { λ r. ⌜ (r ≡ true → degreeIn (now (file .entry)) ≡ Two → none ≡ limitCheck (now (file .entry))) ⌝ }
+{
+    if !section_at_two(file, 0, 4, 64) {
+        return false;
+    }
+    if !section_at_two(file, 1, 4, 64) {
+        return false;
+    }
+    if !section_at_two(file, 2, 4, 128) {
+        return false;
+    }
+    section_at_two(file, 3, 8, 1024)
+}
+
+// A quick look at rule 4, for degree two: it is kept, or there is no answer.
+fn limits_kept(degree: Degree, file: &[u8]) -> bool
+    requires { ⌜ (directoryCheck (now file) .number ≡ 0) × (degree ≡ degreeIn (now file)) ⌝ }
+    ensures { λ r. ⌜ (r ≡ true → none ≡ limitCheck (now (file .entry))) ⌝ }
+{
+    match degree {
+        Degree::Two => sections_at_two(file),
+        Degree::Three => false,
+        Degree::Four => false,
+    }
+}
+
 // Rule 4 in the four sections that have elements, of a file that passes rules 1 and 2.
 pub fn limits(file: &[u8]) -> Refusal
     requires { ⌜ directoryCheck (now file) .number ≡ 0 ⌝ }
     ensures { λ r. ⌜ r ≡ limitCheck (now (file .entry)) ⌝ }
 {
     let degree = layout::degree_in(file);
+    if limits_kept(degree, file) {
+        return Refusal {
+            number: 0,
+            place: 0,
+        };
+    }
     let mut section = 0;
     while section < 4 {
         let start = layout::section_start(file, section);

@@ -1,6 +1,5 @@
-// Rule 14's quick look: whether every fitting pair gives an alphabet digit, by sets of weights. It says yes or nothing.
+// Rule 14's quick look, by sets of weights: how many upper leaves, from the first on, are seen to give alphabet digits in all their pairs.
 ghost use mathlib.Core.Path.{_≡_};
-ghost use mathlib.Core.Bool.{true};
 ghost use mathlib.Core.List.{List};
 ghost use Prim.Native.Nat.{ℕ, _+_, _-_, _<_, _≤_, _^_, pred};
 ghost use lib.ListN.{length, getD};
@@ -180,7 +179,7 @@ fn fitting(
     one_by_one(keys, numbers, count, run, last)
 }
 
-// Whether every upper leaf gives alphabet digits with all lower leaves that fit.
+// How many upper leaves, from the first on, are seen to give alphabet digits with all lower leaves that fit.
 fn all_in(
     degree: Degree,
     base: &[[i64; 4]; 4],
@@ -193,7 +192,7 @@ fn all_in(
     sets: &[u64],
     first: &[usize],
     count: usize,
-) -> bool
+) -> usize
     requires table { ⌜ RowsWithin (2 ^ 21) (now base) × (0 < elementCount (ofDegree degree (now inputs)))
         × (leafCheck (ofDegree degree (now leaves)) (now words) (elementCount (ofDegree degree (now inputs))) .number ≡ 0) ⌝ }
     requires room { ⌜ (leafCount (ofDegree degree (now leaves)) ≤ length (now keys)) × (leafCount (ofDegree degree (now leaves)) ≤ length (now numbers))
@@ -201,12 +200,12 @@ fn all_in(
     requires known { ⌜ Keyed (ofDegree degree (now leaves)) (now words) (now keys) (leafCount (ofDegree degree (now leaves)))
         × WeightsNumbered (ofDegree degree (now leaves)) (now numbers) (now first) count (leafCount (ofDegree degree (now leaves)))
         × Covers (now numbers) (now sets) (leafCount (ofDegree degree (now leaves))) 8 ⌝ }
-    ensures { λ r. ⌜ (r ≡ true → AllPass (now (base .entry)) (ofDegree degree (now (alphabet .entry))) (ofDegree degree (now (inputs .entry))) (ofDegree degree (now (leaves .entry)))
-        (now (words .entry)) (leafCount (ofDegree degree (now (leaves .entry))))) ⌝ }
+    ensures { λ r. ⌜ AllPass (now (base .entry)) (ofDegree degree (now (alphabet .entry))) (ofDegree degree (now (inputs .entry))) (ofDegree degree (now (leaves .entry)))
+        (now (words .entry)) r ⌝ }
 {
     let mut slots = [EMPTY; SLOTS];
     if !pair_digits::slot_digits(degree, alphabet, &mut slots) {
-        return false;
+        return 0;
     }
     let mut made = [0; WEIGHTS];
     let mut good = [0; WEIGHTS];
@@ -234,12 +233,12 @@ fn all_in(
         );
         let set = run.set;
         if set & known != set {
-            return false;
+            return upper;
         }
         guess = run.end;
         upper += 1;
     }
-    true
+    upper
 }
 
 // The same, with room lent for what is kept of the leaves.
@@ -253,18 +252,18 @@ fn look(
     keys: &mut [u64],
     sets: &mut [u64],
     numbers: &mut [u8],
-) -> bool
+) -> usize
     requires table { ⌜ BasePart (ofDegree degree (now base)) × (0 < elementCount (ofDegree degree (now inputs)))
         × (leafCheck (ofDegree degree (now leaves)) (now words) (elementCount (ofDegree degree (now inputs))) .number ≡ 0) ⌝ }
     requires room { ⌜ (leafCount (ofDegree degree (now leaves)) ≤ length (now keys)) × (leafCount (ofDegree degree (now leaves)) ≤ length (now sets))
         × (leafCount (ofDegree degree (now leaves)) ≤ length (now numbers)) ⌝ }
-    ensures { λ r. ⌜ (r ≡ true → AllPass (baseMatrix (ofDegree degree (now (base .entry)))) (ofDegree degree (now (alphabet .entry))) (ofDegree degree (now (inputs .entry)))
-        (ofDegree degree (now (leaves .entry))) (now (words .entry)) (leafCount (ofDegree degree (now (leaves .entry))))) ⌝ }
+    ensures { λ r. ⌜ AllPass (baseMatrix (ofDegree degree (now (base .entry)))) (ofDegree degree (now (alphabet .entry))) (ofDegree degree (now (inputs .entry)))
+        (ofDegree degree (now (leaves .entry))) (now (words .entry)) r ⌝ }
 {
     let mut first = [0; WEIGHTS];
     let count = weight_sets::number_weights_by(degree, leaves, numbers, &mut first);
     if WEIGHTS < count {
-        return false;
+        return 0;
     }
     keys_of_by(degree, leaves, words, keys);
     weight_sets::eights(numbers, leaves::leaf_count(degree, leaves), sets);
@@ -292,12 +291,12 @@ fn look_at_fewest(
     inputs: &[u8],
     leaves: &[u8],
     words: &[u8],
-) -> bool
+) -> usize
     requires table { ⌜ BasePart (ofDegree degree (now base)) × (0 < elementCount (ofDegree degree (now inputs)))
         × (leafCheck (ofDegree degree (now leaves)) (now words) (elementCount (ofDegree degree (now inputs))) .number ≡ 0) ⌝ }
     requires fewest { ⌜ leafCount (ofDegree degree (now leaves)) ≤ 32 ⌝ }
-    ensures { λ r. ⌜ (r ≡ true → AllPass (baseMatrix (ofDegree degree (now (base .entry)))) (ofDegree degree (now (alphabet .entry))) (ofDegree degree (now (inputs .entry)))
-        (ofDegree degree (now (leaves .entry))) (now (words .entry)) (leafCount (ofDegree degree (now (leaves .entry))))) ⌝ }
+    ensures { λ r. ⌜ AllPass (baseMatrix (ofDegree degree (now (base .entry)))) (ofDegree degree (now (alphabet .entry))) (ofDegree degree (now (inputs .entry)))
+        (ofDegree degree (now (leaves .entry))) (now (words .entry)) r ⌝ }
 {
     let mut keys = [0; FEWEST];
     let mut sets = [0; FEWEST];
@@ -322,12 +321,12 @@ fn look_at_few(
     inputs: &[u8],
     leaves: &[u8],
     words: &[u8],
-) -> bool
+) -> usize
     requires table { ⌜ BasePart (ofDegree degree (now base)) × (0 < elementCount (ofDegree degree (now inputs)))
         × (leafCheck (ofDegree degree (now leaves)) (now words) (elementCount (ofDegree degree (now inputs))) .number ≡ 0) ⌝ }
     requires few { ⌜ leafCount (ofDegree degree (now leaves)) ≤ 512 ⌝ }
-    ensures { λ r. ⌜ (r ≡ true → AllPass (baseMatrix (ofDegree degree (now (base .entry)))) (ofDegree degree (now (alphabet .entry))) (ofDegree degree (now (inputs .entry)))
-        (ofDegree degree (now (leaves .entry))) (now (words .entry)) (leafCount (ofDegree degree (now (leaves .entry))))) ⌝ }
+    ensures { λ r. ⌜ AllPass (baseMatrix (ofDegree degree (now (base .entry)))) (ofDegree degree (now (alphabet .entry))) (ofDegree degree (now (inputs .entry)))
+        (ofDegree degree (now (leaves .entry))) (now (words .entry)) r ⌝ }
 {
     let mut keys = [0; FEW];
     let mut sets = [0; FEW];
@@ -352,12 +351,12 @@ fn look_at_many(
     inputs: &[u8],
     leaves: &[u8],
     words: &[u8],
-) -> bool
+) -> usize
     requires table { ⌜ BasePart (ofDegree degree (now base)) × (0 < elementCount (ofDegree degree (now inputs)))
         × (leafCheck (ofDegree degree (now leaves)) (now words) (elementCount (ofDegree degree (now inputs))) .number ≡ 0) ⌝ }
     requires many { ⌜ leafCount (ofDegree degree (now leaves)) ≤ 4096 ⌝ }
-    ensures { λ r. ⌜ (r ≡ true → AllPass (baseMatrix (ofDegree degree (now (base .entry)))) (ofDegree degree (now (alphabet .entry))) (ofDegree degree (now (inputs .entry)))
-        (ofDegree degree (now (leaves .entry))) (now (words .entry)) (leafCount (ofDegree degree (now (leaves .entry))))) ⌝ }
+    ensures { λ r. ⌜ AllPass (baseMatrix (ofDegree degree (now (base .entry)))) (ofDegree degree (now (alphabet .entry))) (ofDegree degree (now (inputs .entry)))
+        (ofDegree degree (now (leaves .entry))) (now (words .entry)) r ⌝ }
 {
     let mut keys = [0; LEAVES];
     let mut sets = [0; LEAVES];
@@ -375,19 +374,19 @@ fn look_at_many(
     )
 }
 
-// Whether every fitting pair is seen to give an alphabet digit.
-pub fn all_pass(
+// The same: all of them where every fitting pair gives an alphabet digit.
+pub fn passed(
     degree: Degree,
     base: &[u8],
     alphabet: &[u8],
     inputs: &[u8],
     leaves: &[u8],
     words: &[u8],
-) -> bool
+) -> usize
     requires table { ⌜ BasePart (ofDegree degree (now base)) × (0 < elementCount (ofDegree degree (now inputs)))
         × (leafCheck (ofDegree degree (now leaves)) (now words) (elementCount (ofDegree degree (now inputs))) .number ≡ 0) ⌝ }
-    ensures { λ r. ⌜ (r ≡ true → AllPass (baseMatrix (ofDegree degree (now (base .entry)))) (ofDegree degree (now (alphabet .entry))) (ofDegree degree (now (inputs .entry)))
-        (ofDegree degree (now (leaves .entry))) (now (words .entry)) (leafCount (ofDegree degree (now (leaves .entry))))) ⌝ }
+    ensures { λ r. ⌜ AllPass (baseMatrix (ofDegree degree (now (base .entry)))) (ofDegree degree (now (alphabet .entry))) (ofDegree degree (now (inputs .entry)))
+        (ofDegree degree (now (leaves .entry))) (now (words .entry)) r ⌝ }
 {
     let count = leaves::leaf_count(degree, leaves);
     if count <= FEWEST {
@@ -399,5 +398,5 @@ pub fn all_pass(
     if count <= LEAVES {
         return look_at_many(degree, base, alphabet, inputs, leaves, words);
     }
-    false
+    0
 }

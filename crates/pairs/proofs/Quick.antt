@@ -1,7 +1,7 @@
--- Where every pair passes, rule 14 is kept.
+-- Upper leaves whose pairs all pass, and rule 14 where these are all.
 use mathlib.Core.Path.{_≡_}
 use mathlib.Core.List.{List}
-use Prim.Native.Nat.{ℕ}
+use Prim.Native.Nat.{ℕ, _≤_}
 use native.Mathlib.Nat.{le-refl}
 use native.Mathlib.Omega.{arith}
 use Rattle.ring.specs.declared.Degree.{Degree}
@@ -16,18 +16,18 @@ use Rattle.table_rules.proofs.Bad.{UppersPass, pair-none, pairs-kept}
 use Rattle.pair_sets.specs.Runs.{AllPass}
 
 -- sections of one degree
-module _ (d : Degree) (base₀ leaves₀ : List ℕ) (alphabet inputs : Section) (words : List ℕ) (all : AllPass (baseMatrix (ofDegree d base₀)) alphabet inputs (ofDegree d leaves₀) words (leafCount (ofDegree d leaves₀))) where
+module _ (d : Degree) (base₀ leaves₀ : List ℕ) (alphabet inputs : Section) (words : List ℕ) (n : ℕ) (all : AllPass (baseMatrix (ofDegree d base₀)) alphabet inputs (ofDegree d leaves₀) words n) where
   abbrev base : Section
   base = ofDegree d base₀
 
   abbrev leaves : Section
   leaves = ofDegree d leaves₀
 
-  uppers : UppersPass base alphabet inputs leaves words (leafCount leaves)
+  pub uppers : UppersPass base alphabet inputs leaves words n
   unfolding upperPasses
   uppers u h = every-complete _ 0 (leafCount leaves) (λ l low high. all u h l (omega arith))
 
-  pub all-kept : none ≡ pairCheck base alphabet inputs leaves words
-  all-kept =
+  pub all-kept : leafCount leaves ≤ n → none ≡ pairCheck base alphabet inputs leaves words
+  all-kept h =
       pairs-kept base alphabet inputs leaves words (record { upper = leafCount leaves; lower = leafCount leaves })
-      (pair-none base alphabet inputs leaves words (leafCount leaves) (le-refl (leafCount leaves)) uppers) (le-refl (leafCount leaves))
+      (pair-none base alphabet inputs leaves words n h uppers) (le-refl (leafCount leaves))

@@ -4,6 +4,7 @@ ghost use lib.ListN.{length, getD};
 ghost use Rattle.ring.specs.Degree.{partCount};
 ghost use Rattle.ring.specs.Tests.{RowsWithin};
 ghost use Rattle.layout_rules.specs.Section.{ofDegree};
+ghost use Rattle.digit_rules.specs.BaseMatrix.{baseMatrix};
 ghost use Rattle.digit_rules.specs.Digits.{BasePart};
 ghost use Rattle.digit_rules.specs.Record.{recordAt, elementCount};
 ghost use Rattle.numeration.specs.LeafOf.{agree};
@@ -13,6 +14,7 @@ ghost use Rattle.leaf_rules.specs.Leaf.{leafCount, codeOf};
 ghost use Rattle.prefix_rules.specs.Check.{leafCheck};
 ghost use mathlib.Core.Bool.{true};
 ghost use Rattle.pair_digits.specs.Slots.{Slotted};
+ghost use Rattle.pair_sets.specs.Runs.{AllPass};
 ghost use Rattle.table_rules.specs.Pairs.{inAlphabet, badPair, pairCheck};
 ghost use Prim.Native.Nat.{_+_, _<_, _^_, min, pred};
 ghost use Rattle.lists.specs.Span.{span};
@@ -114,7 +116,8 @@ fn bad_lower(
     }
 }
 
-// The lowest upper leaf that fails with some lower leaf, and the lowest such lower leaf; the leaf count twice where none fails.
+// The lowest upper leaf that fails with some lower leaf, and the lowest such lower leaf; the leaf count twice where none fails. Those before
+// `passed` are known not to.
 pub fn bad_pair(
     degree: Degree,
     base: &[u8],
@@ -122,9 +125,12 @@ pub fn bad_pair(
     inputs: &[u8],
     leaves: &[u8],
     words: &[u8],
+    passed: usize,
 ) -> Pair
     requires table { ⌜ BasePart (ofDegree degree (now base)) × (0 < elementCount (ofDegree degree (now inputs)))
         × (leafCheck (ofDegree degree (now leaves)) (now words) (elementCount (ofDegree degree (now inputs))) .number ≡ 0) ⌝ }
+    requires passed { ⌜ AllPass (baseMatrix (ofDegree degree (now base))) (ofDegree degree (now alphabet)) (ofDegree degree (now inputs))
+        (ofDegree degree (now leaves)) (now words) passed ⌝ }
     ensures { λ r. ⌜ r ≡ badPair (ofDegree degree (now (base .entry))) (ofDegree degree (now (alphabet .entry))) (ofDegree degree (now (inputs .entry))) (ofDegree degree (now (leaves .entry))) (now (words .entry)) ⌝ }
 {
     let matrix = digits::base_of(degree, base);
@@ -132,7 +138,7 @@ pub fn bad_pair(
     let known = pair_digits::slot_digits(degree, alphabet, &mut slots);
     let count = leaves::leaf_count(degree, leaves);
     let mut guess = 0;
-    let mut upper = 0;
+    let mut upper = passed;
     while upper < count {
         let run = bad_lower(
             degree,
@@ -159,7 +165,7 @@ pub fn bad_pair(
     }
 }
 
-// Rule 14. The scan that names the leaves is only made where the quick look says nothing.
+// Rule 14. The scan that names the leaves is only made where the quick look leaves some out, from the first of them on.
 pub fn pairs(
     degree: Degree,
     base: &[u8],
@@ -172,14 +178,16 @@ pub fn pairs(
         × (leafCheck (ofDegree degree (now leaves)) (now words) (elementCount (ofDegree degree (now inputs))) .number ≡ 0) ⌝ }
     ensures { λ r. ⌜ r ≡ pairCheck (ofDegree degree (now (base .entry))) (ofDegree degree (now (alphabet .entry))) (ofDegree degree (now (inputs .entry))) (ofDegree degree (now (leaves .entry))) (now (words .entry)) ⌝ }
 {
-    if pair_sets::all_pass(degree, base, alphabet, inputs, leaves, words) {
+    let count = leaves::leaf_count(degree, leaves);
+    let passed = pair_sets::passed(degree, base, alphabet, inputs, leaves, words);
+    if count <= passed {
         return Refusal {
             number: 0,
             place: 0,
         };
     }
-    let found = bad_pair(degree, base, alphabet, inputs, leaves, words);
-    if found.upper < leaves::leaf_count(degree, leaves) {
+    let found = bad_pair(degree, base, alphabet, inputs, leaves, words, passed);
+    if found.upper < count {
         return Refusal {
             number: 14,
             place: found.upper,

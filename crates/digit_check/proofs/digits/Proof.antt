@@ -12,19 +12,19 @@ returns : tie.Need-returns
 unfolding digitCheck
 returns c = found-first _ _ _ (c .before .before .base-rules .ensures) (c .if1 .taken)
 
-alphabet-rule-requires : tie.Need-alphabet-rule-requires
-alphabet-rule-requires c κs = search needs
+alphabet-rule-by-requires : tie.Need-alphabet-rule-by-requires
+alphabet-rule-by-requires c κs = search needs
 
 returns-2 : tie.Need-returns-2
 unfolding digitCheck
-returns-2 c = found-next _ _ _ _ (c .before .before .before .before .before .base-rules .ensures) (c .before .before .before .if1 .left) (found-first _ _ _ (c .before .before .alphabet-rule .ensures) (c .if2 .taken))
+returns-2 c = found-next _ _ _ _ (c .before .before .before .before .before .base-rules .ensures) (c .before .before .before .if1 .left) (found-first _ _ _ (c .before .before .alphabet-rule-by .ensures) (c .if2 .taken))
 
 input-rule-requires : tie.Need-input-rule-requires
 input-rule-requires c κs = search needs
 
 returns-3 : tie.Need-returns-3
 unfolding digitCheck
-returns-3 c = found-next _ _ _ _ (c .before .before .before .before .before .before .base-rules .ensures) (c .before .before .before .before .if1 .left) (found-next _ _ _ _ (c .before .before .before .alphabet-rule .ensures) (c .before .if2 .left) (c .input-rule .ensures))
+returns-3 c = found-next _ _ _ _ (c .before .before .before .before .before .before .base-rules .ensures) (c .before .before .before .before .if1 .left) (found-next _ _ _ _ (c .before .before .before .alphabet-rule-by .ensures) (c .before .if2 .left) (c .input-rule .ensures))
 
 pub digits-spec : {M : Type 1} → statement M
 digits-spec =
@@ -32,7 +32,7 @@ digits-spec =
     (tie.spec
     base-rules-requires
     returns
-    alphabet-rule-requires
+    alphabet-rule-by-requires
     returns-2
     input-rule-requires
     returns-3)

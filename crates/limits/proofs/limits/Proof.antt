@@ -1,12 +1,12 @@
--- Four sections in turn: the checks that are left give the answer of all of them.
-use Rattle.layout_rules.proofs.Limit.{handed-on}
-use Rattle.layout_rules.proofs.Laid.{laid}
-use Rattle.layout_rules.specs.Limit.{limitCheckOf, limitCheck}
-use Rattle.faults.proofs.Check.{turn-on, turn-here, turn-out}
-use Rattle.faults.specs.Check.{inTurn}
-use native.Mathlib.Omega.{arith}
-use mathlib.Core.Path.{_≡_, refl, sym, _∙_}
+-- The quick look says that rule 4 is kept; else four sections in turn: the checks that are left give the answer of all of them.
 use Prim.Native.Nat.{_≤_, _-_}
+use mathlib.Core.Path.{_≡_, refl, sym, _∙_}
+use native.Mathlib.Omega.{arith}
+use Rattle.faults.specs.Check.{inTurn}
+use Rattle.faults.proofs.Check.{turn-on, turn-here, turn-out}
+use Rattle.layout_rules.specs.Limit.{limitCheckOf, limitCheck}
+use Rattle.layout_rules.proofs.Laid.{laid}
+use Rattle.layout_rules.proofs.Limit.{handed-on}
 use Rattle.limits.proofs.limits.Statement.{statement}
 use Rattle.limits.proofs.limits.Tie as tie
 
@@ -19,14 +19,20 @@ abbrev μ-loop : tie.MeasureT-loop
 degree-in-requires : tie.Need-degree-in-requires Inv-loop μ-loop
 degree-in-requires c κs = tt
 
+limits-kept-requires : tie.Need-limits-kept-requires Inv-loop μ-loop
+limits-kept-requires c κs = (c .before .before .pre, c .degree-in .ensures)
+
+returns : tie.Need-returns Inv-loop μ-loop
+returns c = c .before .limits-kept .ensures (c .if1 .taken)
+
 loop-holds : tie.Need-loop-holds Inv-loop μ-loop
 loop-holds c = (omega arith, refl)
 
 section-start-requires : tie.Need-section-start-requires Inv-loop μ-loop
-section-start-requires c κs = omega (arith, laid _ (c .before .before .before .before .pre) .low)
+section-start-requires c κs = omega (arith, laid _ (c .before .before .before .before .before .before .pre) .low)
 
 section-end-requires : tie.Need-section-end-requires Inv-loop μ-loop
-section-end-requires c κs = omega (arith, laid _ (c .before .before .before .before .before .pre) .low)
+section-end-requires c κs = omega (arith, laid _ (c .before .before .before .before .before .before .before .pre) .low)
 
 sub-limits-in : tie.Need-sub-limits-in Inv-loop μ-loop
 sub-limits-in c = omega (arith, c .section-end .ensures, c .before .section-start .ensures .0)
@@ -35,14 +41,14 @@ part-limits-in-start : tie.Need-part-limits-in-start Inv-loop μ-loop
 part-limits-in-start c = omega (arith, c .section-end .ensures, c .before .section-start .ensures .0)
 
 part-limits-in-end : tie.Need-part-limits-in-end Inv-loop μ-loop
-part-limits-in-end c = omega (arith, c .section-end .ensures, laid _ (c .before .before .before .before .before .before .pre) .placed (c .before .before .before .loop .section) (omega arith) .inside)
+part-limits-in-end c = omega (arith, c .section-end .ensures, laid _ (c .before .before .before .before .before .before .before .before .pre) .placed (c .before .before .before .loop .section) (omega arith) .inside)
 
 limits-in-requires : tie.Need-limits-in-requires Inv-loop μ-loop
 limits-in-requires c κs = omega arith
 
-returns : tie.Need-returns Inv-loop μ-loop
+returns-2 : tie.Need-returns-2 Inv-loop μ-loop
 unfolding limitCheck
-returns c = sym (turn-here _ _ 4 _ (c .before .before .limits-in .ensures ∙ handed-on _ _ _ _ _ (c .before .before .before .before .before .before .before .before .degree-in .ensures) (c .before .before .before .before .before .section-start .ensures .0) (c .before .before .before .before .section-end .ensures)) (c .before .before .before .before .before .before .loop-test .taken) (c .if1 .taken)) ∙ c .before .before .before .before .before .before .before .loop .inv .1
+returns-2 c = sym (turn-here _ _ 4 _ (c .before .before .limits-in .ensures ∙ handed-on _ _ _ _ _ (c .before .before .before .before .before .before .before .before .before .before .degree-in .ensures) (c .before .before .before .before .before .section-start .ensures .0) (c .before .before .before .before .section-end .ensures)) (c .before .before .before .before .before .before .loop-test .taken) (c .if2 .taken)) ∙ c .before .before .before .before .before .before .before .loop .inv .1
 
 add-section : tie.Need-add-section Inv-loop μ-loop
 add-section c = omega arith
@@ -52,12 +58,11 @@ loop-less c = omega arith
 
 loop-again : tie.Need-loop-again Inv-loop μ-loop
 loop-again c =
-    let s = c .before .before .before .before .before .before .before in
-    (omega arith, sym (turn-on _ _ 4 _ (c .before .before .limits-in .ensures ∙ handed-on _ _ _ _ _ (c .before .before .before .before .before .before .before .before .degree-in .ensures) (c .before .before .before .before .before .section-start .ensures .0) (c .before .before .before .before .section-end .ensures)) (c .before .before .before .before .before .before .loop-test .taken) (c .if1 .left)) ∙ s .loop .inv .1)
+    (omega arith, sym (turn-on _ _ 4 _ (c .before .before .limits-in .ensures ∙ handed-on _ _ _ _ _ (c .before .before .before .before .before .before .before .before .before .before .degree-in .ensures) (c .before .before .before .before .before .section-start .ensures .0) (c .before .before .before .before .section-end .ensures)) (c .before .before .before .before .before .before .loop-test .taken) (c .if2 .left)) ∙ c .before .before .before .before .before .before .before .loop .inv .1)
 
-returns-2 : tie.Need-returns-2 Inv-loop μ-loop
+returns-3 : tie.Need-returns-3 Inv-loop μ-loop
 unfolding limitCheck
-returns-2 c = sym (turn-out _ _ 4 (c .loop-test .left)) ∙ c .before .loop .inv .1
+returns-3 c = sym (turn-out _ _ 4 (c .loop-test .left)) ∙ c .before .loop .inv .1
 
 pub limits-spec : {M : Type 1} → statement M
 limits-spec =
@@ -66,6 +71,8 @@ limits-spec =
     Inv-loop
     μ-loop
     degree-in-requires
+    limits-kept-requires
+    returns
     loop-holds
     section-start-requires
     section-end-requires
@@ -73,8 +80,8 @@ limits-spec =
     part-limits-in-start
     part-limits-in-end
     limits-in-requires
-    returns
+    returns-2
     add-section
     loop-less
     loop-again
-    returns-2)
+    returns-3)

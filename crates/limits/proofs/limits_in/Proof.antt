@@ -23,11 +23,11 @@ size-of-record-requires c κs = search needs
 size-limit-requires : tie.Need-size-limit-requires
 size-limit-requires c κs = search needs
 
-none-outside-by-requires : tie.Need-none-outside-by-requires
-none-outside-by-requires c κs = (size-held (c .before .before .before .args .degree) _ _ (c .before .before .before .pre .0) (c .before .size-of-record .ensures), limit-small (c .before .before .before .args .degree) _ _ (c .before .before .before .pre .0) (c .size-limit .ensures))
+none-outside-requires : tie.Need-none-outside-requires
+none-outside-requires c κs = (size-held (c .before .before .before .args .degree) _ _ (c .before .before .before .pre .0) (c .before .size-of-record .ensures), limit-small (c .before .before .before .args .degree) _ _ (c .before .before .before .pre .0) (c .size-limit .ensures))
 
 returns : tie.Need-returns
-returns c = limit-none _ _ _ _ _ (c .before .before .before .size-of-record .ensures) (c .before .before .size-limit .ensures) (c .before .none-outside-by .ensures (c .if1 .taken))
+returns c = limit-none _ _ _ _ _ (c .before .before .before .size-of-record .ensures) (c .before .before .size-limit .ensures) (c .before .none-outside .ensures (c .if1 .taken))
 
 number-count-requires : tie.Need-number-count-requires
 number-count-requires c κs = size-held (c .before .before .before .before .before .args .degree) _ _ (c .before .before .before .before .before .pre .0) (c .before .before .before .size-of-record .ensures)
@@ -62,7 +62,7 @@ limits-in-spec =
     (tie.spec
     size-of-record-requires
     size-limit-requires
-    none-outside-by-requires
+    none-outside-requires
     returns
     number-count-requires
     first-outside-requires

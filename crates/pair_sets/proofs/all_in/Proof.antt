@@ -8,10 +8,9 @@ use Rattle.pair_sets.proofs.Pass.{all-next}
 use Rattle.pair_sets.proofs.Keys.{ready-words}
 use Rattle.table_rules.proofs.Fitting.{first-input}
 use Rattle.prefix_rules.proofs.Formed.{formed}
-use Rattle.lists.proofs.Test.{clash}
 use Rattle.pair_sets.specs.Runs.{AllPass}
 use Rattle.weight_sets.specs.Weights.{Judged}
-use mathlib.Core.Path.{refl, ap, _∙_}
+use mathlib.Core.Path.{ap, _∙_}
 use Prim.Native.Nat.{ℕ, _-_, _≤_}
 use native.Mathlib.Omega.{arith}
 use lib.ListN.{getD, set}
@@ -31,7 +30,7 @@ slot-digits-requires : tie.Need-slot-digits-requires Inv-loop μ-loop
 slot-digits-requires c κs = search needs
 
 returns : tie.Need-returns Inv-loop μ-loop
-returns c = λ no. clash no refl
+returns c = λ u h. absurd (omega arith)
 
 leaf-count-requires : tie.Need-leaf-count-requires Inv-loop μ-loop
 leaf-count-requires c κs = search needs
@@ -97,7 +96,7 @@ judged-requires c κs =
     )
 
 returns-2 : tie.Need-returns-2 Inv-loop μ-loop
-returns-2 c = λ no. clash no refl
+returns-2 c = c .before .before .before .before .before .before .before .before .before .loop .inv .1
 
 add-upper : tie.Need-add-upper Inv-loop μ-loop
 add-upper c = omega arith
@@ -125,7 +124,7 @@ loop-again c =
     )
 
 returns-3 : tie.Need-returns-3 Inv-loop μ-loop
-returns-3 c = λ yes u h. c .before .loop .inv .1 u (omega (arith, c .before .before .before .leaf-count .ensures))
+returns-3 c = c .before .loop .inv .1
 
 pub all-in-spec : {M : Type 1} → statement M
 all-in-spec =

@@ -3,12 +3,10 @@ use Rattle.layout_rules.specs.Section.{ofDegree}
 use Rattle.pair_sets.specs.Runs.{AllPass}
 use Rattle.pair_sets.proofs.Keys.{ready-words}
 use Rattle.prefix_rules.proofs.Formed.{formed}
-use Rattle.leaf_rules.specs.Leaf.{leafCount}
 use Rattle.digit_rules.proofs.Base.{base-within}
 use Rattle.digit_rules.specs.Record.{elementCount}
 use Rattle.ring.specs.Tests.{RowsWithin}
-use Rattle.lists.proofs.Test.{clash}
-use mathlib.Core.Path.{refl, sym, subst}
+use mathlib.Core.Path.{sym, subst}
 use Prim.Native.Nat.{_^_}
 use native.Mathlib.Omega.{arith}
 use lib.ListN.{length}
@@ -26,7 +24,7 @@ same-length : tie.Need-same-length
 same-length c = search needs
 
 returns : tie.Need-returns
-returns c = λ no. clash no refl
+returns c = λ u h. absurd (omega arith)
 
 keys-of-by-requires : tie.Need-keys-of-by-requires
 keys-of-by-requires c κs =
@@ -98,7 +96,7 @@ returns-2 c =
     let a = c .before .before .before .before .before .before .before .before .before .before .before .before .before .before .before .before .before .before .before .before .before .before .before .before .before .before .before .before .before .before .before .before .args in
     let leaves = ofDegree (a .degree) (a .leaves .now) in
     let base-of = c .before .before .before .before .before .before .base-of in
-    λ yes. subst (λ b. AllPass b (ofDegree (a .degree) (a .alphabet .now)) (ofDegree (a .degree) (a .inputs .now)) leaves (a .words .now) (leafCount leaves)) (base-of .ensures) (c .all-in .ensures yes)
+    subst (λ b. AllPass b (ofDegree (a .degree) (a .alphabet .now)) (ofDegree (a .degree) (a .inputs .now)) leaves (a .words .now) (c .all-in .result)) (base-of .ensures) (c .all-in .ensures)
 
 pub look-spec : {M : Type 1} → statement M
 look-spec =

@@ -2,7 +2,6 @@
 use mathlib.Core.Path.{_≡_, sym, ap, subst, _∙_}
 use Prim.Native.Nat.{_-_, _^_}
 use native.Mathlib.Omega.{arith}
-use native.Mathlib.Nat.{not-suc-le-zero}
 use borrow.Author.Count.{below-more}
 use borrow.Author.Needs.{needs}
 use Rattle.ring.specs.Degree.{partCount}
@@ -15,15 +14,16 @@ use Rattle.numeration.specs.Elements.{elements}
 use Rattle.numeration.specs.PairTests.{pairPasses}
 use Rattle.leaf_rules.specs.Leaf.{leafCount, codeOf}
 use Rattle.table_rules.specs.Pairs.{inAlphabet, badLower}
+use Rattle.pairs.proofs.Quick.{uppers}
 use Rattle.table_rules.proofs.Bad.{UppersPass, upper-passes, pair-found, pair-none}
 use Rattle.pairs.proofs.bad_pair.Statement.{statement}
 use Rattle.pairs.proofs.bad_pair.Tie as tie
 
 abbrev Inv-loop : tie.InvT-loop
-Inv-loop degree base alphabet inputs leaves words matrix slots known count guess₀ upper₀ guess upper = UppersPass (ofDegree degree base) (ofDegree degree alphabet) (ofDegree degree inputs) (ofDegree degree leaves) words upper
+Inv-loop degree base alphabet inputs leaves words passed matrix slots known count guess₀ upper₀ guess upper = UppersPass (ofDegree degree base) (ofDegree degree alphabet) (ofDegree degree inputs) (ofDegree degree leaves) words upper
 
 abbrev μ-loop : tie.MeasureT-loop
-μ-loop degree base alphabet inputs leaves words matrix slots known count guess₀ upper₀ guess upper = count - upper
+μ-loop degree base alphabet inputs leaves words passed matrix slots known count guess₀ upper₀ guess upper = count - upper
 
 -- the lowest lower leaf of the upper one, by the base's matrix
 lower-is : (c : tie.After-bad-lower Inv-loop μ-loop) →
@@ -36,7 +36,7 @@ lower-is c =
     c .bad-lower .ensures ∙ ap (λ b. firstFailing (pairPasses (elements (partCount (s .args .degree)) b) (recordAt (ofDegree (s .args .degree) (s .args .inputs .now))) (codeOf (ofDegree (s .args .degree) (s .args .leaves .now)) (s .args .words .now)) (inAlphabet (ofDegree (s .args .degree) (s .args .alphabet .now))) (c .before .before .before .before .loop .upper)) 0 (leafCount (ofDegree (s .args .degree) (s .args .leaves .now)))) (base-of .ensures)
 
 base-of-requires : tie.Need-base-of-requires Inv-loop μ-loop
-base-of-requires c κs = c .before .before .before .before .before .pre .0
+base-of-requires c κs = c .before .before .before .before .before .pre .0 .0
 
 slot-digits-requires : tie.Need-slot-digits-requires Inv-loop μ-loop
 slot-digits-requires c κs = search needs
@@ -45,7 +45,9 @@ leaf-count-requires : tie.Need-leaf-count-requires Inv-loop μ-loop
 leaf-count-requires c κs = search needs
 
 loop-holds : tie.Need-loop-holds Inv-loop μ-loop
-loop-holds c = λ j h. absurd (not-suc-le-zero h)
+loop-holds c =
+    let s = c .before .before .before .before .before .before .before .before .before in
+    uppers (s .args .degree) (s .args .base .now) (s .args .leaves .now) (ofDegree (s .args .degree) (s .args .alphabet .now)) (ofDegree (s .args .degree) (s .args .inputs .now)) (s .args .words .now) (s .args .passed) (s .pre .1)
 
 bad-lower-requires : tie.Need-bad-lower-requires Inv-loop μ-loop
 bad-lower-requires c κs =
@@ -54,7 +56,7 @@ bad-lower-requires c κs =
     let base-of = c .before .before .before .before .before .before .before .base-of in
     let slot-digits = c .before .before .before .before .before .slot-digits in
     let base = ofDegree (a .degree) (a .base .now) in (
-      (subst (RowsWithin (2 ^ 21)) (sym (base-of .ensures)) (base-within base (pre .0)), pre .1, pre .2),
+      (subst (RowsWithin (2 ^ 21)) (sym (base-of .ensures)) (base-within base (pre .0 .0)), pre .0 .1, pre .0 .2),
       (
         omega (arith, c .before .before .before .before .leaf-count .ensures, c .before .before .loop-test .taken),
         slot-digits .ensures,

@@ -1,9 +1,8 @@
--- Yes is said only where the look at the fewest, at few or at many leaves says it.
-use Rattle.lists.proofs.Test.{clash}
-use mathlib.Core.Path.{refl}
+-- As many as the look at the fewest, at few or at many leaves says, or none.
+use native.Mathlib.Omega.{arith}
 use borrow.Author.Needs.{needs}
-use Rattle.pair_sets.proofs.all_pass.Statement.{statement}
-use Rattle.pair_sets.proofs.all_pass.Tie as tie
+use Rattle.pair_sets.proofs.passed.Statement.{statement}
+use Rattle.pair_sets.proofs.passed.Tie as tie
 
 leaf-count-requires : tie.Need-leaf-count-requires
 leaf-count-requires c κs = search needs
@@ -27,10 +26,10 @@ returns-3 : tie.Need-returns-3
 returns-3 c = search needs
 
 returns-4 : tie.Need-returns-4
-returns-4 c = λ no. clash no refl
+returns-4 c = λ u h. absurd (omega arith)
 
-pub all-pass-spec : {M : Type 1} → statement M
-all-pass-spec =
+pub passed-spec : {M : Type 1} → statement M
+passed-spec =
     tie.close
     (tie.spec
     leaf-count-requires
