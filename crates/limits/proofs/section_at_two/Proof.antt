@@ -1,7 +1,6 @@
 -- The section by its bounds as they were read: no number of it is outside.
 use Rattle.layout_rules.proofs.Laid.{laid}
 use Rattle.layout_rules.proofs.Limit.{size-held, limit-small, limit-none, handed-on}
-use Rattle.layout_rules.specs.Section.{ofDegree}
 use Rattle.ring.specs.declared.Degree.the-variants.{Two}
 use mathlib.Core.Path.{sym, _∙_}
 use native.Mathlib.Omega.{arith}

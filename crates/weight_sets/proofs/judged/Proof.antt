@@ -9,7 +9,7 @@ use Rattle.ring.specs.Padded.{paddedTimes}
 use Rattle.ring.specs.Element.{minus}
 use mathlib.Core.Path.{sym, ap, subst, _∙_}
 use Prim.Native.Nat.{ℕ, _+_}
-use lib.ListN.{getD, set}
+use lib.ListN.{getD}
 use borrow.Author.Needs.{needs}
 use Rattle.weight_sets.proofs.judged.Statement.{statement}
 use Rattle.weight_sets.proofs.judged.Tie as tie
