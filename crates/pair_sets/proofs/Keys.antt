@@ -14,7 +14,7 @@ use Rattle.lists.proofs.Scan.{every-sound}
 use lib.Pow.{pow-add}
 use lib.Bits.{bitOr, or-shifted}
 use Rattle.radix.specs.Number.{number, aligned, Digits}
-use Rattle.radix.proofs.Order.{number-lt, number-split, agree-number, aligned-lower, lower-aligned}
+use Rattle.radix.proofs.Order.{number-zero, number-suc, number-lt, number-split, agree-number, aligned-low, aligned-high, aligned-lower, lower-aligned}
 use Rattle.word_numbers.proofs.Shift.{shifted, eight-bits}
 use Rattle.numeration.specs.Code.{Agree, Lower}
 use Rattle.numeration.specs.Pairs.{tail, Fits}
@@ -68,12 +68,23 @@ last-number w k behind e =
     ap (λ (x : ℕ). bitOr (number 256 w k * x) behind) bits ∙ or-shifted (number 256 w k) (8 * (8 - k)) behind (omega arith) ∙ ap (λ (x : ℕ). number 256 w k * x + behind) (sym bits) in
     omega arith
 
+-- the first digit stands above all that seven others can make
+alone : (w : ℕ → ℕ) → aligned 256 w 1 ≡ w 0 * 72057594037927936
+unfolding aligned
+alone w = ap (λ (x : ℕ). x * 72057594037927936) (omega (arith, number-suc 256 w 0, number-zero 256 w))
+
+first-of : (w : ℕ → ℕ) (n : ℕ) → 1 ≤ n → n ≤ 8 → Digits 256 w n → aligned 256 w n / 72057594037927936 ≡ w 0
+first-of w n some short digits = omega (arith, alone w, aligned-low 256 w 1 n some short, aligned-high 256 w 1 n some short digits, one-le-pow (8 - n) 256 (omega arith))
+
 module _ (leaves : Section) (words : List ℕ) (ready : WordsOrdered leaves words) where
   abbrev N : ℕ
   N = leafCount leaves
 
   bytes : (k n : ℕ) → Digits 256 (codeOf leaves words .digit k) n
   bytes k n i h = ready .bytes _
+
+  pub first-digit : (k : ℕ) → k < N → wordNumber leaves words k / 72057594037927936 ≡ codeOf leaves words .digit k 0
+  first-digit k h = first-of (codeOf leaves words .digit k) (wordLength leaves k) (ready .some k h) (ready .short k h) (bytes k _)
 
   -- words rise, and so do their numbers
   rising : (k l : ℕ) → k < l → l < N → wordNumber leaves words k + 256 ^ (8 - wordLength leaves k) ≤ wordNumber leaves words l

@@ -1,7 +1,7 @@
 // Rule 14's quick look, by sets of weights: how many upper leaves, from the first on, are seen to give alphabet digits in all their pairs.
 ghost use mathlib.Core.Path.{_≡_};
 ghost use mathlib.Core.List.{List};
-ghost use Prim.Native.Nat.{ℕ, _+_, _-_, _<_, _≤_, _^_, pred};
+ghost use Prim.Native.Nat.{ℕ, _+_, _-_, _/_, _<_, _≤_, _^_, pred};
 ghost use lib.ListN.{length, getD};
 ghost use Rattle.ring.specs.declared.Degree.the-variants.{Two};
 ghost use Rattle.layout_rules.specs.Section.{ofDegree};
@@ -72,6 +72,14 @@ fn keys_of_by(degree: Degree, leaves: &[u8], words: &[u8], keys: &mut [u64])
         Degree::Three => keys_of(degree, leaves, words, keys),
         Degree::Four => keys_of(degree, leaves, words, keys),
     }
+}
+
+// The first digit of a word, by its number.
+fn first_digit(key: u64) -> usize
+    ensures digit { λ r. ⌜ r ≡ key / 72057594037927936 ⌝ }
+    ensures within { λ r. ⌜ r < 256 ⌝ }
+{
+    (key / 72057594037927936) as usize
 }
 
 // What the words that begin with an upper word's tail have behind it at most, by the upper word's length.
@@ -215,6 +223,7 @@ fn all_in(
     let mut upper = 0;
     while upper < leaf_count {
         let run = fitting(degree, leaves, keys, numbers, sets, all, upper, guess);
+        let mark = first_digit(keys[upper]) + 1;
         let number = octets::wide(numbers[upper]);
         let known = weight_sets::judged(
             degree,
@@ -225,6 +234,7 @@ fn all_in(
             leaves,
             words,
             upper,
+            mark,
             number,
             first,
             count,

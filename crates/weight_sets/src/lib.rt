@@ -316,7 +316,8 @@ fn judge_by(
     }
 }
 
-// The same, judged once for each first digit and weight of an upper leaf: leaves come in the order of their first digits.
+// The same, judged once for each first digit and weight of an upper leaf: leaves come in the order of their first digits. `mark` is the
+// first digit plus one, as it is kept.
 pub fn judged(
     degree: Degree,
     base: &[[i64; 4]; 4],
@@ -326,6 +327,7 @@ pub fn judged(
     leaves: &[u8],
     words: &[u8],
     upper: usize,
+    mark: usize,
     number: usize,
     first: &[usize],
     count: usize,
@@ -335,15 +337,15 @@ pub fn judged(
     requires part { ⌜ RowsWithin (2 ^ 21) (now base) × Slotted (ofDegree degree (now alphabet)) (now slots)
         × (getD (wordGiven (ofDegree degree (now leaves)) (now words) upper) 0 0 < elementCount (ofDegree degree (now inputs))) ⌝ }
     requires number { ⌜ (number < 64) × (count ≤ 64) × (count ≤ length (now first))
-        × (weightGiven (ofDegree degree (now leaves)) (getD (now first) number 0) ≡ weightGiven (ofDegree degree (now leaves)) upper) ⌝ }
+        × (weightGiven (ofDegree degree (now leaves)) (getD (now first) number 0) ≡ weightGiven (ofDegree degree (now leaves)) upper)
+        × (mark ≡ getD (wordGiven (ofDegree degree (now leaves)) (now words) upper) 0 0 + 1) ⌝ }
     requires kept { ⌜ Judged (now base) (ofDegree degree (now alphabet)) (ofDegree degree (now inputs)) (ofDegree degree (now leaves)) (now first) (now made) (now good) ⌝ }
     ensures good { λ r. ⌜ Good (ofDegree degree (now (alphabet .entry))) (ofDegree degree (now (leaves .entry))) (now (first .entry))
         (upperPart (now (base .entry)) (ofDegree degree (now (inputs .entry))) (ofDegree degree (now (leaves .entry))) (now (words .entry)) upper) r ⌝ }
     ensures kept { λ r. ⌜ Judged (now (base .entry)) (ofDegree degree (now (alphabet .entry))) (ofDegree degree (now (inputs .entry))) (ofDegree degree (now (leaves .entry))) (now (first .entry))
         (now (made .exit)) (now (good .exit)) ⌝ }
 {
-    let digit = octets::wide(octets::byte_at(leaves::word(degree, leaves, words, upper), 0)) + 1;
-    if made[number] == digit {
+    if made[number] == mark {
         return good[number];
     }
     let set = judge_by(
@@ -359,6 +361,6 @@ pub fn judged(
         count,
     );
     good[number] = set;
-    made[number] = digit;
+    made[number] = mark;
     set
 }

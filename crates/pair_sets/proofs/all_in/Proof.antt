@@ -1,19 +1,20 @@
 -- All upper leaves passed so far pass: the weights of all that fit one are among those that give digits with it.
 use Rattle.layout_rules.specs.Section.{ofDegree}
+use Rattle.leaf_rules.specs.Leaf.{leafCount}
 use Rattle.leaf_rules.specs.Given.{weightGiven}
 use borrow.Author.Tests.{not-false}
 use Rattle.digit_rules.specs.Record.{elementCount}
 use Rattle.weight_sets.proofs.Weights.{zeros-none}
 use Rattle.pair_sets.proofs.Pass.{all-next}
-use Rattle.pair_sets.proofs.Keys.{ready-words}
-use Rattle.table_rules.proofs.Fitting.{first-input}
+use Rattle.pair_sets.proofs.Keys.{first-digit, ready-words}
+use Rattle.table_rules.proofs.Fitting.{reads, first-input}
 use Rattle.prefix_rules.proofs.Formed.{formed}
 use Rattle.pair_sets.specs.Runs.{AllPass}
 use Rattle.weight_sets.specs.Weights.{Judged}
-use mathlib.Core.Path.{ap, _∙_}
-use Prim.Native.Nat.{ℕ, _-_, _≤_}
+use mathlib.Core.Path.{sym, ap, _∙_}
+use Prim.Native.Nat.{ℕ, _+_, _-_, _/_, _<_, _≤_}
 use native.Mathlib.Omega.{arith}
-use lib.ListN.{getD, set}
+use lib.ListN.{getD}
 use borrow.Author.Needs.{needs}
 use Rattle.pair_sets.proofs.all_in.Statement.{statement}
 use Rattle.pair_sets.proofs.all_in.Tie as tie
@@ -61,6 +62,18 @@ fitting-requires c κs =
       ),
     )
 
+mul-first-digit : tie.Need-mul-first-digit Inv-loop μ-loop
+mul-first-digit c = search needs
+
+shared-slice-read-first-digit : tie.Need-shared-slice-read-first-digit Inv-loop μ-loop
+shared-slice-read-first-digit c = omega arith
+
+first-digit-requires : tie.Need-first-digit-requires Inv-loop μ-loop
+first-digit-requires c κs = search needs
+
+add-mark : tie.Need-add-mark Inv-loop μ-loop
+add-mark c = omega (arith, c .first-digit .ensures .1)
+
 shared-slice-read-wide : tie.Need-shared-slice-read-wide Inv-loop μ-loop
 shared-slice-read-wide c = omega arith
 
@@ -69,15 +82,20 @@ wide-requires c κs = search needs
 
 judged-requires : tie.Need-judged-requires Inv-loop μ-loop
 judged-requires c κs =
-    let a = c .before .before .before .before .before .before .before .before .before .before .before .before .before .before .before .before .before .before .before .before .before .args in
+    let a = c .before .before .before .before .before .before .before .before .before .before .before .before .before .before .before .before .before .before .before .before .before .before .before .args in
     let leaves = ofDegree (a .degree) (a .leaves .now) in
     let inputs = ofDegree (a .degree) (a .inputs .now) in
     let words = a .words .now in
-    let pre = c .before .before .before .before .before .before .before .before .before .before .before .before .before .before .before .before .before .before .before .before .before .pre in
-    let slot-digits = c .before .before .before .before .before .before .before .before .before .before .before .slot-digits in
-    let if1 = c .before .before .before .before .before .before .before .before .before .before .if1 in
-    let leaf-count = c .before .before .before .before .before .before .before .before .before .leaf-count in
-    let loop = c .before .before .before .before .before .before .before .loop in
+    let pre = c .before .before .before .before .before .before .before .before .before .before .before .before .before .before .before .before .before .before .before .before .before .before .before .pre in
+    let slot-digits = c .before .before .before .before .before .before .before .before .before .before .before .before .before .slot-digits in
+    let if1 = c .before .before .before .before .before .before .before .before .before .before .before .before .if1 in
+    let leaf-count = c .before .before .before .before .before .before .before .before .before .before .before .leaf-count in
+    let loop = c .before .before .before .before .before .before .before .before .before .loop in
+    let is = formed leaves words (elementCount inputs) (pre .0 .1) (pre .0 .2) in
+    let there : loop .upper < leafCount leaves = omega (arith, leaf-count .ensures) in
+    let ready = ready-words leaves words (elementCount inputs) is (λ i. omega (arith, c .before .before .before .before .before .before .before .before .before .before .before .before .before .before .before .before .before .before .before .shared-slice-known4 .given i)) in
+    let first = c .before .before .before .before .before .first-digit in
+    let marked = ap (λ (x : ℕ). x + 1) (first .ensures .0 ∙ ap (λ (x : ℕ). x / 72057594037927936) (pre .1 .1 .0 (loop .upper) there) ∙ first-digit leaves words ready (loop .upper) there ∙ sym (reads leaves words (elementCount inputs) (pre .0 .1) is (loop .upper) 0 there (is .some (loop .upper) there))) in
     let wide = c .before .before .before .wide in (
       (
         pre .0 .0,
@@ -90,13 +108,14 @@ judged-requires c κs =
           pre .1 .0 .3,
           pre .1 .0 .4,
           ap (λ (n : ℕ). weightGiven leaves (getD (a .first .now) n 0)) (wide .ensures .0) ∙ pre .1 .1 .1 (loop .upper) (omega (arith, leaf-count .ensures)) .1,
+          marked,
         ),
         loop .inv .2,
       ),
     )
 
 returns-2 : tie.Need-returns-2 Inv-loop μ-loop
-returns-2 c = c .before .before .before .before .before .before .before .before .before .loop .inv .1
+returns-2 c = c .before .before .before .before .before .before .before .before .before .before .before .loop .inv .1
 
 add-upper : tie.Need-add-upper Inv-loop μ-loop
 add-upper c = omega arith
@@ -106,15 +125,15 @@ loop-less c = omega arith
 
 loop-again : tie.Need-loop-again Inv-loop μ-loop
 loop-again c =
-    let a = c .before .before .before .before .before .before .before .before .before .before .before .before .before .before .before .before .before .before .before .before .before .before .before .args in
+    let a = c .before .before .before .before .before .before .before .before .before .before .before .before .before .before .before .before .before .before .before .before .before .before .before .before .before .args in
     let leaves = ofDegree (a .degree) (a .leaves .now) in
     let inputs = ofDegree (a .degree) (a .inputs .now) in
     let words = a .words .now in
-    let pre = c .before .before .before .before .before .before .before .before .before .before .before .before .before .before .before .before .before .before .before .before .before .before .before .pre in
-    let shared-slice-known4 = c .before .before .before .before .before .before .before .before .before .before .before .before .before .before .before .before .before .before .before .shared-slice-known4 in
-    let leaf-count = c .before .before .before .before .before .before .before .before .before .before .before .leaf-count in
-    let loop = c .before .before .before .before .before .before .before .before .before .loop in
-    let fitting = c .before .before .before .before .before .before .before .fitting in (
+    let pre = c .before .before .before .before .before .before .before .before .before .before .before .before .before .before .before .before .before .before .before .before .before .before .before .before .before .pre in
+    let shared-slice-known4 = c .before .before .before .before .before .before .before .before .before .before .before .before .before .before .before .before .before .before .before .before .before .shared-slice-known4 in
+    let leaf-count = c .before .before .before .before .before .before .before .before .before .before .before .before .before .leaf-count in
+    let loop = c .before .before .before .before .before .before .before .before .before .before .before .loop in
+    let fitting = c .before .before .before .before .before .before .before .before .before .fitting in (
       omega (arith, fitting .ensures .0, leaf-count .ensures),
       all-next leaves words (elementCount inputs) (pre .0 .1) (formed leaves words (elementCount inputs) (pre .0 .1) (pre .0 .2)) (a .base .now) inputs (ofDegree (a .degree) (a .alphabet .now)) (a .numbers .now) (a .first .now) (a .count)
           (pre .1 .1 .1) (loop .upper) (omega (arith, leaf-count .ensures)) (fitting .result .set) (c .before .judged .result)
@@ -138,6 +157,10 @@ all-in-spec =
     all-weights-requires
     loop-holds
     fitting-requires
+    mul-first-digit
+    shared-slice-read-first-digit
+    first-digit-requires
+    add-mark
     shared-slice-read-wide
     wide-requires
     judged-requires
