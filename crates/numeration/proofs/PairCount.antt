@@ -55,11 +55,15 @@ module _ {A : Type 0} (c : Code A) where
   unfolding pairsBelow lowerCount
   pairs-most n = total-most (lowerCount c) (c .leaves) n (λ u h. count-most (fits c u) (c .leaves))
 
+  pub pairs-all-most : pairCount c ≤ c .leaves * c .leaves
+  unfolding pairCount
+  pairs-all-most = pairs-most (c .leaves)
+
   -- one-digit words: every two leaves fit
   pub pairs-square : ((u : ℕ) → u < c .leaves → c .size u ≡ 1) → pairCount c ≡ c .leaves * c .leaves
   unfolding pairCount pairsBelow
   pairs-square short =
-      le-antisymm (pairs-most (c .leaves)) (total-least (lowerCount c) (c .leaves) (c .leaves) (λ u h. omega (arith, run-count u 0 (c .leaves) (omega arith) (omega arith) (λ l a b i k. absurd (omega (arith, short u h))) (λ l b fit. (omega arith, b)))))
+      le-antisymm pairs-all-most (total-least (lowerCount c) (c .leaves) (c .leaves) (λ u h. omega (arith, run-count u 0 (c .leaves) (omega arith) (omega arith) (λ l a b i k. absurd (omega (arith, short u h))) (λ l b fit. (omega arith, b)))))
 
   -- each upper leaf has a lower one
   pub pairs-leaves : (m : ℕ) → PrefixCode c m → ((k : ℕ) → suc k < c .leaves → Precedes c k (suc k)) → c .leaves ≤ pairCount c
