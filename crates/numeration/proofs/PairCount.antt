@@ -3,7 +3,7 @@ use mathlib.Core.Path.{_≡_, refl, sym, subst, _∙_}
 use mathlib.Core.Bool.{Bool, true, false}
 use Prim.Native.Nat.{ℕ, zero, suc, _+_, _-_, _*_, _<_, _≤_}
 use native.Mathlib.Omega.{arith}
-use native.Mathlib.Nat.{le-antisymm, mul-one}
+use native.Mathlib.Nat.{le-antisymm, sub-zero}
 use native.Mathlib.Decide.{decLt}
 use Rattle.lists.specs.Count.{total, count}
 use Rattle.lists.proofs.Count.{total-next, total-most, total-least, count-run, count-most, count-some, pairs-once}
@@ -59,11 +59,15 @@ module _ {A : Type 0} (c : Code A) where
   unfolding pairCount
   pairs-all-most = pairs-most (c .leaves)
 
-  -- one-digit words: every two leaves fit
+  -- every leaf fits one whose word has one digit
+  pub short-count : (u : ℕ) → c .size u ≡ 1 → lowerCount c u ≡ c .leaves
+  short-count u short =
+      run-count u 0 (c .leaves) (omega arith) (omega arith) (λ l a b i k. absurd (omega (arith, short))) (λ l b fit. (omega arith, b)) ∙ sub-zero (c .leaves)
+
   pub pairs-square : ((u : ℕ) → u < c .leaves → c .size u ≡ 1) → pairCount c ≡ c .leaves * c .leaves
   unfolding pairCount pairsBelow
   pairs-square short =
-      le-antisymm pairs-all-most (total-least (lowerCount c) (c .leaves) (c .leaves) (λ u h. omega (arith, run-count u 0 (c .leaves) (omega arith) (omega arith) (λ l a b i k. absurd (omega (arith, short u h))) (λ l b fit. (omega arith, b)))))
+      le-antisymm pairs-all-most (total-least (lowerCount c) (c .leaves) (c .leaves) (λ u h. omega (arith, short-count u (short u h))))
 
   -- each upper leaf has a lower one
   pub pairs-leaves : (m : ℕ) → PrefixCode c m → ((k : ℕ) → suc k < c .leaves → Precedes c k (suc k)) → c .leaves ≤ pairCount c

@@ -1,7 +1,7 @@
 -- Degree two was told where the function for it is called.
 use borrow.Author.Needs.{needs}
-use Rattle.pair_sets.proofs.keys_of_by.Statement.{statement}
-use Rattle.pair_sets.proofs.keys_of_by.Tie as tie
+use Rattle.runs.proofs.keys_of_by.Statement.{statement}
+use Rattle.runs.proofs.keys_of_by.Tie as tie
 
 enum-told : tie.Need-enum-told
 enum-told c = search needs

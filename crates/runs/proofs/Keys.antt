@@ -21,8 +21,7 @@ use Rattle.numeration.specs.Pairs.{tail, Fits}
 use Rattle.numeration.proofs.Leaves.{precedes-all}
 use Rattle.leaf_rules.specs.Leaf.{leafCount, wordLength, codeOf}
 use Rattle.prefix_rules.specs.Formed.{LeavesFormed}
-use Rattle.pair_sets.specs.Runs.{WordsOrdered, wordNumber, Keyed, InRun}
-use Rattle.weight_sets.specs.Bits.{Has}
+use Rattle.runs.specs.Words.{WordsOrdered, wordNumber, Keyed}
 
 -- all that eight bytes have behind the first k, at most
 pub behind-is : (k : ℕ) → k < 8 → 18446744073709551615 / 2 ^ (8 * k) + 1 ≡ 256 ^ (8 - k)
@@ -80,7 +79,7 @@ module _ (leaves : Section) (words : List ℕ) (ready : WordsOrdered leaves word
   abbrev N : ℕ
   N = leafCount leaves
 
-  bytes : (k n : ℕ) → Digits 256 (codeOf leaves words .digit k) n
+  pub bytes : (k n : ℕ) → Digits 256 (codeOf leaves words .digit k) n
   bytes k n i h = ready .bytes _
 
   pub first-digit : (k : ℕ) → k < N → wordNumber leaves words k / 72057594037927936 ≡ codeOf leaves words .digit k 0
@@ -91,7 +90,7 @@ module _ (leaves : Section) (words : List ℕ) (ready : WordsOrdered leaves word
   rising k l h there =
       lower-aligned 256 (omega arith) _ _ _ _ (ready .short k (omega arith)) (ready .short l there) (bytes k _) (bytes l _) (precedes-all (codeOf leaves words) (ready .ordered) k l h there)
 
-  rises : (k l : ℕ) → k ≤ l → l < N → wordNumber leaves words k ≤ wordNumber leaves words l
+  pub rises : (k l : ℕ) → k ≤ l → l < N → wordNumber leaves words k ≤ wordNumber leaves words l
   rises k l h there =
       elim (decLt k l) [
         | yes less ↦ omega (arith, rising k l less there)
@@ -102,7 +101,7 @@ module _ (leaves : Section) (words : List ℕ) (ready : WordsOrdered leaves word
     abbrev pub tailNumber : ℕ
     tailNumber = aligned 256 (tail (codeOf leaves words) u) (pred (wordLength leaves u))
 
-    tail-bytes : (n : ℕ) → Digits 256 (tail (codeOf leaves words) u) n
+    pub tail-bytes : (n : ℕ) → Digits 256 (tail (codeOf leaves words) u) n
     unfolding tail
     tail-bytes n i h = ready .bytes _
 
@@ -123,26 +122,26 @@ module _ (leaves : Section) (words : List ℕ) (ready : WordsOrdered leaves word
         (aligned-lower 256 (omega arith) (tail (codeOf leaves words) u) _ (pred (wordLength leaves u)) (wordLength leaves l) (omega (arith, ready .short u hu)) (ready .short l there) (tail-bytes _) (bytes l _) (omega (arith, rises end l h there)))
         fit
 
-    tail-is : (t : ℕ) → t ≡ (wordNumber leaves words u * 2 ^ 8) % 2 ^ 64 → t ≡ tailNumber
+    pub tail-is : (t : ℕ) → t ≡ (wordNumber leaves words u * 2 ^ 8) % 2 ^ 64 → t ≡ tailNumber
     unfolding tail
     tail-is t e =
         let long : wordLength leaves u ≡ suc (pred (wordLength leaves u)) = omega (arith, ready .some u hu) in
         e ∙ ap (λ (n : ℕ). (aligned 256 (codeOf leaves words .digit u) n * 2 ^ 8) % 2 ^ 64) long ∙ tail-number (codeOf leaves words .digit u) (pred (wordLength leaves u)) (omega (arith, ready .short u hu)) (bytes u _)
 
     -- a run that starts early enough and ends late enough has all leaves that fit
-    pub run-has : (keys numbers : List ℕ) → Keyed leaves words keys N
-        → (t behind start set end : ℕ) → t ≡ (getD keys u 0 * 2 ^ 8) % 2 ^ 64 → behind + 1 ≡ 256 ^ (8 - pred (wordLength leaves u))
-        → (0 < start → (start < N) × (getD keys start 0 ≤ t)) → (end < N → bitOr t behind < getD keys end 0)
-        → InRun numbers start set end → (l : ℕ) → l < N → Fits (codeOf leaves words) u l → Has set (getD numbers l 0)
-    run-has keys numbers keyed t behind start set end is rest early late run l there fit =
+    pub run-within : (keys : List ℕ) → Keyed leaves words keys N
+        → (t behind start end : ℕ) → t ≡ (getD keys u 0 * 2 ^ 8) % 2 ^ 64 → behind + 1 ≡ 256 ^ (8 - pred (wordLength leaves u))
+        → start < N → (0 < start → getD keys start 0 ≤ t) → (end < N → bitOr t behind < getD keys end 0)
+        → (l : ℕ) → l < N → Fits (codeOf leaves words) u l → (start ≤ l) × (l < end)
+    run-within keys keyed t behind start end is rest inside early late l there fit =
         let same : t ≡ tailNumber = tail-is t (is ∙ ap (λ (x : ℕ). (x * 2 ^ 8) % 2 ^ 64) (keyed u hu)) in
         elim (decLt l start) [
-          | yes low ↦ let (inside, le) = early (omega arith) in absurd (none-below start l inside (omega (arith, same, keyed start inside)) low fit)
+          | yes low ↦ absurd (none-below start l inside (omega (arith, same, keyed start inside, early (omega arith))) low fit)
           | no from ↦ elim (decLt l end) [
-            | yes upto ↦ run l (omega arith) upto
+            | yes upto ↦ (omega arith, upto)
             | no past ↦
-                let inside : end < N = omega arith in
-                absurd (none-behind end l (omega (arith, last-number (tail (codeOf leaves words) u) (pred (wordLength leaves u)) behind rest, ap (λ (x : ℕ). bitOr x behind) same, late inside, keyed end inside)) (omega arith) there fit)
+                let there-too : end < N = omega arith in
+                absurd (none-behind end l (omega (arith, last-number (tail (codeOf leaves words) u) (pred (wordLength leaves u)) behind rest, ap (λ (x : ℕ). bitOr x behind) same, late there-too, keyed end there-too)) (omega arith) there fit)
           ]
         ]
 

@@ -1,12 +1,12 @@
 -- The highest 64-bit number shifted right by so many bytes is the highest of the bytes that are left.
-use Rattle.pair_sets.proofs.Keys.{behind-is}
+use Rattle.runs.proofs.Keys.{behind-is}
 use mathlib.Core.Path.{_≡_, ap, _∙_}
 use Prim.Native.Nat.{ℕ, _+_, _-_, _*_, _/_, _^_, pred}
 use native.Mathlib.Omega.{arith}
 use lib.ListN.{length}
 use borrow.Author.Needs.{needs}
-use Rattle.pair_sets.proofs.behind.Statement.{statement}
-use Rattle.pair_sets.proofs.behind.Tie as tie
+use Rattle.runs.proofs.behind.Statement.{statement}
+use Rattle.runs.proofs.behind.Tie as tie
 
 sub-result : tie.Need-sub-result
 sub-result c = search needs

@@ -1,15 +1,15 @@
 -- The leaves passed have their words' numbers.
 use Rattle.layout_rules.specs.Section.{ofDegree}
 use Rattle.radix.specs.Number.{aligned}
-use Rattle.pair_sets.specs.Runs.{wordNumber, Keyed}
-use Rattle.weight_sets.proofs.Weights.{entry-next}
+use Rattle.runs.specs.Words.{wordNumber, Keyed}
+use Rattle.lists.proofs.Entries.{entry-next}
 use mathlib.Core.Path.{_≡_, refl, _∙_}
 use Prim.Native.Nat.{_+_, _-_}
 use native.Mathlib.Omega.{arith}
 use lib.ListN.{length, getD, set, length-set}
 use borrow.Author.Needs.{needs}
-use Rattle.pair_sets.proofs.keys_of.Statement.{statement}
-use Rattle.pair_sets.proofs.keys_of.Tie as tie
+use Rattle.runs.proofs.keys_of.Statement.{statement}
+use Rattle.runs.proofs.keys_of.Tie as tie
 
 abbrev Inv-loop : tie.InvT-loop
 Inv-loop degree leaves words keys₀ count leaf₀ keys leaf = (length keys ≡ length keys₀) × Keyed (ofDegree degree leaves) words keys leaf
