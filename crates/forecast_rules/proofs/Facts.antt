@@ -3,13 +3,12 @@ use mathlib.Core.Path.{_≡_, sym, ap, subst, _∙_}
 use mathlib.Core.List.{List}
 use Prim.Native.Nat.{ℕ, suc, _+_, _*_, _<_, _≤_}
 use native.Mathlib.Omega.{arith}
-use native.Mathlib.Nat.{le-trans, mul-le-mul}
 use Rattle.faults.specs.Outcome.{facts, author, rows}
 use Rattle.faults.specs.Unless.{unless}
 use Rattle.calls.proofs.Answers.{unless-given}
 use Rattle.leaf_rules.specs.Leaf.{leafCount, wordLength}
 use Rattle.numeration.specs.PairCount.{pairCount}
-use Rattle.numeration.proofs.PairCount.{pairs-number, pairs-all-most, pairs-leaves, pairs-square}
+use Rattle.numeration.proofs.PairCount.{pairs-number, pairs-all-within, pairs-leaves, pairs-square}
 use Rattle.reader_rules.specs.Table.{leafPart, leavesIn, inputCount}
 use Rattle.reader_rules.specs.TableFacts.{tableFacts, partFacts}
 use Rattle.reader_rules.specs.Check.{tableCheck}
@@ -51,7 +50,7 @@ module _ (table : List ℕ) (n : ℕ) (f : ForecastFacts) (e : forecastOutcome t
   pub most-pairs : f .pairs ≤ 16000000
   most-pairs =
       let r = ready-passed table read in
-      omega (arith, is-count, pairs-all-most (leavesIn table), mul-le-mul (r .leaf-count .1) (r .leaf-count .1))
+      omega (arith, is-count, pairs-all-within (leavesIn table) 4000 (r .leaf-count .1))
 
   -- A table of one-digit words has as many as the square of its leaves.
   pub square-pairs : ((k : ℕ) → k < leafCount (leafPart table) → wordLength (leafPart table) k ≡ 1) → f .pairs ≡ leafCount (leafPart table) * leafCount (leafPart table)

@@ -3,7 +3,7 @@ use mathlib.Core.Path.{_≡_, refl, sym, subst, _∙_}
 use mathlib.Core.Bool.{Bool, true, false}
 use Prim.Native.Nat.{ℕ, zero, suc, _+_, _-_, _*_, _<_, _≤_}
 use native.Mathlib.Omega.{arith}
-use native.Mathlib.Nat.{le-antisymm, sub-zero}
+use native.Mathlib.Nat.{le-antisymm, le-trans, sub-zero, mul-le-mul}
 use native.Mathlib.Decide.{decLt}
 use Rattle.lists.specs.Count.{total, count}
 use Rattle.lists.proofs.Count.{total-next, total-most, total-least, count-run, count-most, count-some, pairs-once}
@@ -51,13 +51,16 @@ module _ {A : Type 0} (c : Code A) where
       count-run (fits c u) start end (c .leaves) h k (λ l a b. fits-complete u l (run l a b)) (λ l a. fits-not u l (λ fit. omega (arith, within l (omega arith) fit .0)))
       (λ l a b. fits-not u l (λ fit. omega (arith, within l b fit .1)))
 
-  pub pairs-most : (n : ℕ) → pairsBelow c n ≤ n * c .leaves
+  pairs-most : (n : ℕ) → pairsBelow c n ≤ n * c .leaves
   unfolding pairsBelow lowerCount
   pairs-most n = total-most (lowerCount c) (c .leaves) n (λ u h. count-most (fits c u) (c .leaves))
 
-  pub pairs-all-most : pairCount c ≤ c .leaves * c .leaves
+  pub pairs-within : (b n : ℕ) → n ≤ b → c .leaves ≤ b → pairsBelow c n ≤ b * b
+  pairs-within b n h l = le-trans (pairs-most n) (mul-le-mul h l)
+
+  pub pairs-all-within : (b : ℕ) → c .leaves ≤ b → pairCount c ≤ b * b
   unfolding pairCount
-  pairs-all-most = pairs-most (c .leaves)
+  pairs-all-within b l = pairs-within b (c .leaves) l l
 
   -- every leaf fits one whose word has one digit
   pub short-count : (u : ℕ) → c .size u ≡ 1 → lowerCount c u ≡ c .leaves
@@ -67,7 +70,7 @@ module _ {A : Type 0} (c : Code A) where
   pub pairs-square : ((u : ℕ) → u < c .leaves → c .size u ≡ 1) → pairCount c ≡ c .leaves * c .leaves
   unfolding pairCount pairsBelow
   pairs-square short =
-      le-antisymm pairs-all-most (total-least (lowerCount c) (c .leaves) (c .leaves) (λ u h. omega (arith, short-count u (short u h))))
+      le-antisymm (pairs-most (c .leaves)) (total-least (lowerCount c) (c .leaves) (c .leaves) (λ u h. omega (arith, short-count u (short u h))))
 
   -- each upper leaf has a lower one
   pub pairs-leaves : (m : ℕ) → PrefixCode c m → ((k : ℕ) → suc k < c .leaves → Precedes c k (suc k)) → c .leaves ≤ pairCount c

@@ -4,21 +4,16 @@ use Rattle.runs.specs.Words.{WordsOrdered, LeavesPass}
 use Rattle.prefix_rules.proofs.Formed.{formed}
 use Rattle.prefix_rules.specs.Formed.{LeavesFormed}
 use Rattle.leaf_rules.specs.Leaf.{leafCount, codeOf}
-use Rattle.numeration.proofs.PairCount.{pairs-next, pairs-most}
+use Rattle.numeration.proofs.PairCount.{pairs-next, pairs-within}
 use Rattle.lists.specs.Count.{total}
 use Rattle.numeration.specs.PairCount.{pairsBelow, pairCount}
 use Rattle.layout_rules.specs.Section.{ofDegree}
 use borrow.Author.Needs.{needs}
-use native.Mathlib.Nat.{mul-le-mul}
 use native.Mathlib.Omega.{arith}
-use Prim.Native.Nat.{ℕ, _+_, _-_, _*_, _<_, _≤_}
+use Prim.Native.Nat.{_-_, _<_, _≤_}
 use mathlib.Core.Path.{_≡_, refl, sym, ap, _∙_}
 use Rattle.runs.proofs.count_in.Statement.{statement}
 use Rattle.runs.proofs.count_in.Tie as tie
-
--- as many pairs as the first leaves can have
-most : (n m : ℕ) → n ≤ 4096 → m ≤ 4096 → n * m ≤ 16777216
-most n m h l = omega (arith, mul-le-mul h l)
 
 abbrev Inv-loop : tie.InvT-loop
 Inv-loop degree leaves words keys count pairs₀ guess₀ upper₀ pairs guess upper = (guess ≤ count) × (upper ≤ count) × (pairs ≡ pairsBelow (codeOf (ofDegree degree leaves) words) upper)
@@ -44,7 +39,13 @@ run-of-requires c κs =
     (omega (arith, c .before .before .before .before .before .keys .given, c .before .before .before .before .before .before .before .before .before .before .before .pre .1 .0), (there, is .some _ there, is .short _ there, omega (arith, c .before .before .before .leaf-count .ensures, c .before .before .loop .inv .0)))
 
 add-pairs : tie.Need-add-pairs Inv-loop μ-loop
-add-pairs c = omega (arith, c .before .before .before .before .loop .inv .2, c .before .run-of .ensures .0 .1, c .before .before .before .before .before .leaf-count .ensures, c .before .before .before .before .before .before .before .before .before .before .before .before .before .pre .1 .1, pairs-most (codeOf (ofDegree (c .before .before .before .before .before .before .before .before .before .before .before .before .before .args .degree) (c .before .before .before .before .before .before .before .before .before .before .before .before .before .args .leaves .now)) (c .before .before .before .before .before .before .before .before .before .before .before .before .before .args .words .now)) (c .before .before .before .before .loop .upper), most (c .before .before .before .before .loop .upper) (leafCount (ofDegree (c .before .before .before .before .before .before .before .before .before .before .before .before .before .args .degree) (c .before .before .before .before .before .before .before .before .before .before .before .before .before .args .leaves .now))) (omega (arith, c .before .before .before .before .before .leaf-count .ensures, c .before .before .before .before .loop .inv .1, c .before .before .before .before .before .before .before .before .before .before .before .before .before .pre .1 .1)) (c .before .before .before .before .before .before .before .before .before .before .before .before .before .pre .1 .1))
+add-pairs c =
+    let s = c .before .before .before .before .before .before .before .before .before .before .before .before .before in
+    let table = ofDegree (s .args .degree) (s .args .leaves .now) in
+    let loop = c .before .before .before .before .loop in
+    let leaf-count = c .before .before .before .before .before .leaf-count in
+    let within = pairs-within (codeOf table (s .args .words .now)) 4096 (loop .upper) (omega (arith, leaf-count .ensures, loop .inv .1, s .pre .1 .1)) (s .pre .1 .1) in
+    omega (arith, loop .inv .2, c .before .run-of .ensures .0 .1, s .pre .1 .1, within)
 
 add-upper : tie.Need-add-upper Inv-loop μ-loop
 add-upper c = omega arith
