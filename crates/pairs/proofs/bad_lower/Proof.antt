@@ -125,10 +125,12 @@ returns c =
     let loop = c .before .before .before .before .loop in
     let leaves = ofDegree (s .args .degree) (s .args .leaves .now) in
     let count = counted (c .before .before .before .before .before .before .before .before .before) in
-    let unfit = sym (fit-says (c .before)) ∙ not-true _ (c .if1 .taken) in
-    (count ∙ ends-unfit leaves (s .args .words .now) (elementCount (ofDegree (s .args .degree) (s .args .inputs .now))) (s .pre .0 .1) (well s) (s .args .upper) (s .pre .1 .0) (s .args .base .now) (ofDegree (s .args .degree) (s .args .inputs .now))
-    (inAlphabet (ofDegree (s .args .degree) (s .args .alphabet .now))) (loop .lower) (loop .inv .0) (omega (arith, count, c .before .before .before .loop-test .taken))
-    unfit (loop .inv .1 (s .args .base .now) (upper-part-by .ensures .0)), λ h. counts s (loop .lower) (loop .inv .0) (omega (arith, count, loop .inv .2 .1)) (λ l. unfit) (loop .inv .2 .2) _ (loop .inv .2 .0))
+    let unfit = sym (fit-says (c .before)) ∙ not-true _ (c .if1 .taken) in (
+      count ∙ ends-unfit leaves (s .args .words .now) (elementCount (ofDegree (s .args .degree) (s .args .inputs .now))) (s .pre .0 .1) (well s) (s .args .upper) (s .pre .1 .0) (s .args .base .now) (ofDegree (s .args .degree) (s .args .inputs .now))
+          (inAlphabet (ofDegree (s .args .degree) (s .args .alphabet .now))) (loop .lower) (loop .inv .0) (omega (arith, count, c .before .before .before .loop-test .taken))
+          unfit (loop .inv .1 (s .args .base .now) (upper-part-by .ensures .0)),
+      λ h. counts s (loop .lower) (loop .inv .0) (omega (arith, count, loop .inv .2 .1)) (λ l. unfit) (loop .inv .2 .2) _ (loop .inv .2 .0),
+    )
 
 gives-digit-by-requires : tie.Need-gives-digit-by-requires Inv-loop μ-loop
 gives-digit-by-requires c κs = (c .before .before .before .before .before .before .before .before .before .before .before .before .before .before .pre .1 .1, c .before .before .before .before .before .before .before .upper-part-by .ensures .1)
@@ -139,11 +141,13 @@ returns-2 c =
     let upper-part-by = c .before .before .before .before .before .before .before .before .before .upper-part-by in
     let loop = c .before .before .before .before .before .before .loop in
     let loop-test = c .before .before .before .before .before .loop-test in
-    let there : loop .lower < leafCount (ofDegree (s .args .degree) (s .args .leaves .now)) = omega (arith, counted (c .before .before .before .before .before .before .before .before .before .before .before), loop-test .taken) in
-    (ends-bad (ofDegree (s .args .degree) (s .args .leaves .now)) (s .args .words .now) (elementCount (ofDegree (s .args .degree) (s .args .inputs .now))) (s .pre .0 .1) (well s) (s .args .upper) (s .pre .1 .0) (s .args .base .now) (ofDegree (s .args .degree) (s .args .inputs .now))
-    (inAlphabet (ofDegree (s .args .degree) (s .args .alphabet .now))) (loop .lower)
-    there
-    (sym (pair-says (c .before) (s .args .base .now) (upper-part-by .ensures .0)) ∙ not-true _ (c .if2 .taken)) (loop .inv .1 (s .args .base .now) (upper-part-by .ensures .0)), λ h. absurd (omega (arith, there)))
+    let there : loop .lower < leafCount (ofDegree (s .args .degree) (s .args .leaves .now)) = omega (arith, counted (c .before .before .before .before .before .before .before .before .before .before .before), loop-test .taken) in (
+      ends-bad (ofDegree (s .args .degree) (s .args .leaves .now)) (s .args .words .now) (elementCount (ofDegree (s .args .degree) (s .args .inputs .now))) (s .pre .0 .1) (well s) (s .args .upper) (s .pre .1 .0) (s .args .base .now) (ofDegree (s .args .degree) (s .args .inputs .now))
+          (inAlphabet (ofDegree (s .args .degree) (s .args .alphabet .now))) (loop .lower)
+          there
+          (sym (pair-says (c .before) (s .args .base .now) (upper-part-by .ensures .0)) ∙ not-true _ (c .if2 .taken)) (loop .inv .1 (s .args .base .now) (upper-part-by .ensures .0)),
+      λ h. absurd (omega (arith, there)),
+    )
 
 add-lower : tie.Need-add-lower Inv-loop μ-loop
 add-lower c = omega arith

@@ -35,7 +35,7 @@ returns-2 c =
     let a = c .before .before .before .before .before .before .before .before .before .before .before .before .before .args in
     let bad-pair = c .before .before .before .bad-pair in (
       pairs-broken (ofDegree (a .degree) (a .base .now)) (ofDegree (a .degree) (a .alphabet .now)) (ofDegree (a .degree) (a .inputs .now)) (ofDegree (a .degree) (a .leaves .now)) (a .words .now) (bad-pair .result .pair) (bad-pair .ensures .1)
-      (omega (arith, c .before .before .before .before .before .before .before .leaf-count .ensures, c .if2 .taken)),
+          (omega (arith, c .before .before .before .before .before .before .before .leaf-count .ensures, c .if2 .taken)),
       λ z. absurd (omega (arith, z)),
     )
 
@@ -44,7 +44,7 @@ returns-3 c =
     let a = c .before .before .before .before .before .before .before .before .before .before .before .before .before .args in
     let bad-pair = c .before .before .before .bad-pair in (
       pairs-kept (ofDegree (a .degree) (a .base .now)) (ofDegree (a .degree) (a .alphabet .now)) (ofDegree (a .degree) (a .inputs .now)) (ofDegree (a .degree) (a .leaves .now)) (a .words .now) (bad-pair .result .pair) (bad-pair .ensures .1)
-      (omega (arith, c .before .before .before .before .before .before .before .leaf-count .ensures, c .if2 .left)),
+          (omega (arith, c .before .before .before .before .before .before .before .leaf-count .ensures, c .if2 .left)),
       λ z. bad-pair .ensures .0 (omega (arith, c .before .before .before .before .before .before .before .leaf-count .ensures, c .if2 .left)),
     )
 
