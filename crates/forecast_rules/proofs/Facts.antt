@@ -1,7 +1,7 @@
 -- What the facts of the forecast are, and their bounds.
 use mathlib.Core.Path.{_≡_, sym, ap, subst, _∙_}
 use mathlib.Core.List.{List}
-use Prim.Native.Nat.{ℕ, suc, _+_, _*_, _<_, _≤_}
+use Prim.Native.Nat.{ℕ, _+_, _*_, _<_, _≤_}
 use native.Mathlib.Omega.{arith}
 use Rattle.faults.specs.Outcome.{facts, author, rows}
 use Rattle.faults.specs.Unless.{unless}
