@@ -1,7 +1,7 @@
 -- Demand 1 for the forecast, rules 1 to 13 and 20.
 use mathlib.Core.Path.{_≡_}
 use mathlib.Core.List.{List}
-use Prim.Native.Nat.{ℕ, _≤_}
+use Prim.Native.Nat.{ℕ}
 use native.Mathlib.Omega.{arith}
 use Rattle.faults.specs.Outcome.{Group, refused, author, rows}
 use Rattle.calls.specs.Answers.{Answers}

@@ -1,7 +1,7 @@
 -- What the facts of the forecast are, and their bounds.
 use mathlib.Core.Path.{_≡_, sym, ap, subst, _∙_}
 use mathlib.Core.List.{List}
-use Prim.Native.Nat.{ℕ, suc, _+_, _*_, _<_, _≤_}
+use Prim.Native.Nat.{ℕ, _+_, _*_, _<_, _≤_}
 use native.Mathlib.Omega.{arith}
 use Rattle.faults.specs.Outcome.{facts, author, rows}
 use Rattle.faults.specs.Unless.{unless}
@@ -14,6 +14,7 @@ use Rattle.reader_rules.specs.TableFacts.{tableFacts, partFacts}
 use Rattle.reader_rules.specs.Check.{tableCheck}
 use Rattle.reader_rules.proofs.Ready.{ready-passed}
 use Rattle.row_rules.specs.Check.{digitsCheck}
+use Rattle.row_rules.proofs.Fit.{digits-fit}
 use Rattle.forecast_rules.specs.declared.ForecastFacts.{ForecastFacts}
 use Rattle.forecast_rules.specs.Forecast.{forecastFacts, forecastOutcome}
 use Rattle.forecast_rules.specs.ForecastOf.{ForecastOf}
@@ -26,6 +27,12 @@ module _ (table : List ℕ) (n : ℕ) (f : ForecastFacts) (e : forecastOutcome t
   read : tableCheck table .number ≡ 0
   unfolding forecastOutcome
   read = unless-given author (tableCheck table) (unless rows (digitsCheck n) (facts (forecastFacts table n))) f e .0
+
+  short : n ≤ 256
+  unfolding forecastOutcome
+  short =
+      let rest = unless-given author (tableCheck table) (unless rows (digitsCheck n) (facts (forecastFacts table n))) f e .1 in
+      digits-fit n (unless-given rows (digitsCheck n) (facts (forecastFacts table n)) f rest .0)
 
   -- Where the call gives facts, they are the number of fitting leaf pairs and n + h.
   pub facts-of : ForecastOf table n f
@@ -51,6 +58,11 @@ module _ (table : List ℕ) (n : ℕ) (f : ForecastFacts) (e : forecastOutcome t
   most-pairs =
       let r = ready-passed table read in
       omega (arith, is-count, pairs-all-within (leavesIn table) 4000 (r .leaf-count .1))
+
+  -- n + h is 264 at the most
+  pub most-bytes : f .bytes ≤ 264
+  unfolding forecastFacts
+  most-bytes = omega (arith, short, ready-passed table read .depth-high, ap (λ (g : ForecastFacts). g .bytes) is-facts)
 
   -- A table of one-digit words has as many as the square of its leaves.
   pub square-pairs : ((k : ℕ) → k < leafCount (leafPart table) → wordLength (leafPart table) k ≡ 1) → f .pairs ≡ leafCount (leafPart table) * leafCount (leafPart table)
