@@ -12,7 +12,7 @@ ghost use Rattle.runner.specs.Answer.{outcomeOf as ranAs};
 ghost use Rattle.value_call.specs.Answer.{valuedAs};
 use adder::Added;
 use adder::Subtracted;
-use forecast::Forecasted;
+use forecast_rules::Forecast;
 use ring::Degree;
 use row_edit::Edited;
 use runner::Ran;
@@ -42,14 +42,14 @@ pub fn checked(answer: &mut [i64], given: Checked) -> u64
     }
 }
 
-pub fn forecasted(answer: &mut [i64], given: Forecasted) -> u64
+pub fn forecasted(answer: &mut [i64], given: Forecast) -> u64
     requires { ⌜ 8 ≤ length (now answer) ⌝ }
     ensures status { λ r. ⌜ r ≡ outcomeStatus (forecastAs given) ⌝ }
     ensures answer { λ r. ⌜ now (answer .exit) ≡ overwrite (now (answer .entry)) 0 (outcomeWords forecastWords (forecastAs given)) ⌝ }
 {
     match given {
-        Forecasted::Facts(f) => answer_words::put_numbers(answer, f.pairs, f.bytes),
-        Forecasted::Refused(fault) => answer_words::refuse(answer, fault),
+        Forecast::Facts(f) => answer_words::put_numbers(answer, f.pairs, f.bytes),
+        Forecast::Refused(fault) => answer_words::refuse(answer, fault),
     }
 }
 

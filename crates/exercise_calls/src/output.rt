@@ -4,7 +4,7 @@ ghost use lib.ListN.{length};
 use adder::Added;
 use adder::Subtracted;
 use faults::Fault;
-use forecast::Forecasted;
+use forecast_rules::Forecast;
 use forecast_rules::ForecastFacts;
 use midpoint::Element;
 use ring::Degree;
@@ -109,11 +109,11 @@ fn foretold(facts: ForecastFacts) {
 }
 
 // `LABEL pairs P bytes B`, or the fault.
-pub fn forecasted(label: &[u8], answer: Forecasted) {
+pub fn forecasted(label: &[u8], answer: Forecast) {
     word(label);
     match answer {
-        Forecasted::Facts(facts) => foretold(facts),
-        Forecasted::Refused(fault) => refused(fault),
+        Forecast::Facts(facts) => foretold(facts),
+        Forecast::Refused(fault) => refused(fault),
     }
     word(b"\n");
 }

@@ -2,9 +2,9 @@
 use Rattle.faults.specs.Outcome.{Outcome, facts}
 use Rattle.faults.specs.Stated.{refusedBy}
 use Rattle.forecast_rules.specs.declared.ForecastFacts.{ForecastFacts}
-use Rattle.forecast.specs.declared.Forecasted.{Forecasted}
-use Rattle.forecast.specs.declared.Forecasted.the-variants.{Facts, Refused}
+use Rattle.forecast_rules.specs.declared.Forecast.{Forecast}
+use Rattle.forecast_rules.specs.declared.Forecast.the-variants.{Facts, Refused}
 
-abbrev pub forecastAs : Forecasted → Outcome ForecastFacts
+abbrev pub forecastAs : Forecast → Outcome ForecastFacts
 forecastAs (Facts f) = facts f
 forecastAs (Refused fault) = refusedBy fault

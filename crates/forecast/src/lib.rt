@@ -8,13 +8,9 @@ ghost use Rattle.reader_rules.specs.Check.{tableCheck};
 ghost use Rattle.forecast_rules.specs.Forecast.{forecastOutcome};
 ghost use Rattle.forecast.specs.Answer.{forecastAs};
 use faults::Fault;
+use forecast_rules::Forecast;
 use forecast_rules::ForecastFacts;
 use reader_rules::Reading;
-
-pub enum Forecasted {
-    Facts(ForecastFacts),
-    Refused(Fault),
-}
 
 // The number of fitting leaf pairs of a table that passes 1 to 13.
 fn fitting_pairs(table: &[u8]) -> usize
@@ -37,26 +33,26 @@ fn facts_of(pairs: usize, digits: usize, depth: usize) -> ForecastFacts
 }
 
 // The forecast of a table and a number of digits, or the first fault: the author's of the table, or the rows' where the digits are over 256.
-pub fn forecast(table: &[u8], digits: usize) -> Forecasted
+pub fn forecast(table: &[u8], digits: usize) -> Forecast
     ensures { λ r. ⌜ forecastAs r ≡ forecastOutcome (now (table .entry)) digits ⌝ }
 {
     let answer = reader::read(table);
     let Reading::Facts(facts) = answer else {
         // the table's fault is passed on
         let Reading::Refused(fault) = answer else {
-            return Forecasted::Refused(Fault::Author {
+            return Forecast::Refused(Fault::Author {
                 number: 0,
                 place: 0,
             });
         };
-        return Forecasted::Refused(fault);
+        return Forecast::Refused(fault);
     };
     let found = rows::digits_check(digits);
     if found.number != 0 {
-        return Forecasted::Refused(Fault::Rows {
+        return Forecast::Refused(Fault::Rows {
             number: found.number,
             place: found.place,
         });
     }
-    Forecasted::Facts(facts_of(fitting_pairs(table), digits, facts.depth))
+    Forecast::Facts(facts_of(fitting_pairs(table), digits, facts.depth))
 }

@@ -1,10 +1,9 @@
 -- The number of fitting pairs: it is the length of a list that has each of them once; by runs of lower leaves; and its bounds.
-use mathlib.Core.Path.{_≡_, refl, sym, subst, _∙_}
-use mathlib.Core.Bool.{Bool, true, false}
+use mathlib.Core.Path.{_≡_, _∙_}
+use mathlib.Core.Bool.{true, false}
 use Prim.Native.Nat.{ℕ, zero, suc, _+_, _-_, _*_, _<_, _≤_}
 use native.Mathlib.Omega.{arith}
 use native.Mathlib.Nat.{le-antisymm, le-trans, sub-zero, mul-le-mul}
-use native.Mathlib.Decide.{decLt}
 use Rattle.lists.specs.Count.{total, count}
 use Rattle.lists.proofs.Count.{total-next, total-most, total-least, count-run, count-most, count-some, pairs-once}
 use Rattle.lists.proofs.Once.{once-same}

@@ -5,7 +5,7 @@ ghost use lib.ListN.{length};
 use adder::Added;
 use adder::Subtracted;
 use faults::Fault;
-use forecast::Forecasted;
+use forecast_rules::Forecast;
 use look_up::Found;
 use midpoint::Element;
 use ring::Degree;
@@ -167,10 +167,10 @@ pub fn looked_up(found: Found) -> bool {
 }
 
 // `pairs P bytes B`, or the fault.
-pub fn forecasted(answer: Forecasted) -> bool {
+pub fn forecasted(answer: Forecast) -> bool {
     match answer {
-        Forecasted::Facts(facts) => counts_line(b"pairs ", facts.pairs, b" bytes ", facts.bytes),
-        Forecasted::Refused(fault) => fault_line(fault),
+        Forecast::Facts(facts) => counts_line(b"pairs ", facts.pairs, b" bytes ", facts.bytes),
+        Forecast::Refused(fault) => fault_line(fault),
     }
 }
 

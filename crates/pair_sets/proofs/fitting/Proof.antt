@@ -8,7 +8,7 @@ use Rattle.weight_sets.specs.Weights.{Covers}
 use mathlib.Core.Path.{refl, sym, ap, subst, _∙_}
 use Prim.Native.Nat.{ℕ, _-_, _*_, _%_, _^_, pred}
 use native.Mathlib.Omega.{arith}
-use lib.ListN.{length, getD, set}
+use lib.ListN.{length, getD}
 use borrow.Author.Needs.{needs}
 use Rattle.pair_sets.proofs.fitting.Statement.{statement}
 use Rattle.pair_sets.proofs.fitting.Tie as tie

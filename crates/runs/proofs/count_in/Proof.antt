@@ -1,8 +1,6 @@
 -- The pairs of the upper leaves passed are counted.
 use Rattle.runs.proofs.Keys.{ready-words}
-use Rattle.runs.specs.Words.{WordsOrdered, LeavesPass}
 use Rattle.prefix_rules.proofs.Formed.{formed}
-use Rattle.prefix_rules.specs.Formed.{LeavesFormed}
 use Rattle.leaf_rules.specs.Leaf.{leafCount, codeOf}
 use Rattle.numeration.proofs.PairCount.{pairs-next, pairs-within}
 use Rattle.lists.specs.Count.{total}
@@ -11,7 +9,7 @@ use Rattle.layout_rules.specs.Section.{ofDegree}
 use borrow.Author.Needs.{needs}
 use native.Mathlib.Omega.{arith}
 use Prim.Native.Nat.{_-_, _<_, _≤_}
-use mathlib.Core.Path.{_≡_, refl, sym, ap, _∙_}
+use mathlib.Core.Path.{_≡_, refl, ap, _∙_}
 use Rattle.runs.proofs.count_in.Statement.{statement}
 use Rattle.runs.proofs.count_in.Tie as tie
 

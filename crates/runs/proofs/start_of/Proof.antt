@@ -1,6 +1,5 @@
 -- The place before the first one above the tail.
 use Rattle.runs.proofs.Places.{last-low}
-use native.Mathlib.Omega.{arith}
 use borrow.Author.Needs.{needs}
 use Rattle.runs.proofs.start_of.Statement.{statement}
 use Rattle.runs.proofs.start_of.Tie as tie
