@@ -2,7 +2,7 @@
 
 use reference::by_table;
 use reference::table::{self, Reading};
-use reference::{Answer, EditFacts, Group, Operation, RowFacts};
+use reference::{Answer, EditFacts, ForecastFacts, Group, Operation, RowFacts};
 
 use crate::interface::{Call, Calls, Lent, ANSWER_WORDS, FACTS, FAULT, TOO_SHORT};
 
@@ -41,7 +41,8 @@ fn write_carried(table: &[u8], out: &mut [u8]) -> u64 {
     }
 }
 
-/// The reference's answer to a call that is lent a table, its facts in document 01's order and the reach of job 7 behind them.
+/// The reference's answer to a call that is lent a table, its facts in document 01's order, the reach of job 7 or the pairs of job 13 behind
+/// them.
 fn answer(reading: &Reading, call: &Call, lent: &mut Lent) -> Answer<Vec<i64>> {
     let asked = lent.asked();
     let Lent {
@@ -64,8 +65,14 @@ fn answer(reading: &Reading, call: &Call, lent: &mut Lent) -> Answer<Vec<i64>> {
     };
     match *call {
         Call::Check => facts(by_table::check(reading), |f| {
-            vec![f.depth as i64, f.leaves as i64, f.digits as i64]
+            [f.depth, f.leaves, f.digits, f.pairs]
+                .map(|fact| fact as i64)
+                .into()
         }),
+        Call::Forecast { digits } => {
+            let words = |ForecastFacts { pairs, bytes }| vec![pairs as i64, bytes as i64];
+            facts(by_table::forecast(reading, digits), words)
+        }
         Call::Add => combine(Operation::Sum),
         Call::Subtract => combine(Operation::Difference),
         Call::Edit { row, place, digit } => {
