@@ -125,11 +125,7 @@ impl Tally {
             place: random.below(length + 1) as u64,
             digit: random.below(digits + 1) as u64,
         };
-        let digits = match random.below(3) {
-            0 => random.next() >> random.below(64),
-            _ => random.below(258) as u64,
-        };
-        for call in [Call::Subtract, Call::Forecast { digits }] {
+        for call in [Call::Subtract, forecast(random)] {
             self.compare(call, &mut lent.clone())?;
         }
         for call in [Call::Check, Call::Add, edit, edit, Call::Value] {
@@ -164,6 +160,15 @@ impl Tally {
         }
         Ok(returned)
     }
+}
+
+/// A forecast for rows that may be too long.
+fn forecast(random: &mut Random) -> Call {
+    let digits = match random.below(3) {
+        0 => random.next() >> random.below(64),
+        _ => random.below(258) as u64,
+    };
+    Call::Forecast { digits }
 }
 
 /// A table's file with one or two rules broken, sometimes with a byte changed.

@@ -57,9 +57,15 @@ pub enum Slip {
 
 /// The mistakes of this file.
 pub fn mistakes() -> Vec<Mistake> {
+    let of_call = |counted| ["check", "forecast"].map(|name| Mistake::Pairs(name, counted));
+    let mut all: Vec<Mistake> = counted().into_iter().flat_map(of_call).collect();
+    all.extend(slips().map(Mistake::Forecast));
+    all
+}
+
+fn counted() -> [Counted; 15] {
     use Counted::*;
-    use Slip::*;
-    let counted = [
+    [
         Nothing,
         Apart,
         Unordered,
@@ -75,8 +81,12 @@ pub fn mistakes() -> Vec<Mistake> {
         WordsThatGoOn,
         Cut,
         InOtherWord,
-    ];
-    let slips = [
+    ]
+}
+
+fn slips() -> [Slip; 14] {
+    use Slip::*;
+    [
         Most(255),
         Most(257),
         DigitsCut(8),
@@ -91,11 +101,7 @@ pub fn mistakes() -> Vec<Mistake> {
         Place,
         DigitsFirst,
         JudgesPairs,
-    ];
-    let of_call = |counted| ["check", "forecast"].map(|name| Mistake::Pairs(name, counted));
-    let mut all: Vec<Mistake> = counted.into_iter().flat_map(of_call).collect();
-    all.extend(slips.map(Mistake::Forecast));
-    all
+    ]
 }
 
 /// The check or the forecast gives facts; the word of the pairs gets another number.
