@@ -1,5 +1,5 @@
 #!/usr/bin/env python3
-"""Checks a table, adds two rows by it and edits a digit of the second; digits as elements, lowest place first:
+"""Checks a table, forecasts what a sum will need, adds two rows and edits a digit of the second; digits as elements, lowest place first:
 
     python3 examples/add_rows.py mine.table
 """
@@ -24,7 +24,8 @@ def show(table, first, second, sum):
 
 def add_and_edit(table):
     facts = yoyomyrtle.check(table)
-    print('depth %d, leaves %d, digits %d' % facts)
+    print('depth %d, leaves %d, digits %d, pairs %d' % facts)
+    print('the sum will have %d digits' % yoyomyrtle.forecast(table, PLACES).bytes)
     first = [(place + 1) % facts.digits for place in range(PLACES)]
     second = [(2 * place + 1) % facts.digits for place in range(PLACES)]
     added = yoyomyrtle.add(table, first, second)

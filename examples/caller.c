@@ -1,5 +1,5 @@
-/* Loads a table (the file named, else the carried TERN), adds two rows, tells their values and the midpoint of these, edits a digit, runs a
- * list of edits, subtracts and prints the rows.
+/* Loads a table (the file named, else the carried TERN), forecasts what a sum will need, adds two rows, tells their values and the midpoint of
+ * these, edits a digit, runs a list of edits, subtracts and prints the rows.
  *
  *     cc -std=c99 -I include examples/caller.c target/staticlib/libadder_c.a -o caller && ./caller tables/bin.table */
 #include <stdio.h>
@@ -71,16 +71,22 @@ int main(int argc, char **argv) {
     if (yoyomyrtle_check(table, length, answer, YOYOMYRTLE_ANSWER_WORDS) != YOYOMYRTLE_FACTS) {
         return refused();
     }
-    size_t depth = (size_t)answer[1];
     uint64_t alphabet = (uint64_t)answer[3];
-    printf("depth %d, leaves %d, digits %d\n", (int)answer[1], (int)answer[2], (int)answer[3]);
+    printf("depth %d, leaves %d, digits %d, pairs %d\n", (int)answer[1], (int)answer[2], (int)answer[3], (int)answer[4]);
+
+    /* The forecast tells how many bytes to lend for the sum or the difference of rows of so many digits. */
+    if (yoyomyrtle_forecast(table, length, DIGITS, answer, YOYOMYRTLE_ANSWER_WORDS) != YOYOMYRTLE_FACTS) {
+        return refused();
+    }
+    size_t places = (size_t)answer[2];
+    printf("forecast for %d digits: pairs %d, bytes %d\n", DIGITS, (int)answer[1], (int)answer[2]);
 
     uint8_t first[DIGITS], second[DIGITS], sum[DIGITS + DEEPEST];
     for (size_t place = 0; place < DIGITS; place++) {
         first[place] = (uint8_t)((place + 1) % alphabet);
         second[place] = (uint8_t)((2 * place + 1) % alphabet);
     }
-    if (yoyomyrtle_add(table, length, first, DIGITS, second, DIGITS, sum, DIGITS + depth, answer,
+    if (yoyomyrtle_add(table, length, first, DIGITS, second, DIGITS, sum, places, answer,
                        YOYOMYRTLE_ANSWER_WORDS) != YOYOMYRTLE_FACTS) {
         return refused();
     }
@@ -88,31 +94,31 @@ int main(int argc, char **argv) {
     printf("added: %d sum digits, reach %d\n", (int)answer[1], (int)answer[2]);
     print_row("first", first, DIGITS);
     print_row("second", second, DIGITS);
-    print_row("sum", sum, DIGITS + depth);
+    print_row("sum", sum, places);
 
     /* The base section's length is four times the degree of the ring. The midpoint has four parts of each element, whatever the degree. */
     size_t degree = (table[2] + 256u * table[3]) / 4;
     int32_t x[PARTS] = {0}, y[PARTS] = {0}, z[PARTS];
     if (value_of("value of the first", length, first, DIGITS, degree, x) && value_of("value of the second", length, second, DIGITS, degree, y) &&
-        value_of("value of the sum", length, sum, DIGITS + depth, degree, z)) {
+        value_of("value of the sum", length, sum, places, degree, z)) {
         yoyomyrtle_midpoint(x[0], x[1], x[2], x[3], y[0], y[1], y[2], y[3], answer, YOYOMYRTLE_ANSWER_WORDS);
         print_parts("midpoint of the rows", degree);
     }
 
     /* Place 2 of the second row (row number 1) gets the next digit of the alphabet. */
     uint64_t digit = (second[2] + 1u) % alphabet;
-    if (yoyomyrtle_edit(table, length, first, DIGITS, second, DIGITS, sum, DIGITS + depth, 1, 2, digit, answer,
+    if (yoyomyrtle_edit(table, length, first, DIGITS, second, DIGITS, sum, places, 1, 2, digit, answer,
                         YOYOMYRTLE_ANSWER_WORDS) != YOYOMYRTLE_FACTS) {
         return refused();
     }
     printf("edited: %d sum digits changed, reach %d\n", (int)answer[1], (int)answer[2]);
     print_row("second", second, DIGITS);
-    print_row("sum", sum, DIGITS + depth);
+    print_row("sum", sum, places);
 
     /* Both rows get a zero at place 0; between the two stands an edit of a place that there isn't. */
-    const size_t rows[EDITS] = {0, 0, 1}, places[EDITS] = {0, DIGITS, 0}, digits[EDITS] = {0, 0, 0};
+    const size_t rows[EDITS] = {0, 0, 1}, edited[EDITS] = {0, DIGITS, 0}, digits[EDITS] = {0, 0, 0};
     size_t whose[EDITS], numbers[EDITS], values[EDITS];
-    if (yoyomyrtle_run(table, length, first, DIGITS, second, DIGITS, sum, DIGITS + depth, rows, EDITS, places, EDITS, digits, EDITS,
+    if (yoyomyrtle_run(table, length, first, DIGITS, second, DIGITS, sum, places, rows, EDITS, edited, EDITS, digits, EDITS,
                        whose, EDITS, numbers, EDITS, values, EDITS, answer, YOYOMYRTLE_ANSWER_WORDS) != YOYOMYRTLE_FACTS) {
         return refused();
     }
@@ -123,15 +129,15 @@ int main(int argc, char **argv) {
             printf("edit %d: refused %s %d place %d\n", (int)edit, groups[whose[edit]], (int)numbers[edit], (int)values[edit]);
         }
     }
-    print_row("sum", sum, DIGITS + depth);
+    print_row("sum", sum, places);
 
     /* The rows as the edits left them; a table may add and yet not subtract. */
     uint8_t difference[DIGITS + DEEPEST];
-    if (yoyomyrtle_subtract(table, length, first, DIGITS, second, DIGITS, difference, DIGITS + depth, answer,
+    if (yoyomyrtle_subtract(table, length, first, DIGITS, second, DIGITS, difference, places, answer,
                             YOYOMYRTLE_ANSWER_WORDS) != YOYOMYRTLE_FACTS) {
         return refused();
     }
     printf("subtracted: %d digits, reach %d\n", (int)answer[1], (int)answer[2]);
-    print_row("difference", difference, DIGITS + depth);
+    print_row("difference", difference, places);
     return 0;
 }

@@ -1,5 +1,5 @@
-//! Loads a table (the file named, else the carried TERN), adds two rows, tells their values and the midpoint of these, edits a
-//! digit, runs a list of edits, subtracts and prints the rows.
+//! Loads a table (the file named, else the carried TERN), forecasts what a sum will need, adds two rows, tells their values and the
+//! midpoint of these, edits a digit, runs a list of edits, subtracts and prints the rows.
 //!
 //!     rustc --edition 2021 -L target/staticlib -l static=adder_c examples/caller.rs -o caller && ./caller tables/bin.table
 
@@ -8,6 +8,7 @@ use std::{env, fs, process::ExitCode};
 #[rustfmt::skip]
 extern "C" {
     fn yoyomyrtle_check(file: *const u8, file_len: usize, answer: *mut i64, answer_len: usize) -> u64;
+    fn yoyomyrtle_forecast(table: *const u8, table_len: usize, digits: u64, answer: *mut i64, answer_len: usize) -> u64;
     fn yoyomyrtle_add(
         table: *const u8, table_len: usize, first: *const u8, first_len: usize, second: *const u8, second_len: usize,
         sum: *mut u8, sum_len: usize, answer: *mut i64, answer_len: usize,
@@ -39,6 +40,14 @@ type Answer = [i64; 8];
 fn check(table: &[u8]) -> Result<Answer, Answer> {
     let mut words = [0; 8];
     let returned = unsafe { yoyomyrtle_check(table.as_ptr(), table.len(), words.as_mut_ptr(), 8) };
+    facts(returned, words)
+}
+
+fn forecast(table: &[u8], digits: u64) -> Result<Answer, Answer> {
+    let mut words = [0; 8];
+    let returned = unsafe {
+        yoyomyrtle_forecast(table.as_ptr(), table.len(), digits, words.as_mut_ptr(), 8)
+    };
     facts(returned, words)
 }
 
@@ -172,13 +181,16 @@ fn print_values(table: &[u8], rows: [(&str, &[u8]); 3]) -> Result<(), Answer> {
 }
 
 fn run(table: &[u8]) -> Result<(), Answer> {
-    let [_, depth, leaves, digits, ..] = check(table)?;
-    println!("depth {depth}, leaves {leaves}, digits {digits}");
+    let [_, depth, leaves, digits, pairs, ..] = check(table)?;
+    println!("depth {depth}, leaves {leaves}, digits {digits}, pairs {pairs}");
+    // The forecast tells how many bytes to lend for the sum or the difference of rows of so many digits.
+    let [_, pairs, bytes, ..] = forecast(table, 6)?;
+    println!("forecast for 6 digits: pairs {pairs}, bytes {bytes}");
     let first_digit = |place: u8| (place + 1) % digits as u8;
     let second_digit = |place: u8| (2 * place + 1) % digits as u8;
     let mut first: Vec<u8> = (0..6).map(first_digit).collect();
     let mut second: Vec<u8> = (0..6).map(second_digit).collect();
-    let mut sum = vec![0; 6 + depth as usize];
+    let mut sum = vec![0; bytes as usize];
     let [_, places, reach, ..] = add(table, &first, &second, &mut sum)?;
     // The reach: digits further below a place than this had no part in the sum digit there.
     println!("added: {places} sum digits, reach {reach}");
@@ -211,7 +223,7 @@ fn run(table: &[u8]) -> Result<(), Answer> {
     }
     print_row("sum", &sum);
     // The rows as the edits left them; a table may add and yet not subtract.
-    let mut difference = vec![0; 6 + depth as usize];
+    let mut difference = vec![0; bytes as usize];
     let [_, places, reach, ..] = subtract(table, &first, &second, &mut difference)?;
     println!("subtracted: {places} digits, reach {reach}");
     print_row("difference", &difference);

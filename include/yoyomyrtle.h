@@ -44,9 +44,18 @@ extern "C" {
 #define YOYOMYRTLE_FAULT 1
 #define YOYOMYRTLE_TOO_SHORT 2
 
-/* Checks a table file. Facts: depth h, number of leaves, number of alphabet digits. */
+/* Checks a table file. Facts: depth h in word 1, the number of leaves in word 2, of alphabet digits in word 3, of fitting pairs in word 4.
+ * A pair is an upper and a lower leaf, which may be the same one; it fits where the upper leaf's word without its first digit and the lower
+ * leaf's word agree as far as both reach. */
 uint64_t yoyomyrtle_check(const uint8_t *file, size_t file_len,
                           int64_t *answer, size_t answer_len);
+
+/* Tells what a table and rows of so many digits will take, without judging a pair or adding. Facts: the number of fitting pairs in word 1, which
+ * is the one that a check of an accepted table tells, and in word 2 the bytes that the sum of two such rows needs, digits + h. Over 256 digits it
+ * refuses with 20. A table that only 14 is against has a forecast too. */
+uint64_t yoyomyrtle_forecast(const uint8_t *table, size_t table_len,
+                             uint64_t digits,
+                             int64_t *answer, size_t answer_len);
 
 /* Adds two rows of n digits (alphabet indexes, lowest place first) into the first n + h bytes of the sum. Facts: n + h in word 1, the reach in
  * word 2. */

@@ -9,7 +9,7 @@ that is refused raises Refused, which says whose fault it is, its number and pla
 With TERN, 2 2 plus 1 2 is 0 2 1; then place 0 of the first row becomes -2, the digit with index 4:
 
 >>> check(tern())
-Checked(depth=1, leaves=9, digits=5)
+Checked(depth=1, leaves=9, digits=5, pairs=81)
 >>> first, second = row(tern(), [2, 2]), row(tern(), [1, 2])
 >>> added = add(tern(), first, second)
 >>> print(*digits(tern(), added.sum))
@@ -49,8 +49,9 @@ _GROUPS = (None, 'author', 'rows', 'editor')
 # No table is deeper, so that a sum always has room; the answer says how much of it was used.
 _DEEPEST = 8
 
-Checked = namedtuple('Checked', 'depth leaves digits')
-# The reach came later and stands last, so that the other fields keep their numbers.
+# Pairs here and the reach below came later and stand last, so that the other fields keep their numbers.
+Checked = namedtuple('Checked', 'depth leaves digits pairs')
+Forecast = namedtuple('Forecast', 'pairs bytes')
 Added = namedtuple('Added', 'places sum reach')
 Subtracted = namedtuple('Subtracted', 'places difference reach')
 Edited = namedtuple('Edited', 'changed first second sum reach')
@@ -220,10 +221,11 @@ def _part(number):
 
 
 def check(table):
-    """Checks a table file by all its rules.
+    """Checks a table file by all its rules. `pairs` is how many pairs of leaves fit: an upper and a lower leaf, which may be the same one, do
+    where the upper word without its first digit and the lower word agree as far as both reach.
 
     >>> check(bin())
-    Checked(depth=2, leaves=13, digits=3)
+    Checked(depth=2, leaves=13, digits=3, pairs=65)
 
     TERN with weight 0 at input 2:
 
@@ -234,6 +236,22 @@ def check(table):
     yoyomyrtle.Refused: refused 14 place 2 (author): ...
     """
     return Checked(*_facts('check', _bytes(table)))
+
+
+def forecast(table, digits):
+    """What a table and two rows of so many digits will take, without checking pairs or adding: how many pairs of leaves fit, as `check` tells
+    it of a table that it accepts, and how many places the sum will have, each a byte. Rows have at most 256 digits.
+
+    >>> forecast(bin(), 256)
+    Forecast(pairs=65, bytes=258)
+    >>> len(add(bin(), [1] * 256, [1] * 256).sum)
+    258
+    >>> forecast(bin(), 257)  # doctest: +ELLIPSIS
+    Traceback (most recent call last):
+        ...
+    yoyomyrtle.Refused: refused 20 place 0 (rows): ...
+    """
+    return Forecast(*_facts('forecast', _bytes(table), _size(digits)))
 
 
 def _combined(call, table, first, second):

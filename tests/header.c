@@ -46,7 +46,7 @@ static void told(const char *what, uint64_t returned, uint64_t expected, size_t 
     fresh_answer();
 }
 
-/* Facts: n + h and the reach, the count and the reach, or the first two parts of an element. */
+/* Facts: n + h and the reach, the count and the reach, pairs and bytes, or the first two parts of an element. */
 static void facts(const char *what, uint64_t returned, int64_t first, int64_t second) {
     told(what, returned, YOYOMYRTLE_FACTS, 3, (const int64_t[]){0, first, second});
 }
@@ -73,6 +73,7 @@ static void too_short(const char *what, uint64_t returned) {
 static void nothing_lent(void) {
     uint8_t sum[1];
     fault("check: file", yoyomyrtle_check(NONE, ANSWER), 1, 1);
+    fault("forecast: table", yoyomyrtle_forecast(NONE, 257, ANSWER), 1, 1);
     fault("value: table", yoyomyrtle_value(NONE, NONE, ANSWER), 1, 1);
     facts("value: row", yoyomyrtle_value(tern, sizeof tern, NONE, ANSWER), 0, 0);
     fault("add: table", yoyomyrtle_add(NONE, NONE, NONE, NONE, ANSWER), 1, 1);
@@ -88,6 +89,7 @@ static void nothing_lent(void) {
     fact("run: rows", yoyomyrtle_run(tern, sizeof tern, NONE, NONE, sum, 1, NONE, NONE, NONE, NONE, NONE, NONE, ANSWER), 0);
     fault("run: sum", yoyomyrtle_run(tern, sizeof tern, NONE, NONE, NONE, NONE, NONE, NONE, NONE, NONE, NONE, ANSWER), 2, 23);
     too_short("check: answer", yoyomyrtle_check(tern, sizeof tern, NONE));
+    too_short("forecast: answer", yoyomyrtle_forecast(tern, sizeof tern, 257, NONE));
     too_short("value: answer", yoyomyrtle_value(tern, sizeof tern, NONE, NONE));
     too_short("add: answer", yoyomyrtle_add(tern, sizeof tern, NONE, NONE, sum, 1, NONE));
     too_short("subtract: answer", yoyomyrtle_subtract(tern, sizeof tern, NONE, NONE, sum, 1, NONE));
@@ -185,7 +187,8 @@ static void degrees(void) {
     parts("value: degree two", yoyomyrtle_value(table, YOYOMYRTLE_BIN_BYTES, row, sizeof row, ANSWER), 2, -5, 0, KEPT, KEPT);
     for (size_t degree = 3; degree <= 4; degree++) {
         size_t table_len = raised(table, degree);
-        told("check: degree", yoyomyrtle_check(table, table_len, ANSWER), YOYOMYRTLE_FACTS, 4, (const int64_t[]){0, 2, 13, 3});
+        told("check: degree", yoyomyrtle_check(table, table_len, ANSWER), YOYOMYRTLE_FACTS, 5, (const int64_t[]){0, 2, 13, 3, 65});
+        facts("forecast: degree", yoyomyrtle_forecast(table, table_len, sizeof row, ANSWER), 65, sizeof sum);
         facts("add: degree", yoyomyrtle_add(table, table_len, row, sizeof row, row, sizeof row, sum, sizeof sum, ANSWER), sizeof sum, 1);
         int64_t third = degree == 3 ? -5 : 0;
         parts("value: degree", yoyomyrtle_value(table, table_len, row, sizeof row, ANSWER), degree, -5, 0, third, -5);
@@ -193,6 +196,23 @@ static void degrees(void) {
     }
     parts("midpoint: four parts", yoyomyrtle_midpoint(1, -1, 3, INT32_MAX, 2, 0, -4, INT32_MAX, ANSWER), 4, 2, 0, 0, INT32_MAX);
     parts("midpoint: two parts", yoyomyrtle_midpoint(-3, 5, 0, 0, 0, 2, 0, 0, ANSWER), 4, -2, 4, 0, 0);
+}
+
+/* Four facts of the check, two of the forecast. The latter counts pairs and judges none: with weight 0 at TERN's leaf 2, which has its record
+ * behind the directory, the base, 5 alphabet and 9 input digits and two leaves, the check says 14 and the forecast what it said before. */
+static void forecast(void) {
+    const uint64_t over[] = {257, 65536, (uint64_t)1 << 32, UINT64_MAX};
+    told("check: four facts", yoyomyrtle_check(tern, sizeof tern, ANSWER), YOYOMYRTLE_FACTS, 5, (const int64_t[]){0, 1, 9, 5, 81});
+    facts("forecast: no digits", yoyomyrtle_forecast(tern, sizeof tern, 0, ANSWER), 81, 1);
+    facts("forecast: the most digits", yoyomyrtle_forecast(tern, sizeof tern, 256, ANSWER), 81, 257);
+    for (size_t k = 0; k < sizeof over / sizeof *over; k++) {
+        fault("forecast: too many digits", yoyomyrtle_forecast(tern, sizeof tern, over[k], ANSWER), 2, 20);
+    }
+    uint8_t refused[sizeof tern];
+    memcpy(refused, tern, sizeof tern);
+    refused[20 + 8 + 5 * 4 + 9 * 4 + 2 * 8 + 4] = 0;
+    told("check: 14", yoyomyrtle_check(refused, sizeof refused, ANSWER), YOYOMYRTLE_FAULT, 3, (const int64_t[]){1, 14, 2});
+    facts("forecast: no pair is judged", yoyomyrtle_forecast(refused, sizeof refused, 256, ANSWER), 81, 257);
 }
 
 /* What the calls below are given: buffers of one vector, those that it lacks being empty, and an edit. */
@@ -205,6 +225,7 @@ static size_t answers[3][EDITS];
 
 static void no_call(void) {}
 static void check_call(void) { yoyomyrtle_check(LENT(TABLE), ANSWER); }
+static void forecast_call(void) { yoyomyrtle_forecast(LENT(TABLE), 256, ANSWER); }
 static void add_call(void) { yoyomyrtle_add(LENT(TABLE), LENT(FIRST), LENT(SECOND), LENT(SUM), ANSWER); }
 static void subtract_call(void) { yoyomyrtle_subtract(LENT(TABLE), LENT(FIRST), LENT(SECOND), LENT(SUM), ANSWER); }
 static void edit_call(void) { yoyomyrtle_edit(LENT(TABLE), LENT(FIRST), LENT(SECOND), LENT(SUM), 1, 0, 1, ANSWER); }
@@ -223,9 +244,10 @@ static struct {
     void (*call)(void);
     size_t promised, most;
 } calls[] = {
-    {"check", check_call, 73500, 0},     {"add", add_call, 4300, 0},   {"subtract", subtract_call, 4300, 0},
-    {"edit", edit_call, 4300, 0},        {"run", run_call, 73500, 0},  {"value", value_call, 2600, 0},
-    {"midpoint", midpoint_call, 100, 0}, {"tern", tern_call, 100, 0},  {"bin", bin_call, 100, 0},
+    {"check", check_call, 73500, 0},       {"forecast", forecast_call, 2600, 0}, {"add", add_call, 4300, 0},
+    {"subtract", subtract_call, 4300, 0},  {"edit", edit_call, 4300, 0},         {"run", run_call, 73500, 0},
+    {"value", value_call, 2600, 0},        {"midpoint", midpoint_call, 100, 0},  {"tern", tern_call, 100, 0},
+    {"bin", bin_call, 100, 0},
 };
 
 enum { CALLS = sizeof calls / sizeof *calls, STACK = 256 * 1024, PAINT = 0xa5 };
@@ -257,7 +279,8 @@ static void read_bytes(uint8_t *to, size_t count) {
 
 /* Takes the next vector's buffers; 0 where there is none. */
 static int next_vector(void) {
-    static const size_t buffers[] = {[1] = 1, [2] = 4, [3] = 4, [4] = 2, [8] = 4, [19] = 1}, more[] = {[3] = 24, [5] = 1, [19] = 8};
+    static const size_t buffers[] = {[1] = 1, [2] = 4, [3] = 4, [4] = 2, [8] = 4, [17] = 1, [19] = 1};
+    static const size_t more[] = {[3] = 24, [5] = 1, [17] = 8, [19] = 8};
     int call = getchar();
     uint8_t bytes[2 * 4 * 255];
     if (call == EOF) {
@@ -301,6 +324,7 @@ int main(void) {
     lent_twice();
     reached();
     degrees();
+    forecast();
     stack_taken();
     printf("%d things not as promised\n", wrong);
     return wrong > 0;

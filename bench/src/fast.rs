@@ -6,6 +6,7 @@
 //! - A word is a left-aligned big-endian number, so that order, "begins" and the window's search are comparisons of numbers.
 //! - Rule 12 adds up how many strings each word begins; the sums of two digits, or their differences, are indexed once a call.
 //! - Rule 14 walks upper and lower leaves side by side, in runs of neighbours or by sets of weights.
+//! - The fitting pairs are counted without going through them: they are leaves times inputs, and some tails more.
 #![forbid(unsafe_code)]
 
 mod alphabet;
@@ -80,14 +81,24 @@ pub fn check(file: &[u8], pairs: Pairs) -> Result<TableFacts, Fault> {
 
 fn check_at<D: Degree>(file: &[u8], pairs: Pairs) -> Result<TableFacts, Fault> {
     let table = read::<D, true>(file)?;
-    match pairs::first_bad_upper(&table, pairs) {
-        Some(upper) => Err(author(14, upper)),
-        None => Ok(TableFacts {
-            depth: table.code.depth,
-            leaves: table.code.count(),
-            digits: table.alphabet.count,
-        }),
-    }
+    let pairs = pairs::judge(&table, pairs).map_err(|upper| author(14, upper))?;
+    Ok(TableFacts {
+        depth: table.code.depth,
+        leaves: table.code.count(),
+        digits: table.alphabet.count,
+        pairs,
+    })
+}
+
+/// The forecast: the fitting pairs, and the bytes of a sum.
+pub fn forecast(file: &[u8], digits: u64) -> Result<[usize; 2], Fault> {
+    by_degree!(file, forecast_at(digits))
+}
+
+fn forecast_at<D: Degree>(file: &[u8], digits: u64) -> Result<[usize; 2], Fault> {
+    let table = read::<D, true>(file)?;
+    let digits = rows::check_length(digits)?;
+    Ok([pairs::count(&table), digits + table.code.depth])
 }
 
 /// Addition: the bytes written, and the reach.

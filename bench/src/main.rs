@@ -1,12 +1,15 @@
-//! Times the static library against a fast form of the reference and prints the results as Markdown: `bench [--two] [--agree | --quick]`.
-//! `bench --repeat TABLE CALL library|fast` makes one call again and again for some seconds, for a profiler.
+//! Times the static library against a fast form of the reference and prints the results as Markdown: `bench [--agree | --quick]`.
+//! `bench --repeat TABLE CALL library|fast` makes one call again and again for some seconds, for a profiler. Built with the feature `before`,
+//! `bench --before [--quick]` times the library against an earlier build of it instead, in the same process.
 //!
 //! Before anything is timed, library and fast form are compared with the reference, on the tables to be timed and on damaged ones;
-//! `--agree` does only that. `--quick` takes fewer batches. `--two` is for a library from before job 8: it leaves out the tables of degree
-//! three and four, and compares the timed calls alone, since such a library says 3 of files that are now judged further.
+//! `--agree` does only that. `--quick` takes fewer batches.
 #![deny(unsafe_code)]
 
 mod agree;
+#[cfg(feature = "before")]
+#[allow(unsafe_code)]
+mod before;
 #[path = "../../differential/src/calls.rs"]
 #[allow(unsafe_code)]
 mod calls;
@@ -55,25 +58,22 @@ use timing::Effort;
 
 fn main() -> ExitCode {
     let arguments: Vec<String> = env::args().skip(1).collect();
-    let mut words: Vec<&str> = arguments.iter().map(String::as_str).collect();
-    let two = words.first() == Some(&"--two");
-    if two {
-        words.remove(0);
-    }
-    let most = if two { 2 } else { 4 };
+    let words: Vec<&str> = arguments.iter().map(String::as_str).collect();
     let effort = match words[..] {
         [] => Some(Effort::FULL),
         ["--quick"] => Some(Effort::QUICK),
         ["--agree"] => None,
-        ["--repeat", table, call, subject] => return report::repeat(table, call, subject, most),
+        ["--repeat", table, call, subject] => return report::repeat(table, call, subject),
+        ["--before"] => return report::against_before(Effort::FULL),
+        ["--before", "--quick"] => return report::against_before(Effort::QUICK),
         _ => {
             eprintln!(
-                "usage: bench [--two] [--agree | --quick | --repeat TABLE CALL library|fast]"
+                "usage: bench [--agree | [--before] [--quick] | --repeat TABLE CALL library|fast]"
             );
             return ExitCode::from(2);
         }
     };
-    match agree::compare_all(most) {
+    match agree::compare_all() {
         Ok(tally) => println!(
             "Library, fast form and reference gave the same answers and buffers in {} calls; refusals among them: {:?}.\n",
             tally.calls, tally.refusals
@@ -84,7 +84,7 @@ fn main() -> ExitCode {
         }
     }
     if let Some(effort) = effort {
-        report::print(effort, most);
+        report::print(effort);
     }
     ExitCode::SUCCESS
 }

@@ -2,6 +2,8 @@
 
 use std::process::ExitCode;
 
+#[cfg(feature = "before")]
+use crate::before::Before;
 use crate::calls::Library;
 use crate::fast::Pairs;
 use crate::interface::{Call, Calls, Lent};
@@ -30,6 +32,13 @@ fn jobs(sample: &Sample, length: usize) -> Vec<Job> {
     let rows = || lend::rows(parts, accepted, length);
     let mut jobs = vec![
         job("check", vec![Call::Check], rows()),
+        job(
+            "forecast",
+            vec![Call::Forecast {
+                digits: length as u64,
+            }],
+            rows(),
+        ),
         job("add", vec![Call::Add], rows()),
     ];
     if lend::subtracts(&rows()) {
@@ -64,11 +73,11 @@ impl Sheet {
     }
 }
 
-/// Measures everything on tables up to some degree and prints it.
-pub fn print(effort: Effort, most: usize) {
+/// Measures everything and prints it.
+pub fn print(effort: Effort) {
     println!("Nanoseconds a call, the quickest of many batches that took turns. Caches are warm; buffers were not cleared between");
     println!("calls, so a sum is written over the sum before it. The tables:\n");
-    let samples = tables::samples(most);
+    let samples = tables::samples();
     for sample in &samples {
         println!("- {}", sample.name);
     }
@@ -76,6 +85,11 @@ pub fn print(effort: Effort, most: usize) {
     sheets.extend(tables::growing(LEAVES).map(|(family, samples)| leaf_growth(family, &samples)));
     let accepted = samples.iter().filter(|sample| sample.accepted);
     sheets.extend(accepted.map(digit_growth));
+    measure(effort, sheets);
+}
+
+/// Runs the races of all sheets in rounds and prints the sheets.
+fn measure(effort: Effort, mut sheets: Vec<Sheet>) {
     for _ in 0..effort.rounds {
         let lines = sheets.iter_mut().flat_map(|sheet| &mut sheet.lines);
         lines
@@ -83,6 +97,53 @@ pub fn print(effort: Effort, most: usize) {
             .for_each(|race| race.run(effort.batches));
     }
     sheets.iter().for_each(Sheet::print);
+}
+
+/// Measures the library against an earlier build of it and prints that.
+#[cfg(feature = "before")]
+pub fn against_before(effort: Effort) -> ExitCode {
+    measure(effort, vec![before_and_now(&tables::samples())]);
+    ExitCode::SUCCESS
+}
+
+#[cfg(not(feature = "before"))]
+pub fn against_before(_: Effort) -> ExitCode {
+    eprintln!("built without an earlier library: docs/BENCHMARKS.md says how to build with one");
+    ExitCode::from(2)
+}
+
+/// The calls that the earlier build has and answers alike, on all tables, rows of 256 digits.
+#[cfg(feature = "before")]
+fn before_and_now(samples: &[Sample]) -> Sheet {
+    let mut lines = Vec::new();
+    for sample in samples {
+        for job in jobs(sample, 256).into_iter().filter(answered_before) {
+            let race = Race::new(&[LIBRARY, &Before], job.calls, &job.lent);
+            lines.push((format!("{} | {}", short_name(sample), job.name), vec![race]));
+        }
+    }
+    let columns = ["table", "call", "now", "before", "now / before"];
+    Sheet {
+        title: "Now and before, rows of 256 digits".into(),
+        columns: columns.map(String::from).into(),
+        lines,
+        cell: |figures| {
+            let (now, before) = (figures[0], figures[1]);
+            format!("{now:.0} | {before:.0} | {:.2}", now / before)
+        },
+    }
+}
+
+/// The earlier build has these calls, returns the same and leaves the same in the rows. Its answers may have fewer facts; a build from
+/// before job 8 refuses tables of degree three and four.
+#[cfg(feature = "before")]
+fn answered_before(job: &Job) -> bool {
+    let (mut now, mut before) = (job.lent.clone(), job.lent.clone());
+    job.calls.iter().all(|call| {
+        let same =
+            Before::has(call) && LIBRARY.call(call, &mut now) == Before.call(call, &mut before);
+        same && now.first == before.first && now.second == before.second && now.sum == before.sum
+    })
 }
 
 /// A sample's name without its figures.
@@ -168,12 +229,12 @@ fn growth(title: String, cases: Vec<(String, Vec<Job>)>) -> Sheet {
 }
 
 /// Makes one call again and again.
-pub fn repeat(table: &str, call: &str, subject: &str, most: usize) -> ExitCode {
+pub fn repeat(table: &str, call: &str, subject: &str) -> ExitCode {
     let subject = match subject {
         "library" => LIBRARY,
         _ => FAST,
     };
-    let samples = tables::samples(most);
+    let samples = tables::samples();
     let sample = samples.iter().find(|sample| short_name(sample) == table);
     let jobs = sample.map(|sample| jobs(sample, 256)).into_iter().flatten();
     let Some(job) = jobs.into_iter().find(|job| job.name == call) else {

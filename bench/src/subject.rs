@@ -23,8 +23,9 @@ impl Calls for Fast {
         } = lent;
         match *call {
             Call::Check => store(answer, fast::check(table, self.0), |facts| {
-                words([facts.depth, facts.leaves, facts.digits])
+                words([facts.depth, facts.leaves, facts.digits, facts.pairs])
             }),
+            Call::Forecast { digits } => store(answer, fast::forecast(table, digits), words),
             Call::Add => store(answer, fast::add(table, first, second, sum), words),
             Call::Subtract => store(answer, fast::subtract(table, first, second, sum), words),
             Call::Edit { row, place, digit } => {

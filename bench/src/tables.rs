@@ -2,7 +2,7 @@
 
 use std::ops::RangeInclusive;
 
-use reference::{Base, Element, Parts};
+use reference::{table, Base, Element, Parts};
 
 use crate::codes;
 use crate::lifts;
@@ -20,10 +20,10 @@ pub struct Sample {
     pub accepted: bool,
 }
 
-/// The tables of the main comparison, up to some degree.
-pub fn samples(most: usize) -> Vec<Sample> {
+/// The tables of the main comparison.
+pub fn samples() -> Vec<Sample> {
     let accepted = |name: &str, parts| sample(name, parts, true);
-    let mut samples = vec![
+    vec![
         accepted("TERN", reference::carried::tern_parts()),
         accepted("middle", middle()),
         accepted("many inputs", many_inputs()),
@@ -31,9 +31,7 @@ pub fn samples(most: usize) -> Vec<Sample> {
         sample("all inputs", all_inputs(), false),
         accepted("degree three", degree_three()),
         accepted("degree four", degree_four()),
-    ];
-    samples.retain(|sample| sample.parts.degree() <= most);
-    samples
+    ]
 }
 
 /// Finer codes of one table, for the growth with the leaves: of few inputs and of many.
@@ -58,8 +56,9 @@ pub fn growing(leaves: [usize; 4]) -> [(&'static str, Vec<Sample>); 2] {
 fn sample(name: &str, parts: Parts, accepted: bool) -> Sample {
     let (leaves, inputs) = (parts.leaves.len(), parts.inputs.len());
     let depth = parts.leaves.iter().map(|leaf| leaf.0.len()).max();
-    let (depth, bytes) = (depth.unwrap_or(0), parts.write().len());
-    let pairs = fitting_pairs(&parts);
+    let file = parts.write();
+    let (depth, bytes) = (depth.unwrap_or(0), file.len());
+    let pairs = table::read(&file).map_or(0, |table| table.fitting_pairs());
     let refused = if accepted { "" } else { "; refused by 14" };
     Sample {
         name: format!(
@@ -69,19 +68,6 @@ fn sample(name: &str, parts: Parts, accepted: bool) -> Sample {
         parts,
         accepted,
     }
-}
-
-/// How many pairs rule 14 speaks of, counted one by one.
-fn fitting_pairs(parts: &Parts) -> usize {
-    let fit = |upper: &[u8], lower: &[u8]| upper[1..].iter().zip(lower).all(|(x, y)| x == y);
-    let lower_of = |upper: &[u8]| {
-        parts
-            .leaves
-            .iter()
-            .filter(|lower| fit(upper, &lower.0))
-            .count()
-    };
-    parts.leaves.iter().map(|upper| lower_of(&upper.0)).sum()
 }
 
 /// About 300 leaves, as the search finds them.

@@ -9,6 +9,13 @@ extern "C" {
         answer: *mut i64,
         answer_len: usize,
     ) -> u64;
+    fn yoyomyrtle_forecast(
+        table: *const u8,
+        table_len: usize,
+        digits: u64,
+        answer: *mut i64,
+        answer_len: usize,
+    ) -> u64;
     fn yoyomyrtle_add(
         table: *const u8,
         table_len: usize,
@@ -111,6 +118,9 @@ impl Calls for Library {
         unsafe {
             match *call {
                 Call::Check => yoyomyrtle_check(table, table_len, answer, words),
+                Call::Forecast { digits } => {
+                    yoyomyrtle_forecast(table, table_len, digits, answer, words)
+                }
                 Call::Add => yoyomyrtle_add(
                     table, table_len, first, first_len, second, second_len, sum, sum_len, answer,
                     words,

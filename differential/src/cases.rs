@@ -1,5 +1,6 @@
 //! The cases: which tables, rows, buffers and numbers are tried.
 
+mod forecasts;
 mod lending;
 mod lists;
 mod values;
@@ -19,7 +20,7 @@ use lists::{ask, edits, random_edit, subtraction};
 
 /// Runs one case.
 pub fn run(pool: &Pool, comparison: &mut Comparison, random: &mut Random) {
-    match random.below(100) {
+    match random.below(103) {
         0..=16 => lists::list_of_edits(pool, comparison, random),
         17..=24 => lists::runs(pool, comparison, random),
         25..=28 => lists::needle(pool, comparison, random),
@@ -33,7 +34,8 @@ pub fn run(pool: &Pool, comparison: &mut Comparison, random: &mut Random) {
         74..=83 => rows_and_editor(pool, comparison, random),
         84..=91 => values::values(pool, comparison, random),
         92..=96 => values::midpoints(comparison, random),
-        _ => short_buffers(pool, comparison, random),
+        97..=99 => short_buffers(pool, comparison, random),
+        _ => forecasts::forecasts(pool, comparison, random),
     }
 }
 
@@ -52,7 +54,7 @@ fn damaged(pool: &Pool, comparison: &mut Comparison, times: usize, random: &mut 
 fn try_table(parts: &Parts, file: Vec<u8>, comparison: &mut Comparison, random: &mut Random) {
     let mut lent = lend(parts, file, random);
     comparison.call(Call::Check, &mut lent);
-    match random.below(7) {
+    match random.below(8) {
         0 => edits(parts, comparison, &mut lent, random),
         1 => {
             let call = random_edit(parts, lent.first.len(), random);
@@ -70,6 +72,7 @@ fn try_table(parts: &Parts, file: Vec<u8>, comparison: &mut Comparison, random: 
             comparison.call(Call::Run, &mut lent);
         }
         5 => subtraction(comparison, &lent),
+        6 => forecasts::forecast(comparison, &lent, random),
         _ => (),
     }
 }
@@ -120,6 +123,7 @@ fn prefix_code(comparison: &mut Comparison, random: &mut Random) {
     if random.one_in(2) {
         comparison.call(Call::Check, &mut lent);
     }
+    forecasts::forecast(comparison, &lent, random);
     edits(&parts, comparison, &mut lent, random);
     comparison.call(Call::Value, &mut lent);
 }
@@ -132,7 +136,7 @@ fn refused_pair(pool: &Pool, comparison: &mut Comparison, random: &mut Random) {
     };
     let parts = from.pick(random);
     let mut lent = lend(parts, parts.write(), random);
-    comparison.call(Call::Check, &mut lent);
+    forecasts::checked(comparison, &lent, random);
     // An edit outside a list too: bad places that it doesn't renew aren't its business.
     for _ in 0..random.below(4) {
         let call = random_edit(parts, lent.first.len(), random);
@@ -162,7 +166,7 @@ fn widened(pool: &Pool, comparison: &mut Comparison, random: &mut Random) {
         damage::damage(&mut draft, 8, random);
     }
     let mut lent = lend(&parts, draft.write(), random);
-    comparison.call(Call::Check, &mut lent);
+    forecasts::checked(comparison, &lent, random);
     edits(&parts, comparison, &mut lent, random);
 }
 
@@ -189,9 +193,10 @@ fn short_buffers(pool: &Pool, comparison: &mut Comparison, random: &mut Random) 
         lent.answer.truncate(random.below(8));
     }
     let out = random.pick(&[0, 1, 164, 165, 166, 186, 187, 188, 300]);
-    let call = match random.below(9) {
+    let call = match random.below(10) {
         0 => Call::Check,
         8 => Call::Subtract,
+        9 => forecasts::any(random),
         1 => Call::Add,
         2 => random_edit(&parts, lent.first.len(), random),
         3 => Call::Value,

@@ -19,6 +19,7 @@ pub const TOO_SHORT: u64 = 2;
 #[derive(Clone, Copy, Debug, PartialEq, Eq)]
 pub enum Call {
     Check,
+    Forecast { digits: u64 },
     Add,
     Subtract,
     Edit { row: u64, place: u64, digit: u64 },
@@ -33,6 +34,7 @@ impl Call {
     pub fn name(&self) -> &'static str {
         match self {
             Call::Check => "check",
+            Call::Forecast { .. } => "forecast",
             Call::Add => "add",
             Call::Subtract => "subtract",
             Call::Edit { .. } => "edit",

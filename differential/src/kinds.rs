@@ -1,7 +1,9 @@
 //! Kinds of cases that a refusal number alone doesn't tell apart: those of subtraction and of input digits beyond the sums (job 2),
-//! those of midpoints at the half (job 6), those of the reach (job 7), and those of degree three and four (job 8).
+//! those of midpoints at the half (job 6), those of the reach (job 7), those of degree three and four (job 8), and those of the forecast
+//! (job 13).
 
 mod degrees;
+mod forecast;
 mod reach;
 
 use crate::further::{self, Digits};
@@ -102,11 +104,30 @@ pub enum Kind {
     HighPartAtLimit,
     /// A half in the third or fourth part of a midpoint.
     HalfOfHighPart,
+    /// A forecast for rows of no digit and of 256; 20 for 257 digits, and for more than 32 bits hold.
+    ForecastOfNothing,
+    ForecastOfMost,
+    ForecastJustOver,
+    ForecastFarOver,
+    /// A fault of the table, though the digits are over 256 too.
+    TableFaultBeforeDigits,
+    /// Fewer pairs than leaves squared; more of them than 16 bits hold; over 3,000 leaves.
+    PairsUnderSquare,
+    ManyPairs,
+    ForecastOfManyLeaves,
+    /// A tail that is longer than a word that fits it.
+    TailBeyondWord,
+    /// Facts by a table that rule 14 refuses, and by one of degree three or four.
+    ForecastInSpiteOf14,
+    ForecastBeyondTwo,
+    /// The pairs of the check and of a forecast, and the bytes of a forecast and of the sum after it.
+    PairsOfCheckAndForecast,
+    SumAsForecast,
 }
 
 impl Kind {
     /// All of them, for the report of those that a run missed.
-    pub const ALL: [Kind; 61] = [
+    pub const ALL: [Kind; 74] = [
         Kind::Subtracted,
         Kind::SubtractedByFurther,
         Kind::UnlistedFromZero,
@@ -168,6 +189,19 @@ impl Kind {
         Kind::HighPartOver,
         Kind::HighPartAtLimit,
         Kind::HalfOfHighPart,
+        Kind::ForecastOfNothing,
+        Kind::ForecastOfMost,
+        Kind::ForecastJustOver,
+        Kind::ForecastFarOver,
+        Kind::TableFaultBeforeDigits,
+        Kind::PairsUnderSquare,
+        Kind::ManyPairs,
+        Kind::ForecastOfManyLeaves,
+        Kind::TailBeyondWord,
+        Kind::ForecastInSpiteOf14,
+        Kind::ForecastBeyondTwo,
+        Kind::PairsOfCheckAndForecast,
+        Kind::SumAsForecast,
     ];
 }
 
@@ -175,6 +209,9 @@ impl Kind {
 pub fn met(call: &Call, outcome: Outcome, before: &Lent, lent: &Lent) -> Vec<Kind> {
     let mut kinds = of_digits(call, outcome, lent);
     kinds.extend(holding(degrees::met(call, outcome, lent)));
+    if let Call::Forecast { digits } = *call {
+        kinds.extend(holding(forecast::met(digits, outcome, lent)));
+    }
     let reaches = matches!(call, Call::Add | Call::Subtract | Call::Edit { .. });
     if reaches && outcome == Outcome::Facts {
         kinds.extend(holding(reach::met(call, before, lent)));

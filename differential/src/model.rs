@@ -2,7 +2,7 @@
 
 use reference::by_table;
 use reference::table::{self, Reading};
-use reference::{Answer, EditFacts, Group, Operation, RowFacts};
+use reference::{Answer, Group, Operation};
 
 use crate::interface::{Call, Calls, Lent, ANSWER_WORDS, FACTS, FAULT, TOO_SHORT};
 
@@ -41,7 +41,8 @@ fn write_carried(table: &[u8], out: &mut [u8]) -> u64 {
     }
 }
 
-/// The reference's answer to a call that is lent a table, its facts in document 01's order and the reach of job 7 behind them.
+/// The reference's answer to a call that is lent a table, its facts in document 01's order, the reach of job 7 or the pairs of job 13 behind
+/// them.
 fn answer(reading: &Reading, call: &Call, lent: &mut Lent) -> Answer<Vec<i64>> {
     let asked = lent.asked();
     let Lent {
@@ -53,24 +54,22 @@ fn answer(reading: &Reading, call: &Call, lent: &mut Lent) -> Answer<Vec<i64>> {
         values,
         ..
     } = lent;
-    let one = |number: usize| vec![number as i64];
-    let of_rows = |RowFacts { written, reach }| vec![written as i64, reach as i64];
-    let of_edit = |EditFacts { changed, reach }| vec![changed as i64, reach as i64];
     let mut combine = |operation| {
-        facts(
-            by_table::combine(operation, reading, first, second, sum),
-            of_rows,
-        )
+        let combined = by_table::combine(operation, reading, first, second, sum);
+        facts(combined, |f| words([f.written, f.reach]))
     };
     match *call {
         Call::Check => facts(by_table::check(reading), |f| {
-            vec![f.depth as i64, f.leaves as i64, f.digits as i64]
+            words([f.depth, f.leaves, f.digits, f.pairs])
+        }),
+        Call::Forecast { digits } => facts(by_table::forecast(reading, digits), |f| {
+            words([f.pairs, f.bytes])
         }),
         Call::Add => combine(Operation::Sum),
         Call::Subtract => combine(Operation::Difference),
         Call::Edit { row, place, digit } => {
             let edited = by_table::edit(reading, first, second, sum, (row, place, digit));
-            facts(edited, of_edit)
+            facts(edited, |f| words([f.changed, f.reach]))
         }
         Call::Run => {
             let ran = by_table::run(reading, first, second, sum, &asked);
@@ -78,12 +77,16 @@ fn answer(reading: &Reading, call: &Call, lent: &mut Lent) -> Answer<Vec<i64>> {
                 for (k, answer) in answers.iter().enumerate() {
                     [whose[k], numbers[k], values[k]] = told(answer);
                 }
-                one(answers.len())
+                words([answers.len()])
             })
         }
         Call::Value => facts(by_table::value(reading, first), |x| x.parts),
         Call::Midpoint { .. } | Call::Tern | Call::Bin => Answer::Facts(Vec::new()),
     }
+}
+
+fn words<const N: usize>(facts: [usize; N]) -> Vec<i64> {
+    facts.map(|fact| fact as i64).to_vec()
 }
 
 fn facts<F>(answer: Answer<F>, words: impl FnOnce(F) -> Vec<i64>) -> Answer<Vec<i64>> {

@@ -1,6 +1,7 @@
 //! Implementations with one mistake each, to see that the comparison finds it.
 
 mod degrees;
+mod forecast;
 mod midpoint;
 mod reach;
 mod subtraction;
@@ -105,6 +106,10 @@ pub enum Mistake {
     RunCountsReach,
     /// Something is done wrong with files of one degree.
     AtDegree(usize, degrees::Slip),
+    /// The pairs of a call are counted by another rule.
+    Pairs(&'static str, forecast::Counted),
+    /// Something else is wrong with the forecast.
+    Forecast(forecast::Slip),
     /// The place of one refusal number is one too high in subtraction.
     SubtractPlaceOff(i64),
     /// The place of one refusal number is one too high.
@@ -148,6 +153,7 @@ pub fn mistakes() -> Vec<Mistake> {
     all.extend(subtraction::mistakes());
     all.extend(reach::mistakes());
     all.extend(degrees::mistakes());
+    all.extend(forecast::mistakes());
     all.extend(NUMBERS.map(PlaceOff));
     all.extend(NUMBERS.map(NumberOff));
     all
@@ -173,9 +179,13 @@ impl Calls for Wrong {
         if let Mistake::AtDegree(degree, slip) = self.mistake {
             return degrees::call(degree, slip, call, lent);
         }
+        if let Mistake::Forecast(slip) = self.mistake {
+            return forecast::call(slip, call, lent);
+        }
         let before = lent.clone();
         let returned = Model.call(&self.asked(call), lent);
         match (call, returned) {
+            (Call::Check | Call::Forecast { .. }, FACTS) => self.spoil_pairs(call, &before, lent),
             (Call::Add, FACTS) => self.spoil_add(lent),
             (Call::Subtract, FACTS) => self.spoil_subtract(&before, lent),
             (Call::Edit { .. }, FACTS) => self.spoil_edit(call, &before, lent),
@@ -208,6 +218,15 @@ impl Wrong {
                 digit: digit & 0xffff_ffff,
             },
             other => other,
+        }
+    }
+
+    fn spoil_pairs(&self, call: &Call, before: &Lent, lent: &mut Lent) {
+        match self.mistake {
+            Mistake::Pairs(name, counted) if name == call.name() => {
+                forecast::count(counted, call, before, lent)
+            }
+            _ => (),
         }
     }
 

@@ -9,12 +9,20 @@ use crate::table::{Reading, Table};
 /// The longest row that rule 20 lets pass.
 pub const LONGEST_ROW: usize = 256;
 
-/// The facts of the check.
+/// The facts of the check; the fitting pairs came with job 13.
 #[derive(Clone, Copy, Debug, PartialEq, Eq)]
 pub struct TableFacts {
     pub depth: usize,
     pub leaves: usize,
     pub digits: usize,
+    pub pairs: usize,
+}
+
+/// The facts of a forecast (job 13): the fitting pairs, and the bytes that the sum of two rows will need.
+#[derive(Clone, Copy, Debug, PartialEq, Eq)]
+pub struct ForecastFacts {
+    pub pairs: usize,
+    pub bytes: usize,
 }
 
 /// The facts of addition and subtraction: the digits written, and the reach (job 7).
@@ -43,14 +51,28 @@ fn table_of(reading: &Reading) -> Result<&Table, Fault> {
 pub fn check(reading: &Reading) -> Answer<TableFacts> {
     let judge = || {
         let table = table_of(reading)?;
-        table.check_pairs()?;
+        let pairs = table.check_pairs()?;
         Ok(TableFacts {
             depth: table.depth,
             leaves: table.leaves.len(),
             digits: table.alphabet.len(),
+            pairs,
         })
     };
     judge().into()
+}
+
+/// The forecast for rows of so many digits. It looks at words alone, so that a table that rule 14 refuses has one too.
+pub fn forecast(reading: &Reading, digits: u64) -> Answer<ForecastFacts> {
+    let look = || {
+        let table = table_of(reading)?;
+        rows(digits <= LONGEST_ROW as u64, 20, 0)?;
+        Ok(ForecastFacts {
+            pairs: table.fitting_pairs(),
+            bytes: digits as usize + table.depth,
+        })
+    };
+    look().into()
 }
 
 /// Addition and subtraction. Rule 8 has every sum among the input digits, so only differences have to be judged, by 42, after 23.

@@ -1,7 +1,7 @@
 //! The calls of document 01 and of the jobs that have landed. Each reads its table anew.
 
 use crate::answer::Answer;
-use crate::by_table::{self, Asked, EditFacts, RowFacts, TableFacts};
+use crate::by_table::{self, Asked, EditFacts, ForecastFacts, RowFacts, TableFacts};
 use crate::element::{Element, Operation};
 use crate::reach::{self, LeafFacts, Window};
 use crate::table;
@@ -9,6 +9,11 @@ use crate::table;
 /// The table check: rules 1 to 14.
 pub fn check(file: &[u8]) -> Answer<TableFacts> {
     by_table::check(&table::read(file))
+}
+
+/// What an addition of two rows of so many digits will take (job 13).
+pub fn forecast(file: &[u8], digits: u64) -> Answer<ForecastFacts> {
+    by_table::forecast(&table::read(file), digits)
 }
 
 /// The leaf look-up. Of files that aren't past 1 to 13, and of windows that no word begins, the papers say nothing: none.

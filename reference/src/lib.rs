@@ -1,6 +1,6 @@
 //! An independent implementation of document 01: the table check, addition, the digit edit, lists of edits, the value of a row and the midpoint;
-//! and of what jobs of document 02 add: subtraction, with input digits beyond the sums (job 2), the reach (job 7), and rings of degree three
-//! and four (job 8).
+//! and of what jobs of document 02 add: subtraction, with input digits beyond the sums (job 2), the reach (job 7), rings of degree three
+//! and four (job 8), and the forecast (job 13).
 //!
 //! It exists to be compared with the proved library, so it shares nothing with it. It was written from the papers alone, and where
 //! there was a choice it takes the way that is easiest to believe and not the fastest: words in a hash map, sums in a set, rule 12 by
@@ -23,8 +23,8 @@ pub mod table;
 pub const DEGREES: [usize; 3] = [2, 3, 4];
 
 pub use answer::{Answer, Fault, Group};
-pub use by_table::{Asked, EditFacts, RowFacts, TableFacts};
-pub use calls::{add, check, edit, look_up, midpoint, run, subtract, value};
+pub use by_table::{Asked, EditFacts, ForecastFacts, RowFacts, TableFacts};
+pub use calls::{add, check, edit, forecast, look_up, midpoint, run, subtract, value};
 pub use carried::{bin, tern};
 pub use element::{Element, Operation};
 pub use file::{assemble, Parts};

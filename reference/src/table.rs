@@ -156,17 +156,26 @@ fn indexes(digits: &[Element]) -> HashMap<Element, u8> {
 }
 
 impl Table {
-    /// Rule 14 by brute force: the lowest upper leaf that gives no alphabet digit with some lower leaf that fits it.
-    pub fn check_pairs(&self) -> Result<(), Fault> {
+    /// Rule 14 by brute force: the lowest upper leaf that gives no alphabet digit with some lower leaf that fits it. Where there is none,
+    /// how many pairs were judged.
+    pub fn check_pairs(&self) -> Result<usize, Fault> {
+        let mut judged = 0;
         for (number, upper) in self.leaves.iter().enumerate() {
             let carried_up = self.base.times(&upper.weight);
             let left = &self.inputs[usize::from(upper.word[0])] - &carried_up;
             for lower in self.leaves.iter().filter(|lower| fit(upper, lower)) {
                 let digit = &left + &lower.weight;
                 author(self.index_of_digit.contains_key(&digit), 14, number)?;
+                judged += 1;
             }
         }
-        Ok(())
+        Ok(judged)
+    }
+
+    /// The number of fitting pairs (job 13): every leaf is tried as the lower one of every leaf, itself included.
+    pub fn fitting_pairs(&self) -> usize {
+        let lowers = |upper| self.leaves.iter().filter(|lower| fit(upper, lower)).count();
+        self.leaves.iter().map(lowers).sum()
     }
 
     /// Rule 42: the difference of every two alphabet digits is an input digit. The place is the first digit's index, of the pair that

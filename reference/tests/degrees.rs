@@ -12,11 +12,12 @@ fn said(file: &[u8]) -> Result<TableFacts, (u8, usize)> {
     }
 }
 
-fn facts(depth: usize, leaves: usize, digits: usize) -> TableFacts {
+fn facts(depth: usize, leaves: usize, digits: usize, pairs: usize) -> TableFacts {
     TableFacts {
         depth,
         leaves,
         digits,
+        pairs,
     }
 }
 
@@ -41,16 +42,16 @@ fn bin_of(degree: usize) -> Parts {
 
 #[test]
 fn tables_of_each_degree() {
-    assert_eq!(said(&bin_of(3).write()), Ok(facts(2, 13, 3)));
-    assert_eq!(said(&bin_of(4).write()), Ok(facts(2, 13, 3)));
+    assert_eq!(said(&bin_of(3).write()), Ok(facts(2, 13, 3, 65)));
+    assert_eq!(said(&bin_of(4).write()), Ok(facts(2, 13, 3, 65)));
     assert_eq!(bin_of(3).write().len(), 20 + 12 + 18 + 30 + 130 + 23);
     assert_eq!(bin_of(4).write().len(), 20 + 16 + 24 + 40 + 156 + 23);
     // ω³ = ω and β = 1 + 2ω², so that β·ω² = 3ω². Its other conjugate is 1.
     let tern = times(&[0, 0, 1], &[0, 1, 0, 1, 0, 2], carried::tern_parts());
-    assert_eq!(said(&tern.write()), Ok(facts(1, 9, 5)));
+    assert_eq!(said(&tern.write()), Ok(facts(1, 9, 5, 81)));
     // (ω − 2)(ω² − 4ω + 5) = 0, so that β = −3 + 4ω − ω² times a multiple of 2 − ω is twice it.
     let bin = times(&[2, -1, 0], &[6, -13, 10, -3, 4, -1], carried::bin_parts());
-    assert_eq!(said(&bin.write()), Ok(facts(2, 13, 3)));
+    assert_eq!(said(&bin.write()), Ok(facts(2, 13, 3, 65)));
     // The parts of ω³ the other way round are another ring.
     let bin = times(&[2, -1, 0], &[10, -13, 6, -3, 4, -1], carried::bin_parts());
     assert_eq!(said(&bin.write()), Err((14, 2)));
@@ -203,7 +204,9 @@ fn three_carries() -> Parts {
 #[test]
 fn weights_of_three_parts_are_converted() {
     let reading = read(&three_carries().write());
-    assert_eq!(by_table::check(&reading), Answer::Facts(facts(3, 729, 5)));
+    // With words of three digits the two below a leaf's first name nine leaves.
+    let facts = facts(3, 729, 5, 9 * 729);
+    assert_eq!(by_table::check(&reading), Answer::Facts(facts));
     let value = |row: &[u8]| match by_table::value(&reading, row) {
         Answer::Facts(value) => value,
         Answer::Fault(fault) => panic!("{fault:?}"),

@@ -81,16 +81,17 @@ fn list_of_the_marked_table() {
 
 #[test]
 fn carried_tables_are_accepted() {
-    let facts = |depth, leaves, digits| {
+    let facts = |depth, leaves, digits, pairs| {
         Answer::Facts(TableFacts {
             depth,
             leaves,
             digits,
+            pairs,
         })
     };
     assert_eq!((tern().len(), bin().len()), (165, 187));
-    assert_eq!(check(&tern()), facts(1, 9, 5));
-    assert_eq!(check(&bin()), facts(2, 13, 3));
+    assert_eq!(check(&tern()), facts(1, 9, 5, 81));
+    assert_eq!(check(&bin()), facts(2, 13, 3, 65));
 }
 
 #[test]

@@ -1,11 +1,10 @@
 //! The reach (job 7): the longest word among the leaves that a call looks up, and the look-up that says its word's length.
 
-use std::io::Write;
-use std::process::{Command, Stdio};
+mod common;
 
+use common::{buffer, lines, longer_words};
 use reference::{
-    add, bin, check, edit, look_up, subtract, tern, Answer, EditFacts, Fault, Group, LeafFacts,
-    Parts, RowFacts,
+    add, bin, edit, look_up, subtract, tern, Answer, EditFacts, Fault, Group, LeafFacts, RowFacts,
 };
 
 const BIN_DIGITS: [i64; 3] = [0, 1, -1];
@@ -34,21 +33,6 @@ fn reach_of_edit(table: &[u8], first: &[u8], second: &[u8], place: u64, digit: u
         Answer::Facts(EditFacts { reach, .. }) => reach,
         Answer::Fault(fault) => panic!("{fault:?}"),
     }
-}
-
-/// TERN with some leaves replaced by all their one-digit extensions, each of which keeps the weight.
-fn longer_words(split: &[&[u8]]) -> Vec<u8> {
-    let mut parts: Parts = reference::carried::tern_parts();
-    for word in split {
-        let at = parts.leaves.iter().position(|leaf| leaf.0 == *word);
-        let at = at.expect("a leaf's word");
-        let weight = parts.leaves[at].1.clone();
-        let extensions = (0..9).map(|below| ([word, &[below][..]].concat(), weight.clone()));
-        parts.leaves.splice(at..=at, extensions);
-    }
-    let file = parts.write();
-    assert!(matches!(check(&file), Answer::Facts(_)));
-    file
 }
 
 /// Every row of some length.
@@ -278,29 +262,6 @@ fn the_look_up_says_its_words_length() {
     // Neither a table nor a window of input indexes.
     assert_eq!(look_up(&bin()[1..], &[0; 8]), None);
     assert_eq!(look_up(&bin(), &[5; 8]), None);
-}
-
-/// A buffer as the vectors write it.
-fn buffer(bytes: &[u8]) -> Vec<u8> {
-    [&(bytes.len() as u32).to_le_bytes()[..], bytes].concat()
-}
-
-/// What the program `vectors` prints for a run of calls, and whether it takes them all.
-fn lines(calls: &[Vec<u8>]) -> (String, bool) {
-    let mut run = Command::new(env!("CARGO_BIN_EXE_vectors"))
-        .stdin(Stdio::piped())
-        .stdout(Stdio::piped())
-        .stderr(Stdio::null())
-        .spawn()
-        .unwrap();
-    let mut input = run.stdin.take().unwrap();
-    input.write_all(&calls.concat()).unwrap();
-    drop(input);
-    let ended = run.wait_with_output().unwrap();
-    (
-        String::from_utf8(ended.stdout).unwrap(),
-        ended.status.success(),
-    )
 }
 
 #[test]

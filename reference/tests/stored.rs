@@ -68,6 +68,7 @@ fn every_kind_of_line_is_stored() {
         "table",
         "difference",
         "leaf",
+        "pairs",
     ];
     for head in heads {
         let kept = expected.lines().any(|line| line.starts_with(head));

@@ -171,6 +171,11 @@ impl<D: Degree> Code<'_, D> {
         word.wrapping_shl(64 - 8 * length as u32)
     }
 
+    /// The leaf whose word begins the window, by the words as numbers.
+    pub fn search(&self, window: u64) -> usize {
+        search(0, self.count(), window, |leaf| self.keys[leaf])
+    }
+
     /// The leaf whose word begins the window, by the words in the file, for calls that search a few times only.
     pub fn search_file(&self, window: u64) -> usize {
         search(0, self.count(), window, |leaf| self.word(leaf))
@@ -182,7 +187,7 @@ impl<D: Degree> Code<'_, D> {
         let (mut longest, mut last) = (0, self.count());
         for digit in (0..inputs).rev() {
             let word = (digit as u64) << 56;
-            let start = search(0, self.count(), word, |leaf| self.keys[leaf]);
+            let start = self.search(word);
             longest = longest.max(last - start);
             starts[digit] = start as u16;
             last = start;

@@ -1,5 +1,5 @@
-//! Rule 14. The lower leaves that fit an upper one are a run of neighbours, and the runs of upper leaves with the same first digit
-//! follow one another, so both are walked side by side and nothing is searched.
+//! Rule 14, and how many pairs it speaks of. The lower leaves that fit an upper one are a run of neighbours, and the runs of upper leaves with
+//! the same first digit follow one another, so both are walked side by side and nothing is searched.
 
 use super::degree::{Degree, Key};
 use super::weights::Sets;
@@ -9,15 +9,42 @@ use super::{Pairs, Table};
 /// that is quicker, and the table of 287 leaves, where it isn't; nothing in between was tried.
 const FEW_LEAVES: usize = 20;
 
-/// The lowest upper leaf that gives no alphabet digit with some lower leaf that fits.
-pub fn first_bad_upper<D: Degree>(table: &Table<D>, pairs: Pairs) -> Option<usize> {
+/// The number of fitting pairs; as an error the lowest upper leaf that gives no alphabet digit with some lower leaf that fits.
+pub fn judge<D: Degree>(table: &Table<D>, pairs: Pairs) -> Result<usize, usize> {
     if pairs == Pairs::Runs || table.code.count() <= FEW_LEAVES {
         return by_runs(table);
     }
-    match Sets::of(table) {
-        Some(sets) => sets.first_bad_upper(table),
-        None => by_runs(table),
+    let Some(sets) = Sets::of(table) else {
+        return by_runs(table);
+    };
+    match sets.first_bad_upper(table) {
+        Some(upper) => Err(upper),
+        None => Ok(count(table)),
     }
+}
+
+/// The number of fitting pairs. The tails of the upper words with one first digit are a complete code, as the words are. A tail and a word fit
+/// where one begins the other; let the pair stand where the longer one starts in the order of strings. So there is a pair wherever a word or a
+/// tail starts: for each first digit as many as leaves, and one more for each tail that starts where no word does. Such a tail goes on behind
+/// a leaf's end, and not with zeros alone. Tails that differ in their last digit alone are looked for once.
+pub fn count<D: Degree>(table: &Table<D>) -> usize {
+    let code = &table.code;
+    let (mut parent, mut lower, mut ended) = ((0, 0), 0, false);
+    let mut beyond = 0;
+    for (leaf, word) in code.keys.iter().enumerate() {
+        let length = code.length(leaf);
+        if length < 3 {
+            continue;
+        }
+        let without_last = word >> (72 - 8 * length);
+        if parent != (without_last, length) {
+            parent = (without_last, length);
+            lower = code.search(without_last << (72 - 8 * length) << 8);
+            ended = code.length(lower) <= length - 2;
+        }
+        beyond += usize::from(ended && word << 8 != code.keys[lower]);
+    }
+    code.count() * table.sections.inputs.len() + beyond
 }
 
 /// What an upper leaf adds to a lower leaf's weight: its first digit minus β times its weight.
@@ -30,23 +57,24 @@ pub fn offset<D: Degree>(table: &Table<D>, upper: usize) -> D::Key {
 }
 
 /// Pair by pair.
-fn by_runs<D: Degree>(table: &Table<D>) -> Option<usize> {
+fn by_runs<D: Degree>(table: &Table<D>) -> Result<usize, usize> {
     let code = &table.code;
     let weights: Vec<D::Key> = (0..code.count())
         .map(|leaf| D::key(code.weight(leaf)))
         .collect();
     // The first leaf of the run that fits the upper leaf.
-    let mut lower = 0;
+    let (mut lower, mut pairs) = (0, 0);
     for upper in 0..code.count() {
         let offset = offset(table, upper);
         let run = run(&code.keys, lower, tail_end(table, upper));
         let good = |weight: &D::Key| table.alphabet.index(weight.plus(offset)).is_some();
         if !weights[lower..run].iter().all(good) {
-            return Some(upper);
+            return Err(upper);
         }
+        pairs += run - lower;
         lower = next_lower(table, upper, run - 1);
     }
-    None
+    Ok(pairs)
 }
 
 /// The end of the run of leaves from one on whose words are below a bound; the one itself is in it.

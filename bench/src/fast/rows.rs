@@ -11,6 +11,14 @@ const LONGEST_ROW: usize = 256;
 /// The most digits of a sum row.
 pub const MOST_PLACES: usize = LONGEST_ROW + LONGEST;
 
+/// Rule 20 for rows that aren't there yet: how long they will be.
+pub fn check_length(digits: u64) -> Result<usize, Fault> {
+    match digits {
+        0..=256 => Ok(digits as usize),
+        _ => Err(of_rows(20, 0)),
+    }
+}
+
 /// Rules 20 to 23.
 pub fn check<D: Degree>(
     table: &Table<D>,

@@ -2,6 +2,7 @@
 
 use reference::{Element, Operation, Parts};
 
+use super::forecasts;
 use super::lending::{answer_array, lend, spoil_rows};
 use crate::codes::depth;
 use crate::interface::{Call, Lent};
@@ -21,13 +22,20 @@ pub fn list_of_edits(pool: &Pool, comparison: &mut Comparison, random: &mut Rand
     edits(&parts, comparison, &mut lent, random);
 }
 
-/// Often a subtraction of the rows; an addition, and edits of what it leaves.
+/// Often a subtraction of the rows; an addition, sometimes with a forecast of its bytes, and edits of what it leaves.
 pub fn edits(parts: &Parts, comparison: &mut Comparison, lent: &mut Lent, random: &mut Random) {
     if random.one_in(2) {
         subtraction(comparison, lent);
     }
+    let bytes = match random.one_in(4) {
+        true => forecasts::of_rows(comparison, lent),
+        false => None,
+    };
     if comparison.call(Call::Add, lent) != Outcome::Facts {
         return;
+    }
+    if let Some(bytes) = bytes {
+        forecasts::came_true(comparison, bytes, lent);
     }
     if random.one_in(8) {
         row_values(Call::Add, comparison, lent);

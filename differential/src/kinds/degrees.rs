@@ -47,6 +47,7 @@ fn of_call(call: &Call) -> Kind {
         Call::Subtract => Kind::SubtractedBeyondTwo,
         Call::Edit { .. } => Kind::EditedBeyondTwo,
         Call::Run => Kind::RanBeyondTwo,
+        Call::Forecast { .. } => Kind::ForecastBeyondTwo,
         _ => Kind::AddedBeyondTwo,
     }
 }

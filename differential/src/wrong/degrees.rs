@@ -321,7 +321,8 @@ fn check_again(
         None => {
             let (depth, leaves) = (table.depth as i64, table.leaves.len() as i64);
             let digits = table.alphabet.len() as i64;
-            lent.answer[..4].copy_from_slice(&[0, depth, leaves, digits]);
+            let pairs = table.fitting_pairs() as i64;
+            lent.answer[..5].copy_from_slice(&[0, depth, leaves, digits, pairs]);
             FACTS
         }
     }

@@ -3,7 +3,7 @@
 
 use std::io::{self, Read, Write};
 
-use reference::{Answer, EditFacts, LeafFacts, RowFacts};
+use reference::{Answer, EditFacts, ForecastFacts, LeafFacts, RowFacts};
 
 fn main() -> io::Result<()> {
     let mut bytes = Vec::new();
@@ -38,7 +38,7 @@ impl Reader<'_> {
         Some(head.to_vec())
     }
 
-    /// A number of the edit.
+    /// A number of the edit, or the digits of a forecast.
     fn number(&mut self) -> Option<u64> {
         self.take().map(u64::from_le_bytes)
     }
@@ -77,6 +77,7 @@ fn next_line(run: &mut Reader) -> Option<String> {
         6 => Some(format!("table {}", hexadecimal(&reference::tern()))),
         7 => Some(format!("table {}", hexadecimal(&reference::bin()))),
         8 => row_line(run, "difference", reference::subtract),
+        17 => forecast_line(run),
         19 => look_up_line(run),
         _ => None,
     }
@@ -85,10 +86,18 @@ fn next_line(run: &mut Reader) -> Option<String> {
 fn check_line(file: &[u8]) -> String {
     or_fault(reference::check(file), |facts| {
         format!(
-            "accepted depth {} leaves {} digits {}",
-            facts.depth, facts.leaves, facts.digits
+            "accepted depth {} leaves {} digits {} pairs {}",
+            facts.depth, facts.leaves, facts.digits, facts.pairs
         )
     })
+}
+
+fn forecast_line(run: &mut Reader) -> Option<String> {
+    let (table, digits) = (run.buffer()?, run.number()?);
+    let answer = reference::forecast(&table, digits);
+    Some(or_fault(answer, |ForecastFacts { pairs, bytes }| {
+        format!("pairs {pairs} bytes {bytes}")
+    }))
 }
 
 /// Addition or subtraction: both are lent a table, two rows and a buffer.
