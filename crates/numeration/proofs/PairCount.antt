@@ -1,12 +1,12 @@
 -- The number of fitting pairs: it is the length of a list that has each of them once; by runs of lower leaves; and its bounds.
-use mathlib.Core.Path.{_≡_, _∙_}
+use mathlib.Core.Path.{_≡_, sym, _∙_}
 use mathlib.Core.Bool.{true, false}
 use Prim.Native.Nat.{ℕ, zero, suc, _+_, _-_, _*_, _<_, _≤_}
 use native.Mathlib.Omega.{arith}
 use native.Mathlib.Nat.{le-antisymm, le-trans, sub-zero, mul-le-mul}
 use Rattle.lists.specs.Count.{total, count}
 use Rattle.lists.proofs.Count.{total-next, total-most, total-least, count-run, count-most, count-some, pairs-once}
-use Rattle.lists.proofs.Once.{once-same}
+use Rattle.lists.proofs.Once.{once-same, once-long}
 use Rattle.lists.proofs.Test.{not-passed}
 use Rattle.numeration.specs.Code.{Code, Precedes}
 use Rattle.numeration.specs.Prefix.{PrefixCode}
@@ -38,6 +38,10 @@ module _ {A : Type 0} (c : Code A) where
         once-same _ (FittingPair c) pairs (λ x a. (a .0, a .1, fits-sound (x .0) (x .1) (a .2))) (λ x a. (a .0, a .1, fits-complete (x .0) (x .1) (a .2))) is,
         long,
       )
+
+  -- That names one number.
+  pub one-number : (m n : ℕ) → PairsNumber c m → PairsNumber c n → m ≡ n
+  one-number m n (s, is, long) (t, also, short) = sym long ∙ once-long (FittingPair c) s t is also ∙ short
 
   pub pairs-next : (n : ℕ) → pairsBelow c (n + 1) ≡ pairsBelow c n + lowerCount c n
   unfolding pairsBelow
