@@ -39,18 +39,27 @@ fn fault_line(fault: Fault) -> bool {
     line(&mut out, end)
 }
 
-// `accepted depth h leaves L digits A pairs P`, or the fault. The line of the program `check` comes first; its line feed makes room for the
-// pairs. It is never over 100 bytes; the test makes it plain.
+// The pairs behind the line of the program `check`, in the place of its line feed. That line is never over 100 bytes; the test makes it plain.
+fn with_pairs(out: &mut [u8], written: usize, pairs: usize) -> bool
+    requires { ⌜ length (now out) ≡ 128 ⌝ }
+{
+    if written < 1 {
+        return false;
+    }
+    if 100 < written {
+        return false;
+    }
+    let end = text::put_item(out, written - 1, b" pairs ", pairs);
+    line(out, end)
+}
+
+// `accepted depth h leaves L digits A pairs P`, or the fault.
 pub fn checked(answer: Checked) -> bool {
     match answer {
         Checked::Accepted(facts) => {
             let mut out = [0u8; 128];
             let written = line::line(answer, &mut out);
-            if written < 1 || 100 < written {
-                return false;
-            }
-            let end = text::put_item(&mut out, written - 1, b" pairs ", facts.pairs);
-            line(&mut out, end)
+            with_pairs(&mut out, written, facts.pairs)
         }
         Checked::Refused(fault) => fault_line(fault),
     }
