@@ -123,7 +123,7 @@ fn low_leaf(keys: &[u64], count: usize, guess: usize, tail: u64) -> usize
     0
 }
 
-// The last leaf whose word is at most a tail with zeros behind it.
+// The last leaf whose word is at most a tail with zeros behind it. Most of the time the next leaf's is above it.
 pub fn start_of(keys: &[u64], count: usize, guess: usize, tail: u64) -> usize
     requires { ⌜ (0 < count) × (count ≤ length (now keys)) × (guess ≤ count) ⌝ }
     ensures within { λ r. ⌜ r < count ⌝ }
@@ -131,7 +131,13 @@ pub fn start_of(keys: &[u64], count: usize, guess: usize, tail: u64) -> usize
     ensures last { λ r. ⌜ (suc r < count → tail < getD (now (keys .entry)) (suc r) 0) ⌝ }
 {
     let low = low_leaf(keys, count, guess, tail);
-    first_above(keys, low + 1, count, tail) - 1
+    let next = low + 1;
+    if next < count {
+        if keys[next] <= tail {
+            return first_above(keys, next, count, tail) - 1;
+        }
+    }
+    low
 }
 
 // The lower leaves that fit an upper one. All leaves fit one whose word has one digit.
