@@ -8,11 +8,13 @@ use lib.IntN.{ℤ, pos, negsuc}
 use lib.ListN.{set, length}
 use Rattle.ring.specs.Product.{product}
 use Rattle.ring.specs.Tests.{expanding}
-use Rattle.faults.specs.Outcome.{Outcome, author, facts, refused}
+use Rattle.faults.specs.Outcome.{Outcome, author, rows as of-rows, facts, refused}
 use Rattle.table_rules.specs.declared.Facts.{Facts}
 use Rattle.table_rules.specs.Check.{checkOutcome}
 use Rattle.adder_rules.specs.declared.AddedFacts.{AddedFacts}
 use Rattle.adder_rules.specs.Calls.{addOutcome, addSum}
+use Rattle.forecast_rules.specs.declared.ForecastFacts.{ForecastFacts}
+use Rattle.forecast_rules.specs.Forecast.{forecastOutcome}
 use Rattle.row_rules.specs.declared.Change.{Change}
 use Rattle.edit_rules.specs.declared.EditedFacts.{EditedFacts}
 use Rattle.edit_rules.specs.State.{State, state}
@@ -31,6 +33,8 @@ pub data Exercise : Type 0 where
   expands : ℤ → ℤ → ℤ → ℤ → Exercise
   -- a table file: the check's outcome
   checks : List ℕ → Exercise
+  -- a table file and a number of digits: the forecast's outcome
+  forecasts : List ℕ → ℕ → Exercise
   -- a table file, two rows and the sum buffer: the outcome of addition and the buffer after it
   adds : List ℕ → List ℕ → List ℕ → List ℕ → Exercise
   -- a table file, two rows and the sum buffer, and edits after the addition: the buffers after the list, and the answers
@@ -43,6 +47,7 @@ pub data Answer : Type 0 where
   element : List ℤ → Answer
   verdict : Bool → Answer
   outcome : Outcome Facts → Answer
+  expects : Outcome ForecastFacts → Answer
   summed : Outcome AddedFacts → List ℕ → Answer
   ran : State → List (Outcome EditedFacts) → Answer
   listed : Outcome RanFacts → State → List ℕ → List ℕ → List ℕ → Answer
@@ -52,6 +57,7 @@ unfoldable pub answer : Exercise → Answer
 answer (productOf r x y) = element (product r x y)
 answer (expands s t u v) = verdict (expanding s t u v)
 answer (checks file) = outcome (checkOutcome file)
+answer (forecasts file n) = expects (forecastOutcome file n)
 answer (adds file first second sum) = summed (addOutcome file first second (length sum)) (addSum file first second sum)
 answer (runs file first second sum edits) =
     ran (run file (state first second sum) edits .buffers) (run file (state first second sum) edits .answers)
@@ -102,6 +108,12 @@ table =
     }
     -- M12
     ∷ record { exercise = checks ternWithout; expected = outcome (refused author 14 2) }
+    -- Job 13: TERN and BIN; M12's table, which 14 refuses; 256 digits and one more; a table's fault comes first
+    ∷ record { exercise = forecasts ternFile 2; expected = expects (facts (record { pairs = 81; bytes = 3 })) }
+    ∷ record { exercise = forecasts binFile 2; expected = expects (facts (record { pairs = 65; bytes = 4 })) }
+    ∷ record { exercise = forecasts ternWithout 256; expected = expects (facts (record { pairs = 81; bytes = 257 })) }
+    ∷ record { exercise = forecasts ternFile 257; expected = expects (refused of-rows 20 0) }
+    ∷ record { exercise = forecasts [] 257; expected = expects (refused author 1 0) }
     -- Job 8: ω⁴ is 2·ω + ω² where ω³ is 2 + ω, and in degree four ω³·ω³ is ω²·ω⁴
     ∷ record {
       exercise = productOf (pos 2 ∷ pos 1 ∷ pos 0 ∷ []) (pos 0 ∷ pos 0 ∷ pos 1 ∷ []) (pos 0 ∷ pos 0 ∷ pos 1 ∷ []);
