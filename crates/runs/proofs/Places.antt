@@ -6,7 +6,7 @@ use native.Mathlib.Omega.{arith}
 use native.Mathlib.Decide.{decLt}
 use native.Mathlib.Nat.{le-antisymm}
 use lib.ListN.{getD}
-use Rattle.runs.specs.Words.{Between, FirstAbove}
+use Rattle.runs.specs.Words.{Between, FirstAbove, LastLow}
 
 module _ (keys : List ℕ) (bound from end : ℕ) where
   pub between-all : from ≤ end → Between keys bound from end from end
@@ -45,13 +45,19 @@ module _ (keys : List ℕ) (bound from end : ℕ) where
           ];
         }
 
--- the last place at most the bound, where some place is one or it is the first of all
-pub last-low : (keys : List ℕ) (bound low end r : ℕ) → (0 < low → getD keys low 0 ≤ bound) → FirstAbove keys bound (low + 1) end r → (r - 1 < end) × (0 < r - 1 → getD keys (r - 1) 0 ≤ bound) × (suc (r - 1) < end → bound < getD keys (suc (r - 1)) 0)
-last-low keys bound low end r there found = (
-  omega (arith, found .from-low, found .to-end),
-  λ h. elim (decLt low (r - 1)) [
-    | yes l ↦ found .before (r - 1) (omega arith) (omega (arith, found .from-low))
-    | no l ↦ let at : low ≡ r - 1 = omega (arith, found .from-low) in subst (λ (k : ℕ). getD keys k 0 ≤ bound) at (there (omega arith))
-  ],
-  λ h. let at : r ≡ suc (r - 1) = omega (arith, found .from-low) in subst (λ (k : ℕ). bound < getD keys k 0) at (found .above (omega arith)),
-)
+-- the place before the first above the bound
+pub last-low : (keys : List ℕ) (bound low end r : ℕ) → (0 < low → getD keys low 0 ≤ bound) → FirstAbove keys bound (low + 1) end r → LastLow keys bound end (r - 1)
+last-low keys bound low end r there found =
+    record {
+      inside = omega (arith, found .from-low, found .to-end);
+      low = λ h. elim (decLt low (r - 1)) [
+        | yes l ↦ found .before (r - 1) (omega arith) (omega (arith, found .from-low))
+        | no l ↦ let at : low ≡ r - 1 = omega (arith, found .from-low) in subst (λ (k : ℕ). getD keys k 0 ≤ bound) at (there (omega arith))
+      ];
+      last = λ h. let at : r ≡ suc (r - 1) = omega (arith, found .from-low) in subst (λ (k : ℕ). bound < getD keys k 0) at (found .above (omega arith));
+    }
+
+-- a place at most the bound, whose next one is above it
+pub next-above : (keys : List ℕ) (bound end r : ℕ) → r < end → (0 < r → getD keys r 0 ≤ bound) → (r + 1 < end → bound < getD keys (r + 1) 0) → LastLow keys bound end r
+next-above keys bound end r inside low above =
+    record { inside = inside; low = low; last = λ h. let at : r + 1 ≡ suc r = omega arith in subst (λ (k : ℕ). bound < getD keys k 0) at (above (omega arith)) }

@@ -38,3 +38,9 @@ pub record Between (keys : List ℕ) (bound from end low high : ℕ) : Type 0 wh
 
 abbrev pub FirstAbove : List ℕ → ℕ → ℕ → ℕ → ℕ → Type 0
 FirstAbove keys bound from end r = Between keys bound from end r r
+
+-- the last place of `end` whose number is at most the bound; place 0 where none is
+pub record LastLow (keys : List ℕ) (bound end r : ℕ) : Type 0 where
+  pub inside : r < end
+  pub low : 0 < r → getD keys r 0 ≤ bound
+  pub last : suc r < end → bound < getD keys (suc r) 0

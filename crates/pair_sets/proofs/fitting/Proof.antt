@@ -67,10 +67,10 @@ returns-2 c =
       (omega (arith, found .to-end, counted), omega (arith, found .to-end, counted)),
       (
         λ words ready keyed l there fit.
-            let within = run-within table words ready (a .upper) (c .before .before .before .before .before .before .before .before .before .before .before .before .before .pre .1 .0 .0) keys keyed tail (c .before .before .before .before .behind .result) (c .before .before .before .start-of .result) (c .before .one-by-one .result .end) refl rest (omega (arith, start .0, counted)) (start .1 .0) (λ h. found .above (omega (arith, counted))) l there fit in
+            let within = run-within table words ready (a .upper) (c .before .before .before .before .before .before .before .before .before .before .before .before .before .pre .1 .0 .0) keys keyed tail (c .before .before .before .before .behind .result) (c .before .before .before .start-of .result) (c .before .one-by-one .result .end) refl rest (omega (arith, start .inside, counted)) (start .low) (λ h. found .above (omega (arith, counted))) l there fit in
             in-run l (within .0) (within .1),
         λ words m input is ready keyed.
-            sym (run-exact table words m input is ready (a .upper) (c .before .before .before .before .before .before .before .before .before .before .before .before .before .pre .1 .0 .0) keys keyed tail refl (c .before .before .before .start-of .result) (omega (arith, start .0, counted)) (start .1 .0) (λ h. start .1 .1 (omega (arith, counted))) (c .before .before .before .before .behind .result) rest (c .before .one-by-one .result .end) (found .from-low) (omega (arith, found .to-end, counted)) (found .before)
+            sym (run-exact table words m input is ready (a .upper) (c .before .before .before .before .before .before .before .before .before .before .before .before .before .pre .1 .0 .0) keys keyed tail refl (c .before .before .before .start-of .result) (omega (arith, start .inside, counted)) (start .low) (λ h. start .last (omega (arith, counted))) (c .before .before .before .before .behind .result) rest (c .before .one-by-one .result .end) (found .from-low) (omega (arith, found .to-end, counted)) (found .before)
             (λ h. found .above (omega (arith, counted)))),
       ),
     )

@@ -48,7 +48,7 @@ returns-2 c =
     let counted = c .before .before .before .before .before .before .leaf-count .ensures in (
       (omega (arith, found .to-end, counted), omega (arith, found .to-end, counted)),
       λ words m input is ready keyed. sym (run-exact table words m input is ready (a .upper) (c .before .before .before .before .before .before .before .before .before .pre .1 .0) keys keyed ((getD keys (a .upper) 0 * 2 ^ 8) % 2 ^ 64) refl (start-of .result)
-          (omega (arith, start-of .ensures .0, counted)) (start-of .ensures .1 .0) (λ h. start-of .ensures .1 .1 (omega (arith, counted))) (c .before .behind .result) (c .before .behind .ensures ∙ ap (λ (n : ℕ). 256 ^ (8 - pred n)) (c .before .before .before .before .before .word-length .ensures .0))
+          (omega (arith, start-of .ensures .inside, counted)) (start-of .ensures .low) (λ h. start-of .ensures .last (omega (arith, counted))) (c .before .behind .result) (c .before .behind .ensures ∙ ap (λ (n : ℕ). 256 ^ (8 - pred n)) (c .before .before .before .before .before .word-length .ensures .0))
           (c .first-above .result) (found .from-low) (omega (arith, found .to-end, counted)) (found .before) (λ h. found .above (omega (arith, counted)))),
     )
 
