@@ -101,7 +101,7 @@ fn one_by_one(keys: &[u64], numbers: &[u8], count: usize, run: Run, last: u64) -
     Run { set, end: leaf }
 }
 
-// The weights of all lower leaves that fit an upper one. All leaves fit one whose word has one digit.
+// The weights of all lower leaves that fit an upper one. All leaves fit one whose word has one digit; often one alone fits.
 fn fitting(
     degree: Degree,
     leaves: &[u8],
@@ -138,7 +138,15 @@ fn fitting(
     }
     let tail = keys[upper] << 8;
     let last = tail | runs::behind(length);
-    let start = runs::start_of(keys, count, guess, tail);
+    let low = runs::low_leaf(keys, count, guess, tail);
+    if runs::next_above(keys, count, low, last) {
+        return FitRun {
+            set: weight_sets::single(octets::wide(numbers[low])),
+            count: 1,
+            end: low + 1,
+        };
+    }
+    let start = runs::last_from(keys, count, low, tail);
     let run = one_by_one(
         keys,
         numbers,

@@ -80,7 +80,7 @@ module _ (leaves : Section) (words : List ℕ) (m : ℕ) (input : 0 < m) (is : L
               | no below ↦ omega arith
             ]
 
-    module _ (behind : ℕ) (rest : behind + 1 ≡ 256 ^ (8 - pred (wordLength leaves u))) (end : ℕ) (low-end : start ≤ end) (high-end : end ≤ leafCount leaves) (before : (k : ℕ) → start ≤ k → suc k ≡ end → getD keys k 0 ≤ bitOr t behind) (above : end < leafCount leaves → bitOr t behind < getD keys end 0) where
+    module _ (behind : ℕ) (rest : behind + 1 ≡ 256 ^ (8 - pred (wordLength leaves u))) (end : ℕ) (low-end : start ≤ end) (high-end : end ≤ leafCount leaves) (before : (k : ℕ) → start < k → suc k ≡ end → getD keys k 0 ≤ bitOr t behind) (above : end < leafCount leaves → bitOr t behind < getD keys end 0) where
       last : bitOr t behind + 1 ≡ tailNumber leaves words ready u hu + 256 ^ (8 - pred (wordLength leaves u))
       last =
           ap (λ (x : ℕ). bitOr x behind + 1) same ∙ last-number (tail c u) (pred (wordLength leaves u)) behind rest
@@ -104,3 +104,16 @@ module _ (leaves : Section) (words : List ℕ) (m : ℕ) (input : 0 < m) (is : L
       pub run-exact : lowerCount c u ≡ end - start
       run-exact =
           run-count c u start end low-end high-end fits-in (run-within leaves words ready u hu keys keyed t behind start end tail-is-t rest inside low above)
+
+  -- a leaf fits alone where the next one is above all that begin with the tail
+  pub alone-exact : (keys : List ℕ) → Keyed leaves words keys (leafCount leaves) → (t : ℕ) → t ≡ (getD keys u 0 * 2 ^ 8) % 2 ^ 64 → (start : ℕ) → start + 1 < leafCount leaves → (0 < start → getD keys start 0 ≤ t)
+      → (behind : ℕ) → behind + 1 ≡ 256 ^ (8 - pred (wordLength leaves u)) → bitOr t behind < getD keys (start + 1) 0 → lowerCount c u ≡ 1
+  alone-exact keys keyed t is-tail start there low behind rest above =
+      let at : start + 1 ≡ suc start = omega arith in
+      let same : t ≡ tailNumber leaves words ready u hu = tail-is leaves words ready u hu t (is-tail ∙ ap (λ (x : ℕ). (x * 2 ^ 8) % 2 ^ 64) (keyed u hu)) in
+      let last = ap (λ (x : ℕ). bitOr x behind + 1) same ∙ last-number (tail c u) (pred (wordLength leaves u)) behind rest in
+      let next : t < getD keys (suc start) 0 = subst (λ (k : ℕ). t < getD keys k 0) at (omega (arith, same, last, above, unit-some 256 (omega arith) (pred (wordLength leaves u)))) in
+      run-exact keys keyed t is-tail start (omega arith) low (λ h. next) behind rest (start + 1) (omega arith) (omega arith) (λ k l e. absurd (omega arith)) (λ h. above) ∙ one-more start
+    where
+      one-more : (k : ℕ) → k + 1 - k ≡ 1
+      one-more k = omega arith

@@ -1,5 +1,6 @@
 // Words as numbers, and the runs of lower leaves that fit an upper one, as places among them.
 ghost use mathlib.Core.Path.{_≡_};
+ghost use mathlib.Core.Bool.{true};
 ghost use mathlib.Core.List.{List};
 ghost use Prim.Native.Nat.{ℕ, _+_, _-_, _<_, _≤_, _^_, pred};
 ghost use lib.ListN.{length, getD};
@@ -103,9 +104,41 @@ fn first_above(keys: &[u64], from: usize, end: usize, bound: u64) -> usize
     by_halves(keys, low, end, bound)
 }
 
+// A leaf whose word is at most a tail with zeros behind it: the guessed one, the one before it, or leaf 0.
+pub fn low_leaf(keys: &[u64], count: usize, guess: usize, tail: u64) -> usize
+    requires { ⌜ (0 < count) × (count ≤ length (now keys)) × (guess ≤ count) ⌝ }
+    ensures within { λ r. ⌜ r < count ⌝ }
+    ensures low { λ r. ⌜ (0 < r → getD (now (keys .entry)) r 0 ≤ tail) ⌝ }
+{
+    if guess < count {
+        if keys[guess] <= tail {
+            return guess;
+        }
+    }
+    if 0 < guess {
+        let before = guess - 1;
+        if keys[before] <= tail {
+            return before;
+        }
+    }
+    0
+}
+
+// Whether the next leaf is there and its word above a number.
+pub fn next_above(keys: &[u64], count: usize, leaf: usize, number: u64) -> bool
+    requires { ⌜ (leaf < count) × (count ≤ length (now keys)) ⌝ }
+    ensures { λ r. ⌜ (r ≡ true → (leaf + 1 < count) × (number < getD (now (keys .entry)) (leaf + 1) 0)) ⌝ }
+{
+    let next = leaf + 1;
+    if count <= next {
+        return false;
+    }
+    number < keys[next]
+}
+
 // From a leaf on whose word is at most a tail with zeros behind it, or from leaf 0, the last such leaf. Most of the time the next leaf's is
 // above the tail.
-fn last_from(keys: &[u64], count: usize, low: usize, tail: u64) -> usize
+pub fn last_from(keys: &[u64], count: usize, low: usize, tail: u64) -> usize
     requires { ⌜ (low < count) × (count ≤ length (now keys)) × (0 < low → getD (now keys) low 0 ≤ tail) ⌝ }
     ensures { λ r. ⌜ LastLow (now (keys .entry)) tail count r ⌝ }
 {
@@ -116,35 +149,6 @@ fn last_from(keys: &[u64], count: usize, low: usize, tail: u64) -> usize
         }
     }
     low
-}
-
-// The last leaf whose word is at most a tail with zeros behind it, where the guessed one's is above it: the one before it, or from leaf 0 on.
-fn start_before(keys: &[u64], count: usize, guess: usize, tail: u64) -> usize
-    requires { ⌜ (0 < count) × (count ≤ length (now keys)) × (guess ≤ count) × (guess < count → tail < getD (now keys) guess 0) ⌝ }
-    ensures { λ r. ⌜ LastLow (now (keys .entry)) tail count r ⌝ }
-{
-    if guess == 0 {
-        return last_from(keys, count, 0, tail);
-    }
-    let before = guess - 1;
-    if keys[before] <= tail {
-        return before;
-    }
-    last_from(keys, count, 0, tail)
-}
-
-// The last leaf whose word is at most a tail with zeros behind it.
-pub fn start_of(keys: &[u64], count: usize, guess: usize, tail: u64) -> usize
-    requires { ⌜ (0 < count) × (count ≤ length (now keys)) × (guess ≤ count) ⌝ }
-    ensures { λ r. ⌜ LastLow (now (keys .entry)) tail count r ⌝ }
-{
-    if guess == count {
-        return start_before(keys, count, guess, tail);
-    }
-    if keys[guess] <= tail {
-        return last_from(keys, count, guess, tail);
-    }
-    start_before(keys, count, guess, tail)
 }
 
 // The lower leaves that fit an upper one. All leaves fit one whose word has one digit.
@@ -166,7 +170,8 @@ fn run_of(degree: Degree, leaves: &[u8], keys: &[u64], upper: usize, guess: usiz
         };
     }
     let tail = keys[upper] << 8;
-    let start = start_of(keys, count, guess, tail);
+    let low = low_leaf(keys, count, guess, tail);
+    let start = last_from(keys, count, low, tail);
     let end = first_above(keys, start, count, tail | behind(length));
     Run {
         fitting: end - start,

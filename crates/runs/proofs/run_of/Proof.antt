@@ -26,8 +26,11 @@ mul-tail c = search needs
 shared-slice-read-tail : tie.Need-shared-slice-read-tail
 shared-slice-read-tail c = search needs
 
-start-of-requires : tie.Need-start-of-requires
-start-of-requires c κs = search needs
+low-leaf-requires : tie.Need-low-leaf-requires
+low-leaf-requires c κs = search needs
+
+last-from-requires : tie.Need-last-from-requires
+last-from-requires c κs = search needs
 
 behind-requires : tie.Need-behind-requires
 behind-requires c κs = search needs
@@ -35,21 +38,21 @@ behind-requires c κs = search needs
 first-above-requires : tie.Need-first-above-requires
 first-above-requires c κs = search needs
 
-sub-t12 : tie.Need-sub-t12
-sub-t12 c = search needs
+sub-t13 : tie.Need-sub-t13
+sub-t13 c = search needs
 
 returns-2 : tie.Need-returns-2
 returns-2 c =
-    let a = c .before .before .before .before .before .before .before .before .before .args in
+    let a = c .before .before .before .before .before .before .before .before .before .before .args in
     let table = ofDegree (a .degree) (a .leaves .now) in
     let keys = a .keys .now in
-    let start-of = c .before .before .start-of in
+    let start = c .before .before .last-from .ensures in
     let found = c .first-above .ensures in
-    let counted = c .before .before .before .before .before .before .leaf-count .ensures in (
+    let counted = c .before .before .before .before .before .before .before .leaf-count .ensures in (
       (omega (arith, found .to-end, counted), omega (arith, found .to-end, counted)),
-      λ words m input is ready keyed. sym (run-exact table words m input is ready (a .upper) (c .before .before .before .before .before .before .before .before .before .pre .1 .0) keys keyed ((getD keys (a .upper) 0 * 2 ^ 8) % 2 ^ 64) refl (start-of .result)
-          (omega (arith, start-of .ensures .inside, counted)) (start-of .ensures .low) (λ h. start-of .ensures .last (omega (arith, counted))) (c .before .behind .result) (c .before .behind .ensures ∙ ap (λ (n : ℕ). 256 ^ (8 - pred n)) (c .before .before .before .before .before .word-length .ensures .0))
-          (c .first-above .result) (found .from-low) (omega (arith, found .to-end, counted)) (found .before) (λ h. found .above (omega (arith, counted)))),
+      λ words m input is ready keyed. sym (run-exact table words m input is ready (a .upper) (c .before .before .before .before .before .before .before .before .before .before .pre .1 .0) keys keyed ((getD keys (a .upper) 0 * 2 ^ 8) % 2 ^ 64) refl (c .before .before .last-from .result)
+          (omega (arith, start .inside, counted)) (start .low) (λ h. start .last (omega (arith, counted))) (c .before .behind .result) (c .before .behind .ensures ∙ ap (λ (n : ℕ). 256 ^ (8 - pred n)) (c .before .before .before .before .before .before .word-length .ensures .0))
+          (c .first-above .result) (found .from-low) (omega (arith, found .to-end, counted)) (λ k l. found .before k (omega arith)) (λ h. found .above (omega (arith, counted)))),
     )
 
 pub run-of-spec : {M : Type 1} → statement M
@@ -61,8 +64,9 @@ run-of-spec =
     returns
     mul-tail
     shared-slice-read-tail
-    start-of-requires
+    low-leaf-requires
+    last-from-requires
     behind-requires
     first-above-requires
-    sub-t12
+    sub-t13
     returns-2)
