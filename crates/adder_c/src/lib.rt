@@ -10,12 +10,13 @@ ghost use Rattle.ring.specs.declared.Degree.the-variants.{Four};
 ghost use Rattle.layout_rules.specs.Section.{degreeIn};
 ghost use Rattle.midpoint.specs.Midpoint.{midpointOf};
 ghost use Rattle.table_rules.specs.Check.{checkOutcome};
+ghost use Rattle.forecast_rules.specs.Forecast.{forecastOutcome};
 ghost use Rattle.adder_rules.specs.Calls.{addOutcome, addSum, subtractOutcome, subtractDifference};
 ghost use Rattle.edit_rules.specs.Edit.{editOutcome, editState};
 ghost use Rattle.edit_rules.specs.State.{state};
 ghost use Rattle.value_call_rules.specs.Value.{valueOutcome};
 ghost use Rattle.carried.specs.Tables.{ternFile, binFile};
-ghost use Rattle.answer_rules.specs.Answer.{ifRoom, returned, answered, checkWords, addWords, editWords, elementWords};
+ghost use Rattle.answer_rules.specs.Answer.{ifRoom, returned, answered, checkWords, forecastWords, addWords, editWords, elementWords};
 use midpoint::Element;
 use ring::Degree;
 
@@ -30,6 +31,18 @@ pub extern "C" fn yoyomyrtle_check(file: &[u8], answer: &mut [i64]) -> u64
         return 2;
     }
     answers::checked(answer, table::check(file))
+}
+
+// The number of digits has 64 bits, as usize has.
+#[no_mangle]
+pub extern "C" fn yoyomyrtle_forecast(table: &[u8], digits: u64, answer: &mut [i64]) -> u64
+    ensures outcome { λ r. ⌜ r ≡ returned (forecastOutcome (now (table .entry)) digits) (now (answer .entry)) ⌝ }
+    ensures answer { λ r. ⌜ now (answer .exit) ≡ answered forecastWords (forecastOutcome (now (table .entry)) digits) (now (answer .entry)) ⌝ }
+{
+    if answer.len() < 8 {
+        return 2;
+    }
+    answers::forecasted(answer, forecast::forecast(table, digits as usize))
 }
 
 #[no_mangle]

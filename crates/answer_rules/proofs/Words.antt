@@ -22,24 +22,38 @@ use Rattle.adder_rules.specs.Add.{resultOutcome}
 use Rattle.adder_rules.proofs.Demand.{demand-1 as add-demand-1}
 use Rattle.adder_rules.proofs.Combined.{passed}
 use Rattle.adder_rules.proofs.Reach.{result-reach}
+use Rattle.forecast_rules.specs.declared.ForecastFacts.{ForecastFacts}
+use Rattle.forecast_rules.specs.Forecast.{forecastOutcome}
+use Rattle.forecast_rules.proofs.Facts.{most-pairs, most-bytes}
+use Rattle.forecast_rules.proofs.Other.{check-agrees}
 use Rattle.edit_rules.specs.declared.EditedFacts.{EditedFacts}
 use Rattle.edit_rules.specs.Count.{tally, failing}
 use Rattle.edit_rules.specs.Edit.{count, editOutcome}
 use Rattle.edit_rules.specs.State.{State, renewedCount}
 use Rattle.edit_rules.proofs.Demand.{demand-1 as edit-demand-1}
 use Rattle.edit_rules.proofs.Reach.{edit-reach}
-use Rattle.answer_rules.specs.Answer.{checkWords, addWords, editWords}
+use Rattle.answer_rules.specs.Answer.{checkWords, forecastWords, addWords, editWords}
 
 -- a fault's number and place
 pub fault-words : (g : Group) (n p : ℕ) → n < 2 ^ 63 → p < 2 ^ 63 → refusalWords g n p ≡ pos (groupNumber g) ∷ pos n ∷ pos p ∷ []
 fault-words g n p h l = cons≡ refl (cons≡ (word-small n h) (cons≡ (word-small p l) refl))
 
--- h, leaf count and alphabet size of an accepted table
-pub check-words : (file : List ℕ) (f : Facts) → checkOutcome file ≡ facts f → checkWords f ≡ pos (f .depth) ∷ pos (f .leaves) ∷ pos (f .digits) ∷ []
+-- the number of fitting pairs and n + h of a forecast that isn't refused
+pub forecast-words : (table : List ℕ) (n : ℕ) (f : ForecastFacts) → forecastOutcome table n ≡ facts f → forecastWords f ≡ pos (f .pairs) ∷ pos (f .bytes) ∷ []
+forecast-words table n f is =
+    cons≡ (word-small _ (omega (arith, most-pairs table n f is))) (cons≡ (word-small _ (omega (arith, most-bytes table n f is))) refl)
+
+-- h, leaf count, alphabet size and the number of fitting pairs of an accepted table; the forecast of the same table bounds the pairs
+pub check-words : (file : List ℕ) (f : Facts) → checkOutcome file ≡ facts f → checkWords f ≡ pos (f .depth) ∷ pos (f .leaves) ∷ pos (f .digits) ∷ pos (f .pairs) ∷ []
 unfolding checkOutcome checkFacts
 check-words file f is =
     let r = ready-passed file (unless-given author (tableCheck file) _ f is .0) in
-    rw (demand-1 file .only-facts f is) (cons≡ (word-small _ (omega (arith, r .depth-high))) (cons≡ (word-small _ (omega (arith, r .leaf-lies .counts, r .leaf-count .1))) (cons≡ (word-small _ (omega (arith, r .alphabet-lies .counts, r .alphabet-count .1))) refl)))
+    let few = most-pairs file 0 _ (check-agrees file f is 0 (omega arith)) in
+    let same = demand-1 file .only-facts f is in
+    cons≡ (word-small _ (omega (arith, ap (λ (g : Facts). g .depth) same, r .depth-high)))
+    (cons≡ (word-small _ (omega (arith, ap (λ (g : Facts). g .leaves) same, r .leaf-lies .counts, r .leaf-count .1)))
+    (cons≡ (word-small _ (omega (arith, ap (λ (g : Facts). g .digits) same, r .alphabet-lies .counts, r .alphabet-count .1)))
+    (cons≡ (word-small _ (omega (arith, few))) refl)))
 
 -- n + h and the reach of an addition that isn't refused
 pub add-words : (op : Operation) (file first second : List ℕ) (room : ℕ) (f : AddedFacts) → resultOutcome op file first second room ≡ facts f → addWords f ≡ pos (f .places) ∷ pos (f .reach) ∷ []

@@ -11,6 +11,7 @@ use Rattle.lists.specs.Overwrite.{overwrite}
 use Rattle.faults.specs.Outcome.{Outcome, facts, refused}
 use Rattle.table_rules.specs.declared.Facts.{Facts}
 use Rattle.adder_rules.specs.declared.AddedFacts.{AddedFacts}
+use Rattle.forecast_rules.specs.declared.ForecastFacts.{ForecastFacts}
 use Rattle.edit_rules.specs.declared.EditedFacts.{EditedFacts}
 use Rattle.runner_rules.specs.declared.RanFacts.{RanFacts}
 use Rattle.answer_rules.specs.Word.{wordOf}
@@ -38,9 +39,13 @@ returned outcome answer = ifRoom 8 (length answer) (outcomeStatus outcome) 2
 abbrev pub answered : {F : Type 0} → (F → List ℤ) → Outcome F → List ℤ → List ℤ
 answered words outcome answer = ifRoom 8 (length answer) (overwrite answer 0 (outcomeWords words outcome)) answer
 
--- the facts of the check: h, leaf count and alphabet size
+-- the facts of the check: h, leaf count, alphabet size and the number of fitting pairs
 abbrev pub checkWords : Facts → List ℤ
-checkWords f = wordOf (f .depth) ∷ wordOf (f .leaves) ∷ wordOf (f .digits) ∷ []
+checkWords f = wordOf (f .depth) ∷ wordOf (f .leaves) ∷ wordOf (f .digits) ∷ wordOf (f .pairs) ∷ []
+
+-- the facts of the forecast: the number of fitting pairs, and n + h
+abbrev pub forecastWords : ForecastFacts → List ℤ
+forecastWords f = wordOf (f .pairs) ∷ wordOf (f .bytes) ∷ []
 
 -- the facts of addition and of subtraction: n + h and the reach
 abbrev pub addWords : AddedFacts → List ℤ

@@ -3,14 +3,16 @@ ghost use mathlib.Core.Path.{_≡_};
 ghost use Prim.Native.Nat.{_≤_};
 ghost use lib.ListN.{length};
 ghost use Rattle.lists.specs.Overwrite.{overwrite};
-ghost use Rattle.answer_rules.specs.Answer.{outcomeStatus, outcomeWords, checkWords, addWords, editWords, runWords, elementWords};
+ghost use Rattle.answer_rules.specs.Answer.{outcomeStatus, outcomeWords, checkWords, forecastWords, addWords, editWords, runWords, elementWords};
 ghost use Rattle.table.specs.Answer.{outcomeOf as checkedAs};
+ghost use Rattle.forecast.specs.Answer.{forecastAs};
 ghost use Rattle.adder.specs.Answer.{outcomeOf as addedAs, subtractedAs};
 ghost use Rattle.row_edit.specs.Answer.{outcomeOf as editedAs};
 ghost use Rattle.runner.specs.Answer.{outcomeOf as ranAs};
 ghost use Rattle.value_call.specs.Answer.{valuedAs};
 use adder::Added;
 use adder::Subtracted;
+use forecast_rules::Forecast;
 use ring::Degree;
 use row_edit::Edited;
 use runner::Ran;
@@ -31,11 +33,23 @@ pub fn checked(answer: &mut [i64], given: Checked) -> u64
                     answer_words::word(f.depth),
                     answer_words::word(f.leaves),
                     answer_words::word(f.digits),
+                    answer_words::word(f.pairs),
                 ],
             );
             0
         }
         Checked::Refused(fault) => answer_words::refuse(answer, fault),
+    }
+}
+
+pub fn forecasted(answer: &mut [i64], given: Forecast) -> u64
+    requires { ⌜ 8 ≤ length (now answer) ⌝ }
+    ensures status { λ r. ⌜ r ≡ outcomeStatus (forecastAs given) ⌝ }
+    ensures answer { λ r. ⌜ now (answer .exit) ≡ overwrite (now (answer .entry)) 0 (outcomeWords forecastWords (forecastAs given)) ⌝ }
+{
+    match given {
+        Forecast::Facts(f) => answer_words::put_numbers(answer, f.pairs, f.bytes),
+        Forecast::Refused(fault) => answer_words::refuse(answer, fault),
     }
 }
 

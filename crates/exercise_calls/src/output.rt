@@ -4,6 +4,8 @@ ghost use lib.ListN.{length};
 use adder::Added;
 use adder::Subtracted;
 use faults::Fault;
+use forecast_rules::Forecast;
+use forecast_rules::ForecastFacts;
 use midpoint::Element;
 use ring::Degree;
 use row_edit::Edited;
@@ -88,14 +90,30 @@ fn accepted(facts: Facts) {
     item(b" accepted depth ", facts.depth);
     item(b" leaves ", facts.leaves);
     item(b" digits ", facts.digits);
+    item(b" pairs ", facts.pairs);
 }
 
-// `LABEL accepted depth h leaves L digits A`, or the fault.
+// `LABEL accepted depth h leaves L digits A pairs P`, or the fault.
 pub fn checked(label: &[u8], answer: Checked) {
     word(label);
     match answer {
         Checked::Accepted(facts) => accepted(facts),
         Checked::Refused(fault) => refused(fault),
+    }
+    word(b"\n");
+}
+
+fn foretold(facts: ForecastFacts) {
+    item(b" pairs ", facts.pairs);
+    item(b" bytes ", facts.bytes);
+}
+
+// `LABEL pairs P bytes B`, or the fault.
+pub fn forecasted(label: &[u8], answer: Forecast) {
+    word(label);
+    match answer {
+        Forecast::Facts(facts) => foretold(facts),
+        Forecast::Refused(fault) => refused(fault),
     }
     word(b"\n");
 }

@@ -3,6 +3,7 @@
 use exercise_calls::additions;
 use exercise_calls::arithmetic;
 use exercise_calls::degrees;
+use exercise_calls::forecasts;
 use exercise_calls::lines;
 use exercise_calls::subtractions;
 use exercise_calls::tables;
@@ -56,6 +57,13 @@ fn elements_of_rows() {
     arithmetic::midpoints();
 }
 
+// Job 13
+fn forecast_tables() {
+    forecasts::of_tables();
+    forecasts::of_lengths();
+    forecasts::of_no_table();
+}
+
 // Job 8
 fn degrees_three_and_four() {
     degrees::checks();
@@ -72,5 +80,6 @@ fn main() {
     edited_rows();
     elements_of_rows();
     degrees_three_and_four();
+    forecast_tables();
     lines::of_files();
 }

@@ -1,12 +1,12 @@
 -- Entries of a buffer into which a run was written, place by place.
-use mathlib.Core.Path.{_≡_, sym, ap, _∙_}
+use mathlib.Core.Path.{_≡_, sym, ap, subst, _∙_}
 use mathlib.Core.List.{List, [], _∷_, _++_}
 use Prim.Native.Nat.{ℕ, _+_, _-_, _<_, _≤_}
 use native.Mathlib.Omega.{arith}
-use native.Mathlib.Nat.{zero-add}
+use native.Mathlib.Nat.{zero-add, le-antisymm}
 use native.Mathlib.Decide.{decLt}
 use lib.ListN.{replicate, length, getD, take, drop, set, length-drop, length-replicate, getD-replicate, List·getD-append, List·getD-eq-default}
-use lib.Seq.{length-take-le, getD-take, getD-drop, getD-append-add, ext-getD}
+use lib.Seq.{length-take-le, getD-take, getD-drop, getD-append-add, ext-getD, getD-set-same, getD-set-other}
 use Rattle.lists.specs.Span.{span}
 use Rattle.lists.specs.Overwrite.{overwrite}
 use Rattle.lists.proofs.Span.{length-span, span-add}
@@ -59,3 +59,11 @@ zeros-at n k =
 pub rest-same : (s t : List ℕ) (n : ℕ) → length s ≡ length t → ((j : ℕ) → n ≤ j → getD s j 0 ≡ getD t j 0) → drop n s ≡ drop n t
 rest-same s t n long same =
     ext-getD 0 (drop n s) (drop n t) (length-drop n s ∙ ap (λ (m : ℕ). m - n) long ∙ sym (length-drop n t)) (λ i h. getD-drop n s i 0 ∙ same (n + i) (omega arith) ∙ sym (getD-drop n t i 0))
+
+-- what holds of the first n entries holds of one more
+pub entry-next : (P : ℕ → ℕ → Type 0) (xs : List ℕ) (n v : ℕ) → n < length xs → ((k : ℕ) → k < n → P k (getD xs k 0)) → P n v → (k : ℕ) → k < n + 1 → P k (getD (set xs n v) k 0)
+entry-next P xs n v inside before now k h =
+    elim (decLt k n) [
+      | yes l ↦ subst (P k) (sym (getD-set-other xs n k v 0 (λ e. omega arith))) (before k l)
+      | no l ↦ let last : n ≡ k = le-antisymm (omega arith) (omega arith) in subst (λ (j : ℕ). P j (getD (set xs n v) j 0)) last (subst (P n) (sym (getD-set-same xs n v 0 inside)) now)
+    ]

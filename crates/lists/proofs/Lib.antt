@@ -6,3 +6,5 @@ pub mod Pieces
 pub mod Scan
 pub mod Test
 pub mod Entries
+pub mod Once
+pub mod Count

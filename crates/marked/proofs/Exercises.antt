@@ -3,6 +3,7 @@ use mathlib.Core.Path.{refl}
 use Rattle.lists.specs.Overwrite.{overwrite}
 use Rattle.lists.specs.Scan.{firstFailing, every}
 use Rattle.lists.specs.Span.{span}
+use Rattle.lists.specs.Count.{total, count as counted}
 use Rattle.ring.specs.Base.{baseTrace, baseNorm, discriminant}
 use Rattle.ring.specs.Tests.{expanding, squareBelow, perfectSquare, same}
 use Rattle.ring.specs.Element.{plus, negative, minus}
@@ -31,6 +32,7 @@ use Rattle.numeration.specs.Laws.{convertRow}
 use Rattle.numeration.specs.Elements.{elements}
 use Rattle.numeration.specs.Pairs.{tail, pairDigit}
 use Rattle.numeration.specs.PairTests.{fits, pairDigitAt, pairString, pairRow, pairPasses, upperPasses, lowestBadUpper}
+use Rattle.numeration.specs.PairCount.{lowerCount, pairsBelow, pairCount}
 use Rattle.prefix_rules.specs.Check.{expectedWordStart, leafAllowed, placeCheck, wordIndexCheck, orderCheck, coverCheck, zeroCheck, leafCheck}
 use Rattle.prefix_rules.specs.Coverage.{runEnd, everyRun, covered}
 use Rattle.leaf_rules.specs.Given.{wordGiven, weightGiven}
@@ -54,5 +56,5 @@ use Rattle.marked.specs.Degrees.{cubicWith, cubic, quarticWith, quartic,
 use Rattle.marked.specs.Exercises.{answer, ternWithout, table as exercises, AllRight}
 
 pub all-right : AllRight exercises
-unfolding overwrite firstFailing every span baseTrace baseNorm expanding discriminant squareBelow perfectSquare plus negative minus scale timesOmega product unit same dot times columns matrixOf paddedRows corner paddedTimes paddedMatrix trace alternating without determinant judge _then_ inTurn unless sizeAllowed expectedStart pairAllowed directoryCheck lengthAllowed lengthCheck numberPlace numberCount numberAllowed limitCheckIn limitCheckOf limitCheck degreeOf unsignedAt toSigned omegaOf betaOf baseMatrix discriminantAllowed baseAllowed baseCheck recordAllowed alphabetCheck pairIndex pairListed pairsListed allPairsListed inputsAllowed inputCheck digitCheck operationCheck padded partsAt elementAt indexIn agree lower largest begins leafOf depth precedes window outDigit weightInto weightAt convert lengthAt lengthBelow reachOf convertRow elements tail fits pairDigitAt pairString pairRow pairDigit pairPasses upperPasses lowestBadUpper expectedWordStart leafAllowed placeCheck wordIndexCheck orderCheck coverCheck zeroCheck leafCheck runEnd everyRun covered wordGiven weightGiven layoutCheck digitCheckOf leafCheckOf tableCheck partFacts tableFacts readOutcome pairCheckOf checkFacts checkOutcome inAlphabet badLower badUpper pairCheck badPair unsigned16 signed16 joined recordOf leafRecords directory sections fileOf ternInputs ternWeight ternLeaves ternFile binInputs binWeight2 binWeight1 binLeavesOf binLeaves binFile changed lengthsAllowed indexAllowed indexCheck roomAllowed rowCheck oneRowCheck editCheck partRow indexAt inputRow rowPart outputCheck resultRow digitsOutcome askedOutcome resultOutcome atExit resultIn tally failing newSum count renewOutcome editOutcome editState editAll editAnswers run cubicWith cubic quarticWith quartic root complexRoot answer ternWithout exercises editList after runOutcome runAll
+unfolding overwrite firstFailing every span baseTrace baseNorm expanding discriminant squareBelow perfectSquare plus negative minus scale timesOmega product unit same dot times columns matrixOf paddedRows corner paddedTimes paddedMatrix trace alternating without determinant judge _then_ inTurn unless sizeAllowed expectedStart pairAllowed directoryCheck lengthAllowed lengthCheck numberPlace numberCount numberAllowed limitCheckIn limitCheckOf limitCheck degreeOf unsignedAt toSigned omegaOf betaOf baseMatrix discriminantAllowed baseAllowed baseCheck recordAllowed alphabetCheck pairIndex pairListed pairsListed allPairsListed inputsAllowed inputCheck digitCheck operationCheck padded partsAt elementAt indexIn agree lower largest begins leafOf depth precedes window outDigit weightInto weightAt convert lengthAt lengthBelow reachOf convertRow elements tail fits pairDigitAt pairString pairRow pairDigit pairPasses upperPasses lowestBadUpper total counted lowerCount pairsBelow pairCount expectedWordStart leafAllowed placeCheck wordIndexCheck orderCheck coverCheck zeroCheck leafCheck runEnd everyRun covered wordGiven weightGiven layoutCheck digitCheckOf leafCheckOf tableCheck partFacts tableFacts readOutcome pairCheckOf checkFacts checkOutcome inAlphabet badLower badUpper pairCheck badPair unsigned16 signed16 joined recordOf leafRecords directory sections fileOf ternInputs ternWeight ternLeaves ternFile binInputs binWeight2 binWeight1 binLeavesOf binLeaves binFile changed lengthsAllowed indexAllowed indexCheck roomAllowed rowCheck oneRowCheck editCheck partRow indexAt inputRow rowPart outputCheck resultRow digitsOutcome askedOutcome resultOutcome atExit resultIn tally failing newSum count renewOutcome editOutcome editState editAll editAnswers run cubicWith cubic quarticWith quartic root complexRoot answer ternWithout exercises editList after runOutcome runAll
 all-right = (refl, (refl, (refl, (refl, (refl, (refl, (refl, (refl, (refl, (refl, (refl, (refl, (refl, (refl, (refl, (refl, (refl, (refl, (refl, (refl, (refl, (refl, (refl, (refl, (refl, (refl, (refl, (refl, (refl, (refl, (refl, (refl, (refl, (refl, tt))))))))))))))))))))))))))))))))))

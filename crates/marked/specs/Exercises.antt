@@ -112,7 +112,7 @@ table =
       expected = element (pos 0 ∷ pos 0 ∷ pos 3 ∷ negsuc 0 ∷ []);
     }
     -- a table of degree three: accepted; a sum and an edit
-    ∷ record { exercise = checks cubic; expected = outcome (facts (record { depth = 1; leaves = 9; digits = 5 })) }
+    ∷ record { exercise = checks cubic; expected = outcome (facts (record { depth = 1; leaves = 9; digits = 5; pairs = 81 })) }
     ∷ record {
       exercise = adds cubic (2 ∷ 1 ∷ 3 ∷ []) (2 ∷ 2 ∷ 4 ∷ []) (9 ∷ 9 ∷ 9 ∷ 9 ∷ 9 ∷ []);
       expected = summed (facts (record { places = 4; reach = 1 })) (1 ∷ 1 ∷ 1 ∷ 3 ∷ 9 ∷ []);
@@ -122,7 +122,7 @@ table =
       expected = ran (state (2 ∷ 1 ∷ 3 ∷ []) (2 ∷ 4 ∷ 4 ∷ []) (1 ∷ 0 ∷ 0 ∷ 3 ∷ 9 ∷ [])) (facts (record { count = 2; reach = 1 }) ∷ []);
     }
     -- one of degree four, with h = 2
-    ∷ record { exercise = checks quartic; expected = outcome (facts (record { depth = 2; leaves = 13; digits = 3 })) }
+    ∷ record { exercise = checks quartic; expected = outcome (facts (record { depth = 2; leaves = 13; digits = 3; pairs = 65 })) }
     ∷ record {
       exercise = adds quartic (1 ∷ 1 ∷ 2 ∷ []) (1 ∷ 0 ∷ 2 ∷ []) (9 ∷ 9 ∷ 9 ∷ 9 ∷ 9 ∷ 9 ∷ []);
       expected = summed (facts (record { places = 5; reach = 2 })) (0 ∷ 0 ∷ 1 ∷ 2 ∷ 0 ∷ 9 ∷ []);
@@ -132,12 +132,12 @@ table =
       expected = ran (state (2 ∷ 1 ∷ 2 ∷ []) (1 ∷ 0 ∷ 2 ∷ []) (0 ∷ 1 ∷ 0 ∷ 2 ∷ 0 ∷ 9 ∷ [])) (facts (record { count = 2; reach = 2 }) ∷ []);
     }
     -- of degree three and four, where ω·ω times a digit is 3 and −3 times it: words of two digits, 81 leaves
-    ∷ record { exercise = checks root; expected = outcome (facts (record { depth = 2; leaves = 81; digits = 5 })) }
+    ∷ record { exercise = checks root; expected = outcome (facts (record { depth = 2; leaves = 81; digits = 5; pairs = 729 })) }
     ∷ record {
       exercise = runs root (2 ∷ 1 ∷ 3 ∷ []) (2 ∷ 2 ∷ 4 ∷ []) (9 ∷ 9 ∷ 9 ∷ 9 ∷ 9 ∷ []) (record { row = 1; place = 1; digit = 4 } ∷ []);
       expected = ran (state (2 ∷ 1 ∷ 3 ∷ []) (2 ∷ 4 ∷ 4 ∷ []) (1 ∷ 3 ∷ 1 ∷ 0 ∷ 3 ∷ [])) (facts (record { count = 2; reach = 2 }) ∷ []);
     }
-    ∷ record { exercise = checks complexRoot; expected = outcome (facts (record { depth = 2; leaves = 81; digits = 5 })) }
+    ∷ record { exercise = checks complexRoot; expected = outcome (facts (record { depth = 2; leaves = 81; digits = 5; pairs = 729 })) }
     ∷ record {
       exercise = adds complexRoot (2 ∷ 1 ∷ 3 ∷ []) (2 ∷ 2 ∷ 4 ∷ []) (9 ∷ 9 ∷ 9 ∷ 9 ∷ 9 ∷ 9 ∷ []);
       expected = summed (facts (record { places = 5; reach = 2 })) (1 ∷ 0 ∷ 3 ∷ 3 ∷ 1 ∷ 9 ∷ []);

@@ -6,6 +6,7 @@ pub mod Ends
 pub mod Reach
 pub mod Pairs
 pub mod Runs
+pub mod PairCount
 pub mod Changes
 pub mod Laws
 pub mod Elements

@@ -44,6 +44,9 @@ module _ {A : Type 0} (c : Code A) (m : ℕ) (p : PrefixCode c m) (ordered : (k 
   pub run-found : lowestFit c u < c .leaves
   run-found = found .0
 
+  pub run-begins : Begins c (lowestFit c u) (tailThenZeros c u)
+  run-begins = found .1
+
   pub run-first : Fits c u (lowestFit c u)
   run-first i h = sym (reads i (omega arith) (omega arith))
 

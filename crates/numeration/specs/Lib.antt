@@ -7,6 +7,7 @@ pub mod Reach
 pub mod ReachOf
 pub mod Pairs
 pub mod PairTests
+pub mod PairCount
 pub mod Runs
 pub mod Value
 pub mod Changes

@@ -6,7 +6,9 @@ use Prim.Native.Nat.{ℕ, _+_, _<_}
 use lib.IntN.{ℤ}
 use lib.ListN.{getD}
 use lib.Bits.{bitAnd}
+use native.Mathlib.Omega.{arith}
 use borrow.Author.Count.{below-more}
+use Rattle.lists.specs.Count.{total}
 use Rattle.ring.specs.Degree.{partCount}
 use Rattle.lists.proofs.Test.{clash}
 use Rattle.ring.specs.Element.{plus}
@@ -15,6 +17,7 @@ use Rattle.digit_rules.specs.Record.{recordAt}
 use Rattle.numeration.specs.Elements.{elements}
 use Rattle.numeration.specs.Pairs.{Fits}
 use Rattle.numeration.specs.PairTests.{fits, pairPasses}
+use Rattle.numeration.specs.PairCount.{pairsBelow}
 use Rattle.numeration.proofs.Agreement.{agree-sound, agree-complete}
 use Rattle.numeration.proofs.Runs.{unfit-passes}
 use Rattle.leaf_rules.specs.Leaf.{leafCount, codeOf}
@@ -22,9 +25,15 @@ use Rattle.prefix_rules.specs.Formed.{LeavesFormed}
 use Rattle.table_rules.specs.Pairs.{inAlphabet, upperPart}
 use Rattle.table_rules.proofs.Fitting.{pair-is}
 use Rattle.weight_sets.specs.Bits.{Has}
-use Rattle.pair_sets.specs.Runs.{AllPass}
+use Rattle.pair_sets.specs.Runs.{AllPass, Judgement}
 use Rattle.weight_sets.specs.Weights.{WeightsNumbered, Good}
 use Rattle.weight_sets.proofs.Bits.{has-part}
+
+-- a look that gives up says nothing of any leaf
+pub none-judged : (matrix : List (List ℤ)) (alphabet inputs leaves : Section) (words : List ℕ) → Judgement matrix alphabet inputs leaves words (record { uppers = 0; pairs = 0 })
+unfolding pairsBelow total
+none-judged matrix alphabet inputs leaves words =
+    record { some-leaves = omega arith; all-pass = λ u h. absurd (omega arith); pairs-are = refl }
 
 module _ (leaves : Section) (words : List ℕ) (m : ℕ) (input : 0 < m) (is : LeavesFormed leaves words m) (matrix : List (List ℤ)) (inputs alphabet : Section) (numbers first : List ℕ) (count : ℕ) (numbered : WeightsNumbered leaves numbers first count (leafCount leaves)) where
   module _ (u : ℕ) (hu : u < leafCount leaves) (lower known : ℕ) (covered : (l : ℕ) → l < leafCount leaves → Fits (codeOf leaves words) u l → Has lower (getD numbers l 0)) (among : bitAnd lower known ≡ lower) (good : Good alphabet leaves first (upperPart matrix inputs leaves words u) known) where

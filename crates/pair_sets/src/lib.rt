@@ -1,19 +1,22 @@
-// Rule 14's quick look, by sets of weights: how many upper leaves, from the first on, are seen to give alphabet digits in all their pairs.
+// Rule 14's quick look, by sets of weights: how many upper leaves, from the first on, are seen to give alphabet digits in all their pairs, and
+// how many pairs these are.
 ghost use mathlib.Core.Path.{_≡_};
 ghost use mathlib.Core.List.{List};
-ghost use Prim.Native.Nat.{ℕ, _+_, _-_, _/_, _<_, _≤_, _^_, pred};
+ghost use Prim.Native.Nat.{ℕ, _/_, _<_, _≤_, _^_};
 ghost use lib.ListN.{length, getD};
-ghost use Rattle.ring.specs.declared.Degree.the-variants.{Two};
 ghost use Rattle.layout_rules.specs.Section.{ofDegree};
 ghost use Rattle.ring.specs.Tests.{RowsWithin};
 ghost use Rattle.digit_rules.specs.BaseMatrix.{baseMatrix};
 ghost use Rattle.digit_rules.specs.Digits.{BasePart};
 ghost use Rattle.digit_rules.specs.Record.{elementCount};
 ghost use Rattle.numeration.specs.Pairs.{Fits};
+ghost use Rattle.numeration.specs.PairCount.{lowerCount};
 ghost use Rattle.leaf_rules.specs.Leaf.{leafCount, codeOf, wordLength};
 ghost use Rattle.prefix_rules.specs.Check.{leafCheck};
+ghost use Rattle.prefix_rules.specs.Formed.{LeavesFormed};
+ghost use Rattle.runs.specs.Words.{WordsOrdered, Keyed, Between, FirstAbove};
 ghost use Rattle.weight_sets.specs.Bits.{Has};
-ghost use Rattle.pair_sets.specs.Runs.{WordsOrdered, Keyed, InRun, AllPass};
+ghost use Rattle.pair_sets.specs.Runs.{InRun, Judgement};
 ghost use Rattle.weight_sets.specs.Weights.{WeightsNumbered, Covers};
 use ring::Degree;
 
@@ -37,41 +40,17 @@ struct Run {
     end: usize,
 }
 
-// The words of all leaves as numbers.
-fn keys_of(degree: Degree, leaves: &[u8], words: &[u8], keys: &mut [u64])
-    requires room { ⌜ leafCount (ofDegree degree (now leaves)) ≤ length (now keys) ⌝ }
-    requires ordered { ⌜ WordsOrdered (ofDegree degree (now leaves)) (now words) ⌝ }
-    ensures { λ r. ⌜ Keyed (ofDegree degree (now (leaves .entry))) (now (words .entry)) (now (keys .exit)) (leafCount (ofDegree degree (now (leaves .entry)))) ⌝ }
-{
-    let count = leaves::leaf_count(degree, leaves);
-    let mut leaf = 0;
-    while leaf < count {
-        let start = leaves::word_start(degree, leaves, leaf);
-        let length = leaves::word_length(degree, leaves, leaf);
-        keys[leaf] = word_numbers::word_number(words, start, length);
-        leaf += 1;
-    }
+// The same of the lower leaves that fit an upper one, and how many they are.
+struct FitRun {
+    set: u64,
+    count: usize,
+    end: usize,
 }
 
-// The same with the degree as a constant where it is two, so that the size of a record is one too.
-fn keys_of_at_two(leaves: &[u8], words: &[u8], keys: &mut [u64])
-    requires room { ⌜ leafCount (ofDegree Two (now leaves)) ≤ length (now keys) ⌝ }
-    requires ordered { ⌜ WordsOrdered (ofDegree Two (now leaves)) (now words) ⌝ }
-    ensures { λ r. ⌜ Keyed (ofDegree Two (now (leaves .entry))) (now (words .entry)) (now (keys .exit)) (leafCount (ofDegree Two (now (leaves .entry)))) ⌝ }
-{
-    keys_of(Degree::Two, leaves, words, keys)
-}
-
-fn keys_of_by(degree: Degree, leaves: &[u8], words: &[u8], keys: &mut [u64])
-    requires room { ⌜ leafCount (ofDegree degree (now leaves)) ≤ length (now keys) ⌝ }
-    requires ordered { ⌜ WordsOrdered (ofDegree degree (now leaves)) (now words) ⌝ }
-    ensures { λ r. ⌜ Keyed (ofDegree degree (now (leaves .entry))) (now (words .entry)) (now (keys .exit)) (leafCount (ofDegree degree (now (leaves .entry)))) ⌝ }
-{
-    match degree {
-        Degree::Two => keys_of_at_two(leaves, words, keys),
-        Degree::Three => keys_of(degree, leaves, words, keys),
-        Degree::Four => keys_of(degree, leaves, words, keys),
-    }
+// How many upper leaves, from the first on, are seen to pass, and how many pairs they have.
+pub struct PassedLeaves {
+    pub uppers: usize,
+    pub pairs: usize,
 }
 
 // The first digit of a word, by its number.
@@ -82,38 +61,10 @@ fn first_digit(key: u64) -> usize
     (key / 72057594037927936) as usize
 }
 
-// What the words that begin with an upper word's tail have behind it at most, by the upper word's length.
-fn behind(length: usize) -> u64
-    requires { ⌜ (1 ≤ length) × (length ≤ 8) ⌝ }
-    ensures { λ r. ⌜ r + 1 ≡ 256 ^ (8 - pred length) ⌝ }
-{
-    18446744073709551615 >> (8 * (length - 1))
-}
-
-// The leaf from which on words may begin with a tail, or begin it: the guessed one, the one before it, or leaf 0.
-fn start_of(keys: &[u64], count: usize, guess: usize, tail: u64) -> usize
-    requires { ⌜ (count ≤ length (now keys)) × (guess ≤ count) ⌝ }
-    ensures within { λ r. ⌜ r ≤ count ⌝ }
-    ensures low { λ r. ⌜ (0 < r → (r < count) × (getD (now (keys .entry)) r 0 ≤ tail)) ⌝ }
-{
-    if guess < count {
-        if keys[guess] <= tail {
-            return guess;
-        }
-    }
-    if 0 < guess {
-        let before = guess - 1;
-        if keys[before] <= tail {
-            return before;
-        }
-    }
-    0
-}
-
 // The weights from a leaf on, eight leaves at a time, while their words are at most the last one.
 fn by_eights(keys: &[u64], sets: &[u64], count: usize, start: usize, last: u64) -> Run
     requires room { ⌜ (count ≤ length (now keys)) × (count ≤ length (now sets)) × (start ≤ count) ⌝ }
-    ensures end { λ r. ⌜ (start ≤ r .end) × (r .end ≤ count) ⌝ }
+    ensures end { λ r. ⌜ Between (now (keys .entry)) last start count (r .end) count ⌝ }
     ensures set { λ r. ⌜ ((numbers : List ℕ) → Covers numbers (now (sets .entry)) count 8 → InRun numbers start (r .set) (r .end)) ⌝ }
 {
     let mut set = 0;
@@ -133,7 +84,8 @@ fn by_eights(keys: &[u64], sets: &[u64], count: usize, start: usize, last: u64) 
 fn one_by_one(keys: &[u64], numbers: &[u8], count: usize, run: Run, last: u64) -> Run
     requires room { ⌜ (count ≤ length (now keys)) × (count ≤ length (now numbers)) × (run .end ≤ count) ⌝ }
     requires weights { ⌜ ((k : ℕ) → k < count → getD (now numbers) k 0 < 64) ⌝ }
-    ensures end { λ r. ⌜ (run .end ≤ r .end) × (r .end ≤ count) × (r .end < count → last < getD (now (keys .entry)) (r .end) 0) ⌝ }
+    ensures end { λ r. ⌜ ((start : ℕ) → Between (now (keys .entry)) last start count (run .end) count
+        → FirstAbove (now (keys .entry)) last start count (r .end)) ⌝ }
     ensures set { λ r. ⌜ ((start : ℕ) → InRun (now (numbers .entry)) start (run .set) (run .end)
         → InRun (now (numbers .entry)) start (r .set) (r .end)) ⌝ }
 {
@@ -159,7 +111,7 @@ fn fitting(
     all: u64,
     upper: usize,
     guess: usize,
-) -> Run
+) -> FitRun
     requires room { ⌜ (leafCount (ofDegree degree (now leaves)) ≤ length (now keys)) × (leafCount (ofDegree degree (now leaves)) ≤ length (now numbers))
         × (leafCount (ofDegree degree (now leaves)) ≤ length (now sets)) ⌝ }
     requires upper { ⌜ (upper < leafCount (ofDegree degree (now leaves))) × (1 ≤ wordLength (ofDegree degree (now leaves)) upper) × (wordLength (ofDegree degree (now leaves)) upper ≤ 8)
@@ -167,27 +119,41 @@ fn fitting(
     requires weights { ⌜ ((k : ℕ) → k < leafCount (ofDegree degree (now leaves)) → getD (now numbers) k 0 < 64)
         × Covers (now numbers) (now sets) (leafCount (ofDegree degree (now leaves))) 8
         × ((k : ℕ) → k < leafCount (ofDegree degree (now leaves)) → Has all (getD (now numbers) k 0)) ⌝ }
-    ensures end { λ r. ⌜ r .end ≤ leafCount (ofDegree degree (now (leaves .entry))) ⌝ }
+    ensures end { λ r. ⌜ (r .end ≤ leafCount (ofDegree degree (now (leaves .entry)))) × (r .count ≤ leafCount (ofDegree degree (now (leaves .entry)))) ⌝ }
     ensures set { λ r. ⌜ (let table = ofDegree degree (now (leaves .entry)) in
         (words : List ℕ) → WordsOrdered table words → Keyed table words (now (keys .entry)) (leafCount table)
         → (l : ℕ) → l < leafCount table → Fits (codeOf table words) upper l → Has (r .set) (getD (now (numbers .entry)) l 0)) ⌝ }
+    ensures count { λ r. ⌜ (let table = ofDegree degree (now (leaves .entry)) in
+        (words : List ℕ) (m : ℕ) → 0 < m → LeavesFormed table words m → WordsOrdered table words → Keyed table words (now (keys .entry)) (leafCount table)
+        → r .count ≡ lowerCount (codeOf table words) upper) ⌝ }
 {
     let count = leaves::leaf_count(degree, leaves);
     let length = leaves::word_length(degree, leaves, upper);
     if length == 1 {
-        return Run {
+        return FitRun {
             set: all,
+            count,
             end: count,
         };
     }
     let tail = keys[upper] << 8;
-    let last = tail | behind(length);
-    let start = start_of(keys, count, guess, tail);
-    let run = by_eights(keys, sets, count, start, last);
-    one_by_one(keys, numbers, count, run, last)
+    let last = tail | runs::behind(length);
+    let start = runs::start_of(keys, count, guess, tail);
+    let run = one_by_one(
+        keys,
+        numbers,
+        count,
+        by_eights(keys, sets, count, start, last),
+        last,
+    );
+    FitRun {
+        set: run.set,
+        count: run.end - start,
+        end: run.end,
+    }
 }
 
-// How many upper leaves, from the first on, are seen to give alphabet digits with all lower leaves that fit.
+// How many upper leaves, from the first on, are seen to give alphabet digits with all lower leaves that fit, and how many pairs these are.
 fn all_in(
     degree: Degree,
     base: &[[i64; 4]; 4],
@@ -200,25 +166,30 @@ fn all_in(
     sets: &[u64],
     first: &[usize],
     count: usize,
-) -> usize
+) -> PassedLeaves
     requires table { ⌜ RowsWithin (2 ^ 21) (now base) × (0 < elementCount (ofDegree degree (now inputs)))
         × (leafCheck (ofDegree degree (now leaves)) (now words) (elementCount (ofDegree degree (now inputs))) .number ≡ 0) ⌝ }
     requires room { ⌜ (leafCount (ofDegree degree (now leaves)) ≤ length (now keys)) × (leafCount (ofDegree degree (now leaves)) ≤ length (now numbers))
-        × (leafCount (ofDegree degree (now leaves)) ≤ length (now sets)) × (count ≤ 64) × (count ≤ length (now first)) ⌝ }
+        × (leafCount (ofDegree degree (now leaves)) ≤ length (now sets)) × (count ≤ 64) × (count ≤ length (now first))
+        × (leafCount (ofDegree degree (now leaves)) ≤ 4096) ⌝ }
     requires known { ⌜ Keyed (ofDegree degree (now leaves)) (now words) (now keys) (leafCount (ofDegree degree (now leaves)))
         × WeightsNumbered (ofDegree degree (now leaves)) (now numbers) (now first) count (leafCount (ofDegree degree (now leaves)))
         × Covers (now numbers) (now sets) (leafCount (ofDegree degree (now leaves))) 8 ⌝ }
-    ensures { λ r. ⌜ AllPass (now (base .entry)) (ofDegree degree (now (alphabet .entry))) (ofDegree degree (now (inputs .entry))) (ofDegree degree (now (leaves .entry)))
+    ensures { λ r. ⌜ Judgement (now (base .entry)) (ofDegree degree (now (alphabet .entry))) (ofDegree degree (now (inputs .entry))) (ofDegree degree (now (leaves .entry)))
         (now (words .entry)) r ⌝ }
 {
     let mut slots = [EMPTY; SLOTS];
     if !pair_digits::slot_digits(degree, alphabet, &mut slots) {
-        return 0;
+        return PassedLeaves {
+            uppers: 0,
+            pairs: 0,
+        };
     }
     let mut made = [0; WEIGHTS];
     let mut good = [0; WEIGHTS];
     let leaf_count = leaves::leaf_count(degree, leaves);
     let all = weight_sets::all_weights(count);
+    let mut pairs = 0;
     let mut guess = 0;
     let mut upper = 0;
     while upper < leaf_count {
@@ -243,12 +214,19 @@ fn all_in(
         );
         let set = run.set;
         if set & known != set {
-            return upper;
+            return PassedLeaves {
+                uppers: upper,
+                pairs,
+            };
         }
+        pairs += run.count;
         guess = run.end;
         upper += 1;
     }
-    upper
+    PassedLeaves {
+        uppers: upper,
+        pairs,
+    }
 }
 
 // The same, with room lent for what is kept of the leaves.
@@ -262,20 +240,23 @@ fn look(
     keys: &mut [u64],
     sets: &mut [u64],
     numbers: &mut [u8],
-) -> usize
+) -> PassedLeaves
     requires table { ⌜ BasePart (ofDegree degree (now base)) × (0 < elementCount (ofDegree degree (now inputs)))
         × (leafCheck (ofDegree degree (now leaves)) (now words) (elementCount (ofDegree degree (now inputs))) .number ≡ 0) ⌝ }
     requires room { ⌜ (leafCount (ofDegree degree (now leaves)) ≤ length (now keys)) × (leafCount (ofDegree degree (now leaves)) ≤ length (now sets))
-        × (leafCount (ofDegree degree (now leaves)) ≤ length (now numbers)) ⌝ }
-    ensures { λ r. ⌜ AllPass (baseMatrix (ofDegree degree (now (base .entry)))) (ofDegree degree (now (alphabet .entry))) (ofDegree degree (now (inputs .entry)))
+        × (leafCount (ofDegree degree (now leaves)) ≤ length (now numbers)) × (leafCount (ofDegree degree (now leaves)) ≤ 4096) ⌝ }
+    ensures { λ r. ⌜ Judgement (baseMatrix (ofDegree degree (now (base .entry)))) (ofDegree degree (now (alphabet .entry))) (ofDegree degree (now (inputs .entry)))
         (ofDegree degree (now (leaves .entry))) (now (words .entry)) r ⌝ }
 {
     let mut first = [0; WEIGHTS];
     let count = weight_sets::number_weights_by(degree, leaves, numbers, &mut first);
     if WEIGHTS < count {
-        return 0;
+        return PassedLeaves {
+            uppers: 0,
+            pairs: 0,
+        };
     }
-    keys_of_by(degree, leaves, words, keys);
+    runs::keys_of_by(degree, leaves, words, keys);
     weight_sets::eights(numbers, leaves::leaf_count(degree, leaves), sets);
     let matrix = digits::base_of(degree, base);
     all_in(
@@ -301,11 +282,11 @@ fn look_at_fewest(
     inputs: &[u8],
     leaves: &[u8],
     words: &[u8],
-) -> usize
+) -> PassedLeaves
     requires table { ⌜ BasePart (ofDegree degree (now base)) × (0 < elementCount (ofDegree degree (now inputs)))
         × (leafCheck (ofDegree degree (now leaves)) (now words) (elementCount (ofDegree degree (now inputs))) .number ≡ 0) ⌝ }
     requires fewest { ⌜ leafCount (ofDegree degree (now leaves)) ≤ 32 ⌝ }
-    ensures { λ r. ⌜ AllPass (baseMatrix (ofDegree degree (now (base .entry)))) (ofDegree degree (now (alphabet .entry))) (ofDegree degree (now (inputs .entry)))
+    ensures { λ r. ⌜ Judgement (baseMatrix (ofDegree degree (now (base .entry)))) (ofDegree degree (now (alphabet .entry))) (ofDegree degree (now (inputs .entry)))
         (ofDegree degree (now (leaves .entry))) (now (words .entry)) r ⌝ }
 {
     let mut keys = [0; FEWEST];
@@ -331,11 +312,11 @@ fn look_at_few(
     inputs: &[u8],
     leaves: &[u8],
     words: &[u8],
-) -> usize
+) -> PassedLeaves
     requires table { ⌜ BasePart (ofDegree degree (now base)) × (0 < elementCount (ofDegree degree (now inputs)))
         × (leafCheck (ofDegree degree (now leaves)) (now words) (elementCount (ofDegree degree (now inputs))) .number ≡ 0) ⌝ }
     requires few { ⌜ leafCount (ofDegree degree (now leaves)) ≤ 512 ⌝ }
-    ensures { λ r. ⌜ AllPass (baseMatrix (ofDegree degree (now (base .entry)))) (ofDegree degree (now (alphabet .entry))) (ofDegree degree (now (inputs .entry)))
+    ensures { λ r. ⌜ Judgement (baseMatrix (ofDegree degree (now (base .entry)))) (ofDegree degree (now (alphabet .entry))) (ofDegree degree (now (inputs .entry)))
         (ofDegree degree (now (leaves .entry))) (now (words .entry)) r ⌝ }
 {
     let mut keys = [0; FEW];
@@ -361,11 +342,11 @@ fn look_at_many(
     inputs: &[u8],
     leaves: &[u8],
     words: &[u8],
-) -> usize
+) -> PassedLeaves
     requires table { ⌜ BasePart (ofDegree degree (now base)) × (0 < elementCount (ofDegree degree (now inputs)))
         × (leafCheck (ofDegree degree (now leaves)) (now words) (elementCount (ofDegree degree (now inputs))) .number ≡ 0) ⌝ }
     requires many { ⌜ leafCount (ofDegree degree (now leaves)) ≤ 4096 ⌝ }
-    ensures { λ r. ⌜ AllPass (baseMatrix (ofDegree degree (now (base .entry)))) (ofDegree degree (now (alphabet .entry))) (ofDegree degree (now (inputs .entry)))
+    ensures { λ r. ⌜ Judgement (baseMatrix (ofDegree degree (now (base .entry)))) (ofDegree degree (now (alphabet .entry))) (ofDegree degree (now (inputs .entry)))
         (ofDegree degree (now (leaves .entry))) (now (words .entry)) r ⌝ }
 {
     let mut keys = [0; LEAVES];
@@ -392,10 +373,10 @@ pub fn passed(
     inputs: &[u8],
     leaves: &[u8],
     words: &[u8],
-) -> usize
+) -> PassedLeaves
     requires table { ⌜ BasePart (ofDegree degree (now base)) × (0 < elementCount (ofDegree degree (now inputs)))
         × (leafCheck (ofDegree degree (now leaves)) (now words) (elementCount (ofDegree degree (now inputs))) .number ≡ 0) ⌝ }
-    ensures { λ r. ⌜ AllPass (baseMatrix (ofDegree degree (now (base .entry)))) (ofDegree degree (now (alphabet .entry))) (ofDegree degree (now (inputs .entry)))
+    ensures { λ r. ⌜ Judgement (baseMatrix (ofDegree degree (now (base .entry)))) (ofDegree degree (now (alphabet .entry))) (ofDegree degree (now (inputs .entry)))
         (ofDegree degree (now (leaves .entry))) (now (words .entry)) r ⌝ }
 {
     let count = leaves::leaf_count(degree, leaves);
@@ -408,5 +389,8 @@ pub fn passed(
     if count <= LEAVES {
         return look_at_many(degree, base, alphabet, inputs, leaves, words);
     }
-    0
+    PassedLeaves {
+        uppers: 0,
+        pairs: 0,
+    }
 }

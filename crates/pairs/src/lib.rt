@@ -10,16 +10,18 @@ ghost use Rattle.digit_rules.specs.Record.{recordAt, elementCount};
 ghost use Rattle.numeration.specs.LeafOf.{agree};
 ghost use Rattle.numeration.specs.Elements.{elements};
 ghost use Rattle.numeration.specs.PairTests.{pairPasses};
+ghost use Rattle.numeration.specs.PairCount.{lowerCount, pairCount};
 ghost use Rattle.leaf_rules.specs.Leaf.{leafCount, codeOf};
 ghost use Rattle.prefix_rules.specs.Check.{leafCheck};
 ghost use mathlib.Core.Bool.{true};
 ghost use Rattle.pair_digits.specs.Slots.{Slotted};
-ghost use Rattle.pair_sets.specs.Runs.{AllPass};
+ghost use Rattle.pair_sets.specs.Runs.{Judgement};
 ghost use Rattle.table_rules.specs.Pairs.{inAlphabet, badPair, pairCheck};
-ghost use Prim.Native.Nat.{_+_, _<_, _^_, min, pred};
+ghost use Prim.Native.Nat.{_+_, _<_, _≤_, _^_, min, pred};
 ghost use Rattle.lists.specs.Span.{span};
 ghost use Rattle.lists.specs.Scan.{firstFailing};
 use faults::Refusal;
+use pair_sets::PassedLeaves;
 use ring::Degree;
 use table_rules::Pair;
 
@@ -28,10 +30,23 @@ const SLOTS: usize = 256;
 
 const EMPTY: u8 = 255;
 
-// What an upper leaf gives: its lowest failing lower leaf, or the leaf count, and where the run of its lower leaves ended.
+// What an upper leaf gives: its lowest failing lower leaf, or the leaf count, then how many lower leaves fit, and where their run ended.
 struct Run {
     bad: usize,
+    fitting: usize,
     end: usize,
+}
+
+// The failing pair, or the leaf count twice and then the number of fitting pairs.
+pub struct Scan {
+    pub pair: Pair,
+    pub pairs: usize,
+}
+
+// Rule 14's refusal, and where it has none the number of fitting pairs.
+pub struct Verdict {
+    pub refusal: Refusal,
+    pub pairs: usize,
 }
 
 // The upper word without its first digit, and zeros behind it.
@@ -86,25 +101,30 @@ fn bad_lower(
         × (leafCheck (ofDegree degree (now leaves)) (now words) (elementCount (ofDegree degree (now inputs))) .number ≡ 0) ⌝ }
     requires upper { ⌜ upper < leafCount (ofDegree degree (now leaves)) ⌝ }
     requires slots { ⌜ (known ≡ true → Slotted (ofDegree degree (now alphabet)) (now slots)) ⌝ }
-    ensures { λ r. ⌜ r .bad ≡ firstFailing (pairPasses (elements (partCount degree) (now (base .entry))) (recordAt (ofDegree degree (now (inputs .entry))))
+    ensures bad { λ r. ⌜ r .bad ≡ firstFailing (pairPasses (elements (partCount degree) (now (base .entry))) (recordAt (ofDegree degree (now (inputs .entry))))
         (codeOf (ofDegree degree (now (leaves .entry))) (now (words .entry))) (inAlphabet (ofDegree degree (now (alphabet .entry)))) upper) 0
         (leafCount (ofDegree degree (now (leaves .entry)))) ⌝ }
+    ensures fitting { λ r. ⌜ (leafCount (ofDegree degree (now (leaves .entry))) ≤ r .bad
+        → r .fitting ≡ lowerCount (codeOf (ofDegree degree (now (leaves .entry))) (now (words .entry))) upper) ⌝ }
 {
     let count = leaves::leaf_count(degree, leaves);
     let top = leaves::word(degree, leaves, words, upper);
     let part = pair_digits::upper_part_by(degree, base, inputs, leaves, words, upper);
     let lowest = look_up::look_up_from(degree, leaves, words, tail_window(top), guess);
-    let mut lower = lowest.leaf;
+    let start = lowest.leaf;
+    let mut lower = start;
     while lower < count {
         if !fit(top, leaves::word(degree, leaves, words, lower)) {
             return Run {
                 bad: count,
+                fitting: lower - start,
                 end: lower,
             };
         }
         if !pair_digits::gives_digit_by(degree, alphabet, known, slots, part, leaves, lower) {
             return Run {
                 bad: lower,
+                fitting: 0,
                 end: lower,
             };
         }
@@ -112,12 +132,13 @@ fn bad_lower(
     }
     Run {
         bad: count,
+        fitting: lower - start,
         end: lower,
     }
 }
 
-// The lowest upper leaf that fails with some lower leaf, and the lowest such lower leaf; the leaf count twice where none fails. Those before
-// `passed` are known not to.
+// The lowest upper leaf that fails with some lower leaf, and the lowest such lower leaf; the leaf count twice and the number of fitting pairs
+// where none fails. Those that have `passed` are known not to.
 pub fn bad_pair(
     degree: Degree,
     base: &[u8],
@@ -125,20 +146,24 @@ pub fn bad_pair(
     inputs: &[u8],
     leaves: &[u8],
     words: &[u8],
-    passed: usize,
-) -> Pair
+    passed: PassedLeaves,
+) -> Scan
     requires table { ⌜ BasePart (ofDegree degree (now base)) × (0 < elementCount (ofDegree degree (now inputs)))
         × (leafCheck (ofDegree degree (now leaves)) (now words) (elementCount (ofDegree degree (now inputs))) .number ≡ 0) ⌝ }
-    requires passed { ⌜ AllPass (baseMatrix (ofDegree degree (now base))) (ofDegree degree (now alphabet)) (ofDegree degree (now inputs))
+    requires passed { ⌜ Judgement (baseMatrix (ofDegree degree (now base))) (ofDegree degree (now alphabet)) (ofDegree degree (now inputs))
         (ofDegree degree (now leaves)) (now words) passed ⌝ }
-    ensures { λ r. ⌜ r ≡ badPair (ofDegree degree (now (base .entry))) (ofDegree degree (now (alphabet .entry))) (ofDegree degree (now (inputs .entry))) (ofDegree degree (now (leaves .entry))) (now (words .entry)) ⌝ }
+    requires count { ⌜ leafCount (ofDegree degree (now leaves)) ≤ 4096 ⌝ }
+    ensures pairs { λ r. ⌜ (leafCount (ofDegree degree (now (leaves .entry))) ≤ r .pair .upper
+        → r .pairs ≡ pairCount (codeOf (ofDegree degree (now (leaves .entry))) (now (words .entry)))) ⌝ }
+    ensures pair { λ r. ⌜ r .pair ≡ badPair (ofDegree degree (now (base .entry))) (ofDegree degree (now (alphabet .entry))) (ofDegree degree (now (inputs .entry))) (ofDegree degree (now (leaves .entry))) (now (words .entry)) ⌝ }
 {
     let matrix = digits::base_of(degree, base);
     let mut slots = [EMPTY; SLOTS];
     let known = pair_digits::slot_digits(degree, alphabet, &mut slots);
     let count = leaves::leaf_count(degree, leaves);
+    let mut pairs = passed.pairs;
     let mut guess = 0;
-    let mut upper = passed;
+    let mut upper = passed.uppers;
     while upper < count {
         let run = bad_lower(
             degree,
@@ -154,14 +179,21 @@ pub fn bad_pair(
         );
         let lower = run.bad;
         if lower < count {
-            return Pair { upper, lower };
+            return Scan {
+                pair: Pair { upper, lower },
+                pairs,
+            };
         }
+        pairs += run.fitting;
         guess = run.end;
         upper += 1;
     }
-    Pair {
-        upper: count,
-        lower: count,
+    Scan {
+        pair: Pair {
+            upper: count,
+            lower: count,
+        },
+        pairs,
     }
 }
 
@@ -173,28 +205,40 @@ pub fn pairs(
     inputs: &[u8],
     leaves: &[u8],
     words: &[u8],
-) -> Refusal
+) -> Verdict
     requires table { ⌜ BasePart (ofDegree degree (now base)) × (0 < elementCount (ofDegree degree (now inputs)))
         × (leafCheck (ofDegree degree (now leaves)) (now words) (elementCount (ofDegree degree (now inputs))) .number ≡ 0) ⌝ }
-    ensures { λ r. ⌜ r ≡ pairCheck (ofDegree degree (now (base .entry))) (ofDegree degree (now (alphabet .entry))) (ofDegree degree (now (inputs .entry))) (ofDegree degree (now (leaves .entry))) (now (words .entry)) ⌝ }
+    requires count { ⌜ leafCount (ofDegree degree (now leaves)) ≤ 4096 ⌝ }
+    ensures refusal { λ r. ⌜ r .refusal ≡ pairCheck (ofDegree degree (now (base .entry))) (ofDegree degree (now (alphabet .entry))) (ofDegree degree (now (inputs .entry))) (ofDegree degree (now (leaves .entry))) (now (words .entry)) ⌝ }
+    ensures pairs { λ r. ⌜ (r .refusal .number ≡ 0 → r .pairs ≡ pairCount (codeOf (ofDegree degree (now (leaves .entry))) (now (words .entry)))) ⌝ }
 {
     let count = leaves::leaf_count(degree, leaves);
     let passed = pair_sets::passed(degree, base, alphabet, inputs, leaves, words);
-    if count <= passed {
-        return Refusal {
-            number: 0,
-            place: 0,
+    if count <= passed.uppers {
+        return Verdict {
+            refusal: Refusal {
+                number: 0,
+                place: 0,
+            },
+            pairs: passed.pairs,
         };
     }
     let found = bad_pair(degree, base, alphabet, inputs, leaves, words, passed);
-    if found.upper < count {
-        return Refusal {
-            number: 14,
-            place: found.upper,
+    let pair = found.pair;
+    if pair.upper < count {
+        return Verdict {
+            refusal: Refusal {
+                number: 14,
+                place: pair.upper,
+            },
+            pairs: 0,
         };
     }
-    Refusal {
-        number: 0,
-        place: 0,
+    Verdict {
+        refusal: Refusal {
+            number: 0,
+            place: 0,
+        },
+        pairs: found.pairs,
     }
 }

@@ -4,7 +4,7 @@ use mathlib.Core.Path.{_≡_, refl, sym, ap, ap₂, subst, _∙_}
 use Prim.Native.Nat.{ℕ, zero, suc, _+_, _-_, _*_, _/_, _%_, _^_, _<_, _≤_, min}
 use native.Mathlib.Omega.{arith}
 use native.Mathlib.Decide.{ℕ-discrete, decLt}
-use native.Mathlib.Nat.{add-zero, add-suc, add-assoc, mul-assoc, mul-one, suc-mul, add-mul, pow-zero, pow-suc, one-le-pow, mul-le-mul-right, lt-of-mul-lt-mul-right}
+use native.Mathlib.Nat.{add-zero, add-suc, add-assoc, mul-assoc, mul-one, zero-mul, suc-mul, add-mul, pow-zero, pow-suc, one-le-pow, mul-le-mul-right, lt-of-mul-lt-mul-right}
 use lib.Arith.{digits-lt, digits-div, digits-mod}
 use lib.Pow.{pow-add}
 use Rattle.numeration.specs.Code.{Agree, Lower}
@@ -109,6 +109,18 @@ module _ (b : ℕ) where
       let e : k + (n - k) ≡ n = omega arith in
       subst (λ (x : ℕ). aligned b w x + b ^ (8 - x) ≤ aligned b w k + b ^ (8 - k)) e (split-high w k (n - k) (omega arith) (λ i u. d i (omega arith)))
 
+  -- zeros behind k digits
+  number-zeros : (w : ℕ → ℕ) (n : ℕ) → ((i : ℕ) → i < n → w i ≡ 0) → number b w n ≡ 0
+  unfolding number
+  number-zeros w zero z = refl
+  number-zeros w (suc n) z = ap₂ (λ (x y : ℕ). x * b + y) (number-zeros w n (λ i h. z i (omega arith))) (z n (omega arith)) ∙ add-zero (0 * b) ∙ zero-mul b
+
+  pub aligned-zeros : (w : ℕ → ℕ) (k n : ℕ) → k ≤ n → n ≤ 8 → ((i : ℕ) → k ≤ i → i < n → w i ≡ 0) → aligned b w n ≡ aligned b w k
+  aligned-zeros w k n l h z =
+      let e : k + (n - k) ≡ n = omega arith in
+      let none : number b (λ i. w (k + i)) (n - k) ≡ 0 = number-zeros (λ i. w (k + i)) (n - k) (λ i u. z (k + i) (omega arith) (omega arith)) in
+      ap (aligned b w) (sym e) ∙ aligned-split w k (n - k) (omega arith) ∙ ap (λ (x : ℕ). aligned b w k + x * b ^ (8 - (k + (n - k)))) none ∙ ap (λ (x : ℕ). aligned b w k + x) (zero-mul (b ^ (8 - (k + (n - k))))) ∙ add-zero _
+
   pub aligned-eight : (w : ℕ → ℕ) → aligned b w 8 ≡ number b w 8
   unfolding aligned
   aligned-eight w = ap (λ (x : ℕ). number b w 8 * x) (pow-zero b) ∙ mul-one _
@@ -145,6 +157,15 @@ module _ (b : ℕ) where
           | no p ↦ let q : l ≡ min n l = omega arith in
               subst (Lower v w) q (aligned-lt v w l (λ i x. d i (omega arith)) e (omega (arith, aligned-low v l n (omega arith) h, unit-some n)))
         ]
+
+    -- two words of which neither is lower agree as far as both reach
+    pub neither-lower : (v w : ℕ → ℕ) (n l : ℕ) → n ≤ 8 → l ≤ 8 → Digits b v n → Digits b w l → aligned b v n < aligned b w l + b ^ (8 - l) → aligned b w l < aligned b v n + b ^ (8 - n) → Agree v w (min n l)
+    neither-lower v w n l h u d e low high =
+        number-agree v w (min n l) (λ i x. d i (omega arith)) (λ i x. e i (omega arith)) (omega (
+          arith,
+          aligned-near v w (min n l) (omega (arith, aligned-low v (min n l) n (omega arith) h, aligned-high w (min n l) l (omega arith) u e)),
+          aligned-near w v (min n l) (omega (arith, aligned-low w (min n l) l (omega arith) u, aligned-high v (min n l) n (omega arith) h d)),
+        ))
 
     pub lower-aligned : (v w : ℕ → ℕ) (n l : ℕ) → n ≤ 8 → l ≤ 8 → Digits b v n → Digits b w l → Lower v w (min n l) → aligned b v n + b ^ (8 - n) ≤ aligned b w l
     lower-aligned v w n l h u d e o =

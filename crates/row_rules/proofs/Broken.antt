@@ -13,8 +13,8 @@ use Rattle.faults.specs.Check.{none}
 use Rattle.faults.specs.Rule.{rule}
 use Rattle.faults.specs.Exact.{Exact}
 use Rattle.faults.proofs.Rule.{Decided, exact, places-decided, once-decided, then-decided}
-use Rattle.row_rules.specs.Check.{judgeOne, lengthsAllowed, indexAllowed, indexCheck, roomAllowed, rowCheck, oneRowCheck, editCheck}
-use Rattle.row_rules.specs.Broken.{Broken20, NoIndex, rowRules, oneRowRules, editRules}
+use Rattle.row_rules.specs.Check.{judgeOne, lengthsAllowed, indexAllowed, indexCheck, roomAllowed, rowCheck, digitsCheck, oneRowCheck, editCheck}
+use Rattle.row_rules.specs.Broken.{Broken20, NoIndex, rowRules, digitsRules, oneRowRules, editRules}
 use Rattle.row_rules.specs.Fit.{EditFits}
 use Rattle.row_rules.specs.Rows.{RowFits, RowsFit}
 use Rattle.row_rules.proofs.Fit.{lengths-say}
@@ -65,9 +65,13 @@ rows-decided first second sum digits depth =
 pub rows-exact : (first second : List ℕ) (sum digits depth : ℕ) → Exact (rowRules first second sum digits depth) (rowCheck first second sum digits depth)
 rows-exact first second sum digits depth = exact _ _ (rows-decided first second sum digits depth)
 
+-- Rule 20: a number of digits
+pub digits-decided : (n : ℕ) → Decided (digitsRules n) (digitsCheck n)
+digits-decided n = at-most 20 n 256 (omega arith)
+
 pub one-row-decided : (row : List ℕ) (digits : ℕ) → Decided (oneRowRules row digits) (oneRowCheck row digits)
 unfolding oneRowCheck
-one-row-decided row digits = then-decided _ _ _ _ (at-most 20 (length row) 256 (omega arith)) (λ _. indexes-decided 21 digits row (omega arith))
+one-row-decided row digits = then-decided _ _ _ _ (digits-decided (length row)) (λ _. indexes-decided 21 digits row (omega arith))
 
 -- Rules 20 and 21: the one row of a value call
 pub one-row-exact : (row : List ℕ) (digits : ℕ) → Exact (oneRowRules row digits) (oneRowCheck row digits)
@@ -89,6 +93,9 @@ unfolding Unequal
 rows-pass first second sum digits depth fit =
     rows-exact first second sum digits depth .passed .1
     (λ p b. lengths-agree _ _ (fit .short, fit .same-length) (b .1), (λ p b. b .1 (fit .first-indexes p (b .0)), (λ p b. b .1 (fit .second-indexes p (b .0)), (λ p b. omega (arith, b .1, fit .room), tt))))
+
+pub digits-pass : (n : ℕ) → n ≤ 256 → digitsCheck n ≡ none
+digits-pass n short = exact _ _ (digits-decided n) .passed .1 (λ p b. omega (arith, b .1), tt)
 
 pub row-passes : (row : List ℕ) (digits : ℕ) → RowFits row digits → oneRowCheck row digits ≡ none
 row-passes row digits fit =

@@ -10,7 +10,7 @@ use borrow.Author.Tests.{ltb-true, leb-true, eqb-true}
 use Rattle.lists.proofs.Test.{both}
 use Rattle.faults.specs.Check.{_then_}
 use Rattle.faults.proofs.Check.{then-kept, judge-passed}
-use Rattle.row_rules.specs.Check.{judgeOne, lengthsAllowed, indexAllowed, indexCheck, roomAllowed, rowCheck, oneRowCheck, editCheck}
+use Rattle.row_rules.specs.Check.{judgeOne, lengthsAllowed, indexAllowed, indexCheck, roomAllowed, rowCheck, digitsCheck, oneRowCheck, editCheck}
 use Rattle.row_rules.specs.Fit.{Indexes, EditFits}
 use Rattle.row_rules.specs.Rows.{RowFits, RowsFit}
 
@@ -48,12 +48,16 @@ rows-fit first second sum digits depth h =
       room = room-says _ _ _ (one-passed 23 _ (omega arith) (d .1));
     }
 
+-- 20 of a number of digits
+pub digits-fit : (n : ℕ) → digitsCheck n .number ≡ 0 → n ≤ 256
+digits-fit n h = leb-true _ _ (one-passed 20 _ (omega arith) h)
+
 -- 20 and 21 of one row
 pub row-fits : (row : List ℕ) (digits : ℕ) → oneRowCheck row digits .number ≡ 0 → RowFits row digits
 unfolding oneRowCheck
 row-fits row digits h =
-    let a : (judgeOne 20 (leb (length row) 256) .number ≡ 0) × (indexCheck 21 digits row .number ≡ 0) = then-kept _ _ h in
-    record { short = leb-true _ _ (one-passed 20 _ (omega arith) (a .0)); indexes = indexes-say 21 digits row (omega arith) (a .1) }
+    let a : (digitsCheck (length row) .number ≡ 0) × (indexCheck 21 digits row .number ≡ 0) = then-kept _ _ h in
+    record { short = digits-fit _ (a .0); indexes = indexes-say 21 digits row (omega arith) (a .1) }
 
 -- 24 to 26
 pub edit-fits : (row place digit n digits : ℕ) → editCheck row place digit n digits .number ≡ 0 → EditFits row place digit n digits

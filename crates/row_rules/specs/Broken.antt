@@ -10,9 +10,12 @@ use Rattle.faults.specs.Rule.{Rule, rule}
 abbrev pub Broken20 : List ℕ → List ℕ → ℕ → Type 0
 Broken20 first second p = (p ≡ 0) × ((256 < length first) ⊎ (256 < length second) ⊎ ¬ (length first ≡ length second))
 
--- the same of the one row of a value call
+-- the same of a number of digits, and so of the one row of a value call
+abbrev pub Broken20-digits : ℕ → ℕ → Type 0
+Broken20-digits n p = (p ≡ 0) × (256 < n)
+
 abbrev pub Broken20-one : List ℕ → ℕ → Type 0
-Broken20-one row p = (p ≡ 0) × (256 < length row)
+Broken20-one row = Broken20-digits (length row)
 
 -- 21, 22: a byte of the first, second row is no alphabet index (place)
 abbrev pub NoIndex : ℕ → List ℕ → ℕ → Type 0
@@ -42,6 +45,9 @@ rowRules first second sum digits depth =
     ∷ rule 22 (NoIndex digits second)
     ∷ rule 23 (Broken23 (length first) depth sum)
     ∷ []
+
+abbrev pub digitsRules : ℕ → List Rule
+digitsRules n = rule 20 (Broken20-digits n) ∷ []
 
 abbrev pub oneRowRules : List ℕ → ℕ → List Rule
 oneRowRules row digits = rule 20 (Broken20-one row) ∷ rule 21 (NoIndex digits row) ∷ []

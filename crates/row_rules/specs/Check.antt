@@ -1,4 +1,4 @@
--- Pinned by rows-exact, one-row-exact and edit-exact (proofs/Broken.antt): a reader may skip this file. Rules 20 to 26 of document 01
+-- Pinned by rows-exact, one-row-exact, digits-decided and edit-exact (proofs/Broken.antt): a reader may skip this file. Rules 20 to 26 of document 01
 -- as checks: the rows that are lent and what an editor asks for.
 use mathlib.Core.List.{List}
 use mathlib.Core.Bool.{Bool, _&&_}
@@ -35,9 +35,13 @@ rowCheck first second sum digits depth =
     then indexCheck 22 digits second
     then judgeOne 23 (roomAllowed (length first) depth sum)
 
+-- 20, of a number of digits
+abbrev pub digitsCheck : ℕ → Refusal
+digitsCheck n = judgeOne 20 (leb n 256)
+
 -- 20 and 21, of the one row of a value call
 unfoldable pub oneRowCheck : List ℕ → ℕ → Refusal
-oneRowCheck row digits = judgeOne 20 (leb (length row) 256) then indexCheck 21 digits row
+oneRowCheck row digits = digitsCheck (length row) then indexCheck 21 digits row
 
 -- 24: row number above 1. 25: p not below n. 26: new digit no alphabet index
 unfoldable pub editCheck : ℕ → ℕ → ℕ → ℕ → ℕ → Refusal

@@ -2,7 +2,7 @@
 ghost use mathlib.Core.Path.{_≡_};
 ghost use lib.ListN.{length, getD};
 ghost use Rattle.lists.specs.Scan.{firstFailing};
-ghost use Rattle.row_rules.specs.Check.{judgeOne, lengthsAllowed, indexAllowed, indexCheck, roomAllowed, rowCheck, oneRowCheck, editCheck};
+ghost use Rattle.row_rules.specs.Check.{judgeOne, lengthsAllowed, indexAllowed, indexCheck, roomAllowed, rowCheck, digitsCheck, oneRowCheck, editCheck};
 ghost use Rattle.row_rules.specs.Changed.{changed, noChange};
 use faults::Refusal;
 use row_rules::Change;
@@ -98,11 +98,18 @@ pub fn row_check(first: &[u8], second: &[u8], sum: usize, digits: usize, depth: 
     judge_one(23, has_room(first.len(), depth, sum))
 }
 
+// Rule 20, of a number of digits.
+pub fn digits_check(n: usize) -> Refusal
+    ensures { λ r. ⌜ r ≡ digitsCheck n ⌝ }
+{
+    judge_one(20, n <= 256)
+}
+
 // Rules 20 and 21, of the one row of a value call.
 pub fn one_row_check(row: &[u8], digits: usize) -> Refusal
     ensures { λ r. ⌜ r ≡ oneRowCheck (now (row .entry)) digits ⌝ }
 {
-    let by_length = judge_one(20, row.len() <= 256);
+    let by_length = digits_check(row.len());
     if by_length.number != 0 {
         return by_length;
     }

@@ -1,10 +1,12 @@
 // The check of a table.
 ghost use mathlib.Core.Path.{_≡_};
+ghost use Rattle.numeration.specs.PairCount.{pairCount};
+ghost use Rattle.reader_rules.specs.Table.{leavesIn};
 ghost use Rattle.reader_rules.specs.Check.{tableCheck};
 ghost use Rattle.table_rules.specs.Check.{pairCheckOf, checkOutcome};
 ghost use Rattle.table.specs.Answer.{outcomeOf};
 use faults::Fault;
-use faults::Refusal;
+use pairs::Verdict;
 use reader_rules::Reading;
 use table_rules::Facts;
 
@@ -13,10 +15,11 @@ pub enum Checked {
     Refused(Fault),
 }
 
-// Rule 14 of a file that passes 1 to 13.
-fn file_pairs(file: &[u8]) -> Refusal
+// Rule 14 of a file that passes 1 to 13, and the number of fitting pairs where it isn't broken.
+fn file_pairs(file: &[u8]) -> Verdict
     requires { ⌜ tableCheck (now file) .number ≡ 0 ⌝ }
-    ensures { λ r. ⌜ r ≡ pairCheckOf (now (file .entry)) ⌝ }
+    ensures refusal { λ r. ⌜ r .refusal ≡ pairCheckOf (now (file .entry)) ⌝ }
+    ensures pairs { λ r. ⌜ (r .refusal .number ≡ 0 → r .pairs ≡ pairCount (leavesIn (now (file .entry)))) ⌝ }
 {
     let degree = layout::degree_in(file);
     pairs::pairs(
@@ -38,10 +41,11 @@ pub fn check(file: &[u8]) -> Checked
         Reading::Refused(fault) => Checked::Refused(fault),
         Reading::Facts(table) => {
             let found = file_pairs(file);
-            if found.number != 0 {
+            let refusal = found.refusal;
+            if refusal.number != 0 {
                 return Checked::Refused(Fault::Author {
-                    number: found.number,
-                    place: found.place,
+                    number: refusal.number,
+                    place: refusal.place,
                 });
             }
             let leaves = table.leaves;
@@ -50,6 +54,7 @@ pub fn check(file: &[u8]) -> Checked
                 depth: table.depth,
                 leaves: leaves.count,
                 digits: alphabet.count,
+                pairs: found.pairs,
             })
         }
     }

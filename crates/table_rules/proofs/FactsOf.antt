@@ -5,6 +5,8 @@ use Prim.Native.Nat.{ℕ}
 use native.Mathlib.Omega.{arith}
 use Rattle.faults.specs.Outcome.{facts}
 use Rattle.layout_rules.proofs.Passed.{whole-records}
+use Rattle.numeration.proofs.PairCount.{pairs-number}
+use Rattle.reader_rules.specs.Table.{leavesIn}
 use Rattle.reader_rules.specs.TableFacts.{tableFacts, partFacts}
 use Rattle.reader_rules.specs.Check.{tableCheck}
 use Rattle.reader_rules.proofs.Kept.{layout-kept, table-kept}
@@ -29,4 +31,5 @@ facts-of file f e =
       none-deeper = r .none-deeper;
       leaf-records = leaves .whole ∙ leaves .long;
       digit-records = alphabet .whole ∙ alphabet .long;
+      fitting-pairs = pairs-number (leavesIn file);
     })

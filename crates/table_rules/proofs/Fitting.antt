@@ -3,7 +3,7 @@
 use mathlib.Core.Path.{_≡_, sym, ap, subst, _∙_}
 use mathlib.Core.Bool.{Bool, true, false}
 use mathlib.Core.List.{List}
-use Prim.Native.Nat.{ℕ, suc, _+_, _<_, _≤_, min, pred}
+use Prim.Native.Nat.{ℕ, suc, _+_, _-_, _<_, _≤_, min, pred}
 use native.Mathlib.Omega.{arith}
 use native.Mathlib.Decide.{decLt}
 use native.Mathlib.Nat.{add-comm, zero-add, le-antisymm}
@@ -28,9 +28,11 @@ use Rattle.numeration.specs.Conversion.{outDigit}
 use Rattle.numeration.specs.Elements.{elements}
 use Rattle.numeration.specs.Pairs.{tail, Fits, pairDigit}
 use Rattle.numeration.specs.PairTests.{fits, pairPasses}
+use Rattle.numeration.specs.PairCount.{lowerCount}
 use Rattle.numeration.specs.Runs.{tailThenZeros, lowestFit}
 use Rattle.numeration.proofs.Agreement.{agree-sound, agree-complete}
-use Rattle.numeration.proofs.Runs.{run-below, run-on, unfit-passes, in-tail, behind-tail, string-inputs}
+use Rattle.numeration.proofs.Runs.{run-found, run-below, run-on, unfit-passes, in-tail, behind-tail, string-inputs}
+use Rattle.numeration.proofs.PairCount.{run-count}
 use Rattle.leaf_rules.specs.Leaf.{leafCount, wordLength, codeOf}
 use Rattle.leaf_rules.specs.Given.{wordGiven, weightGiven}
 use Rattle.prefix_rules.specs.Formed.{LeavesFormed}
@@ -89,11 +91,43 @@ module _ (leaves : Section) (words : List ℕ) (m : ℕ) (input : 0 < m) (is : L
     lowest-found r found =
         look-up-is leaves words m input is tailWindow r window-inputs found (tailThenZeros (codeOf leaves words) u) window-reads .1
 
+    pub lowest-there : lowestFit (codeOf leaves words) u < leafCount leaves
+    lowest-there = run-found (codeOf leaves words) m (complete-prefix-code leaves words m input is) (is .ordered) u hu
+
     -- two words fit as they are handed out
     pub fit-is : (l : ℕ) → l < leafCount leaves → agree (λ i. getD (wordGiven leaves words u) (i + 1) 0) (λ i. getD (wordGiven leaves words l) i 0) (min (pred (length (wordGiven leaves words u))) (length (wordGiven leaves words l))) ≡ fits (codeOf leaves words) u l
     unfolding fits
     fit-is l hl =
         rw (long u hu, long l hl) (same-outcome _ _ (λ e. agree-complete _ _ _ (λ i h. sym (tail-reads i (omega arith)) ∙ agree-sound _ _ _ e i h ∙ reads l i hl (omega arith))) (λ e. agree-complete _ _ _ (λ i h. tail-reads i (omega arith) ∙ agree-sound _ _ _ e i h ∙ sym (reads l i hl (omega arith)))))
+
+    apart : (l : ℕ) → fits (codeOf leaves words) u l ≡ false → Fits (codeOf leaves words) u l → ⊥
+    unfolding fits
+    apart l e fit = clash (agree-complete _ _ _ fit) e
+
+    -- from a leaf on that stands in the run's way none fits
+    behind : (l : ℕ) → lowestFit (codeOf leaves words) u ≤ l → fits (codeOf leaves words) u l ≡ false → (j : ℕ) → l ≤ j → j < leafCount leaves → Fits (codeOf leaves words) u j → ⊥
+    behind l low e j le hj fit =
+        elim (decLt l j) [
+          | yes lt ↦ apart l e (run-on (codeOf leaves words) m (complete-prefix-code leaves words m input is) (is .ordered) u hu l j low lt hj fit)
+          | no ge ↦ apart l e (subst (Fits (codeOf leaves words) u) (le-antisymm (omega arith) le) fit)
+        ]
+
+    -- so many leaves fit as there are from the lowest that does up to the first that doesn't, or to the last leaf
+    pub run-length : (l : ℕ) → lowestFit (codeOf leaves words) u ≤ l → l ≤ leafCount leaves → (l < leafCount leaves → fits (codeOf leaves words) u l ≡ false)
+        → ((j : ℕ) → j < l → lowestFit (codeOf leaves words) u ≤ j → fits (codeOf leaves words) u j ≡ true) → lowerCount (codeOf leaves words) u ≡ l - lowestFit (codeOf leaves words) u
+    unfolding fits
+    run-length l low high end run =
+        run-count (codeOf leaves words) u (lowestFit (codeOf leaves words) u) l low high (λ j from upto. agree-sound _ _ _ (run j upto from)) (λ j hj fit. (from j fit, upto j hj fit))
+      where
+        from : (j : ℕ) → Fits (codeOf leaves words) u j → lowestFit (codeOf leaves words) u ≤ j
+        from j fit =
+            elim (decLt j (lowestFit (codeOf leaves words) u)) [
+              | yes lt ↦ absurd (run-below (codeOf leaves words) m (complete-prefix-code leaves words m input is) (is .ordered) u hu j lt fit)
+              | no ge ↦ omega arith
+            ]
+
+        upto : (j : ℕ) → j < leafCount leaves → Fits (codeOf leaves words) u j → j < l
+        upto j hj fit = elim (decLt j l) [ yes lt ↦ lt | no ge ↦ absurd (behind l low (end (omega arith)) j (omega arith) hj fit) ]
 
     module _ (matrix : List (List ℤ)) (inputs : Section) (alphabet : List ℤ → Bool) where
       abbrev passes : ℕ → Bool
@@ -109,10 +143,6 @@ module _ (leaves : Section) (words : List ℕ) (m : ℕ) (input : 0 < m) (is : L
       pair-is l hl fit =
           rw (fit, pairPasses, upper-first (partCount (leaves .degree)) matrix (recordAt inputs (getD (wordGiven leaves words u) 0 0)) (weightGiven leaves l) (weightGiven leaves u), reads u 0 hu (is .some u hu), sym (weight-there leaves l hl), sym (weight-there leaves u hu))
 
-      apart : (l : ℕ) → fits (codeOf leaves words) u l ≡ false → Fits (codeOf leaves words) u l → ⊥
-      unfolding fits
-      apart l e fit = clash (agree-complete _ _ _ fit) e
-
       pub upto-lowest : Upto (lowestFit (codeOf leaves words) u)
       upto-lowest j h =
           unfit-passes (elements (partCount (leaves .degree)) matrix) (recordAt inputs) (codeOf leaves words) alphabet u j (run-below (codeOf leaves words) m (complete-prefix-code leaves words m input is) (is .ordered) u hu j h)
@@ -121,18 +151,11 @@ module _ (leaves : Section) (words : List ℕ) (m : ℕ) (input : 0 < m) (is : L
       pub ends-unfit : (l : ℕ) → lowestFit (codeOf leaves words) u ≤ l → l < leafCount leaves → fits (codeOf leaves words) u l ≡ false → Upto l → leafCount leaves ≡ firstFailing passes 0 (leafCount leaves)
       ends-unfit l low h e upto = sym (scan-all passes 0 (leafCount leaves) all ∙ zero-add (leafCount leaves))
         where
-          behind : (j : ℕ) → l ≤ j → j < leafCount leaves → Fits (codeOf leaves words) u j → ⊥
-          behind j le hj fit =
-              elim (decLt l j) [
-                | yes lt ↦ apart l e (run-on (codeOf leaves words) m (complete-prefix-code leaves words m input is) (is .ordered) u hu l j low lt hj fit)
-                | no ge ↦ apart l e (subst (Fits (codeOf leaves words) u) (le-antisymm (omega arith) le) fit)
-              ]
-
           all : (j : ℕ) → 0 ≤ j → j < 0 + leafCount leaves → passes j ≡ true
           all j z hj =
               elim (decLt j l) [
                 | yes lt ↦ upto j lt
-                | no ge ↦ unfit-passes (elements (partCount (leaves .degree)) matrix) (recordAt inputs) (codeOf leaves words) alphabet u j (behind j (omega arith) (omega arith))
+                | no ge ↦ unfit-passes (elements (partCount (leaves .degree)) matrix) (recordAt inputs) (codeOf leaves words) alphabet u j (behind l low e j (omega arith) (omega arith))
               ]
 
       pub ends-all : (l : ℕ) → leafCount leaves ≤ l → Upto l → leafCount leaves ≡ firstFailing passes 0 (leafCount leaves)

@@ -5,7 +5,8 @@ use Prim.Native.Nat.{ℕ}
 use Rattle.faults.specs.declared.Refusal.{Refusal}
 use Rattle.faults.specs.Outcome.{Outcome, facts, author}
 use Rattle.faults.specs.Unless.{unless}
-use Rattle.reader_rules.specs.Table.{basePart, alphabetPart, inputPart, leafPart, wordPart}
+use Rattle.numeration.specs.PairCount.{pairCount}
+use Rattle.reader_rules.specs.Table.{basePart, alphabetPart, inputPart, leafPart, wordPart, leavesIn}
 use Rattle.reader_rules.specs.TableFacts.{tableFacts}
 use Rattle.reader_rules.specs.Check.{tableCheck}
 use Rattle.table_rules.specs.declared.Facts.{Facts}
@@ -15,13 +16,14 @@ use Rattle.table_rules.specs.Pairs.{pairCheck}
 unfoldable pub pairCheckOf : List ℕ → Refusal
 pairCheckOf file = pairCheck (basePart file) (alphabetPart file) (inputPart file) (leafPart file) (wordPart file)
 
--- h, leaf count and alphabet size
+-- h, leaf count, alphabet size and the number of fitting leaf pairs
 unfoldable pub checkFacts : List ℕ → Facts
 checkFacts file =
     record {
       depth = tableFacts file .depth;
       leaves = tableFacts file .leaves .count;
       digits = tableFacts file .alphabet .count;
+      pairs = pairCount (leavesIn file);
     }
 
 -- for every list of bytes: refused by 1 to 13, refused by 14, or accepted

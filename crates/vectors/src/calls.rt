@@ -133,6 +133,21 @@ pub fn look_up() -> bool {
     leaf_line(&table[..n], window)
 }
 
+// 17: the table, the number of digits.
+pub fn forecast() -> bool {
+    let mut table = [0u8; 70000];
+    let read = input::buffer(&mut table);
+    let Read::Got(n) = read else {
+        return false;
+    };
+    let mut digits = [0u8; 8];
+    if !input::filled(&mut digits) {
+        return false;
+    }
+    let answer = forecast::forecast(&table[..n], input::long(&digits, 0));
+    output::forecasted(answer)
+}
+
 // The midpoint of two elements of a degree, as many parts of each, and its line.
 fn midpoint_line(degree: Degree) -> bool {
     let mut first = [0u8; 16];

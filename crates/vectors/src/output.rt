@@ -5,6 +5,7 @@ ghost use lib.ListN.{length};
 use adder::Added;
 use adder::Subtracted;
 use faults::Fault;
+use forecast_rules::Forecast;
 use look_up::Found;
 use midpoint::Element;
 use ring::Degree;
@@ -31,21 +32,36 @@ pub fn table_bytes(file: &[u8]) -> bool
     line(&mut out, end)
 }
 
-// `accepted depth h leaves L digits A`, or the fault.
-pub fn checked(answer: Checked) -> bool {
+// A fault alone.
+fn fault_line(fault: Fault) -> bool {
     let mut out = [0u8; 128];
+    let end = fault_text::put_fault(&mut out, 0, fault);
+    line(&mut out, end)
+}
+
+// The pairs behind the line of the program `check`, in the place of its line feed. That line is never over 100 bytes; the test makes it plain.
+fn with_pairs(out: &mut [u8], written: usize, pairs: usize) -> bool
+    requires { ⌜ length (now out) ≡ 128 ⌝ }
+{
+    if written < 1 {
+        return false;
+    }
+    if 100 < written {
+        return false;
+    }
+    let end = text::put_item(out, written - 1, b" pairs ", pairs);
+    line(out, end)
+}
+
+// `accepted depth h leaves L digits A pairs P`, or the fault.
+pub fn checked(answer: Checked) -> bool {
     match answer {
-        Checked::Accepted(_) => {
+        Checked::Accepted(facts) => {
+            let mut out = [0u8; 128];
             let written = line::line(answer, &mut out);
-            if 128 < written {
-                return false;
-            }
-            io::write_all(libc::STDOUT_FILENO, &out[..written])
+            with_pairs(&mut out, written, facts.pairs)
         }
-        Checked::Refused(fault) => {
-            let end = fault_text::put_fault(&mut out, 0, fault);
-            line(&mut out, end)
-        }
+        Checked::Refused(fault) => fault_line(fault),
     }
 }
 
@@ -145,11 +161,26 @@ pub fn edited(answer: Edited, first: &[u8], second: &[u8], sum: &[u8]) -> bool
     }
 }
 
+// Two words, each with a count.
+fn counts_line(word: &[u8], n: usize, next: &[u8], m: usize) -> bool
+    requires { ⌜ (length (now word) ≤ 20) × (length (now next) ≤ 20) ⌝ }
+{
+    let mut out = [0u8; 128];
+    let end = put_counts(&mut out, word, n, next, m);
+    line(&mut out, end)
+}
+
 // `leaf K length N`
 pub fn looked_up(found: Found) -> bool {
-    let mut out = [0u8; 128];
-    let end = put_counts(&mut out, b"leaf ", found.leaf, b" length ", found.length);
-    line(&mut out, end)
+    counts_line(b"leaf ", found.leaf, b" length ", found.length)
+}
+
+// `pairs P bytes B`, or the fault.
+pub fn forecasted(answer: Forecast) -> bool {
+    match answer {
+        Forecast::Facts(facts) => counts_line(b"pairs ", facts.pairs, b" bytes ", facts.bytes),
+        Forecast::Refused(fault) => fault_line(fault),
+    }
 }
 
 // A space and a part, from a place on; the next place.
@@ -181,10 +212,6 @@ pub fn parts(word: &[u8], degree: Degree, x: Element) -> bool
 pub fn valued(degree: Degree, answer: Valued) -> bool {
     match answer {
         Valued::Value(x) => parts(b"value", degree, x),
-        Valued::Refused(fault) => {
-            let mut out = [0u8; 128];
-            let end = fault_text::put_fault(&mut out, 0, fault);
-            line(&mut out, end)
-        }
+        Valued::Refused(fault) => fault_line(fault),
     }
 }

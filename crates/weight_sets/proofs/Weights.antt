@@ -5,12 +5,12 @@ use mathlib.Core.Logic.{⊎-elim}
 use mathlib.Core.List.{List}
 use Prim.Native.Nat.{ℕ, _+_, _-_, _<_, _≤_}
 use native.Mathlib.Omega.{arith}
-use native.Mathlib.Nat.{le-antisymm}
 use native.Mathlib.Decide.{decLt, ℕ-discrete}
 use lib.IntN.{ℤ}
 use lib.ListN.{length, getD, set, length-set, List·getD-eq-default, replicate, length-replicate, getD-replicate}
 use lib.Seq.{getD-set-same, getD-set-other}
 use lib.Bits.{bitOr}
+use Rattle.lists.proofs.Entries.{entry-next}
 use Rattle.layout_rules.specs.Section.{Section}
 use Rattle.ring.specs.Element.{plus, minus}
 use Rattle.ring.specs.Degree.{partCount}
@@ -21,14 +21,6 @@ use Rattle.table_rules.specs.Pairs.{inAlphabet}
 use Rattle.weight_sets.specs.Bits.{Has}
 use Rattle.weight_sets.specs.Weights.{WeightsNumbered, Covers, Good, Judged}
 use Rattle.weight_sets.proofs.Bits.{has-left, has-right, has-either, has-none}
-
--- what holds of the first n entries holds of one more
-pub entry-next : (P : ℕ → ℕ → Type 0) (xs : List ℕ) (n v : ℕ) → n < length xs → ((k : ℕ) → k < n → P k (getD xs k 0)) → P n v → (k : ℕ) → k < n + 1 → P k (getD (set xs n v) k 0)
-entry-next P xs n v inside before now k h =
-    elim (decLt k n) [
-      | yes l ↦ subst (P k) (sym (getD-set-other xs n k v 0 (λ e. omega arith))) (before k l)
-      | no l ↦ let last : n ≡ k = le-antisymm (omega arith) (omega arith) in subst (λ (j : ℕ). P j (getD (set xs n v) j 0)) last (subst (P n) (sym (getD-set-same xs n v 0 inside)) now)
-    ]
 
 -- ---- weight numbers
 

@@ -1,7 +1,8 @@
 -- The weights are numbered, the words are numbers and the eights cover their leaves, which is what the look at all pairs asks for.
 use Rattle.layout_rules.specs.Section.{ofDegree}
-use Rattle.pair_sets.specs.Runs.{AllPass}
-use Rattle.pair_sets.proofs.Keys.{ready-words}
+use Rattle.pair_sets.specs.Runs.{Judgement}
+use Rattle.pair_sets.proofs.Pass.{none-judged}
+use Rattle.runs.proofs.Keys.{ready-words}
 use Rattle.prefix_rules.proofs.Formed.{formed}
 use Rattle.digit_rules.proofs.Base.{base-within}
 use Rattle.digit_rules.specs.Record.{elementCount}
@@ -24,7 +25,7 @@ same-length : tie.Need-same-length
 same-length c = search needs
 
 returns : tie.Need-returns
-returns c = λ u h. absurd (omega arith)
+returns c = none-judged _ _ _ _ _
 
 keys-of-by-requires : tie.Need-keys-of-by-requires
 keys-of-by-requires c κs =
@@ -77,6 +78,7 @@ all-in-requires c κs =
           omega (arith, sets .given, pre .1 .1),
           omega (arith, if1 .left),
           omega (arith, if1 .left, first2 .given),
+          pre .1 .3,
         ),
         (keys-of .ensures, number-weights-by .ensures (omega (arith, if1 .left)), λ l k h there. eights .ensures l k h (omega (arith, there, leaf-count .ensures))),
       ),
@@ -96,7 +98,7 @@ returns-2 c =
     let a = c .before .before .before .before .before .before .before .before .before .before .before .before .before .before .before .before .before .before .before .before .before .before .before .before .before .before .before .before .before .before .before .before .args in
     let leaves = ofDegree (a .degree) (a .leaves .now) in
     let base-of = c .before .before .before .before .before .before .base-of in
-    subst (λ b. AllPass b (ofDegree (a .degree) (a .alphabet .now)) (ofDegree (a .degree) (a .inputs .now)) leaves (a .words .now) (c .all-in .result)) (base-of .ensures) (c .all-in .ensures)
+    subst (λ b. Judgement b (ofDegree (a .degree) (a .alphabet .now)) (ofDegree (a .degree) (a .inputs .now)) leaves (a .words .now) (c .all-in .result)) (base-of .ensures) (c .all-in .ensures)
 
 pub look-spec : {M : Type 1} → statement M
 look-spec =

@@ -1,5 +1,5 @@
 -- As many as the look at the fewest, at few or at many leaves says, or none.
-use native.Mathlib.Omega.{arith}
+use Rattle.pair_sets.proofs.Pass.{none-judged}
 use borrow.Author.Needs.{needs}
 use Rattle.pair_sets.proofs.passed.Statement.{statement}
 use Rattle.pair_sets.proofs.passed.Tie as tie
@@ -26,7 +26,7 @@ returns-3 : tie.Need-returns-3
 returns-3 c = search needs
 
 returns-4 : tie.Need-returns-4
-returns-4 c = λ u h. absurd (omega arith)
+returns-4 c = none-judged _ _ _ _ _
 
 pub passed-spec : {M : Type 1} → statement M
 passed-spec =

@@ -29,10 +29,10 @@ file-pairs-requires c κs = read-facts (c .before .before .before .before .befor
 returns : tie.Need-returns
 unfolding checkOutcome
 returns c =
-    let file = c .before .before .before .before .before .before .before .before .args .file .now in
-    let known = read-facts file _ (sym (ap readAs (c .before .before .before .before .answer2 .given .1)) ∙ c .before .before .before .before .before .before .read .ensures) in
-    let found = c .before .before .file-pairs in
-    ap (λ (r : Refusal). refused author (r .number) (r .place)) (found .ensures) ∙ sym (unless-found author (pairCheckOf file) (facts (checkFacts file)) (λ z. c .if1 .taken (ap (λ (r : Refusal). r .number) (found .ensures) ∙ z))) ∙ sym (unless-none author (tableCheck file) _ (known .0))
+    let file = c .before .before .before .before .before .before .before .before .before .args .file .now in
+    let known = read-facts file _ (sym (ap readAs (c .before .before .before .before .before .answer2 .given .1)) ∙ c .before .before .before .before .before .before .before .read .ensures) in
+    let found = c .before .before .before .file-pairs .ensures .0 in
+    ap (λ (r : Refusal). refused author (r .number) (r .place)) found ∙ sym (unless-found author (pairCheckOf file) (facts (checkFacts file)) (λ z. c .if1 .taken (ap (λ (r : Refusal). r .number) found ∙ z))) ∙ sym (unless-none author (tableCheck file) _ (known .0))
 
 returns-2 : tie.Need-returns-2
 unfolding checkOutcome
@@ -44,12 +44,13 @@ returns-2 c =
 returns-3 : tie.Need-returns-3
 unfolding checkOutcome checkFacts
 returns-3 c =
-    let file = c .before .before .before .before .before .before .before .before .before .before .args .file .now in
-    let known = read-facts file _ (sym (ap readAs (c .before .before .before .before .before .before .answer2 .given .1)) ∙ c .before .before .before .before .before .before .before .before .read .ensures) in
+    let file = c .before .before .before .before .before .before .before .before .before .before .before .args .file .now in
+    let known = read-facts file _ (sym (ap readAs (c .before .before .before .before .before .before .before .answer2 .given .1)) ∙ c .before .before .before .before .before .before .before .before .before .read .ensures) in
     let t = known .1 in
-    let pairs = c .before .before .before .before .file-pairs in
-    let none = stage-nothing (pairs .result) (pairCheckOf file) (pairs .ensures) (c .before .before .if1 .left) in
-    (λ i. facts (record { depth = t i .depth; leaves = t i .leaves .count; digits = t i .alphabet .count }))
+    let pairs = c .before .before .before .before .before .file-pairs in
+    let none = stage-nothing (pairs .result .refusal) (pairCheckOf file) (pairs .ensures .0) (c .before .before .if1 .left) in
+    let counted = pairs .ensures .1 (ap (λ (r : Refusal). r .number) (pairs .ensures .0) ∙ none) in
+    (λ i. facts (record { depth = t i .depth; leaves = t i .leaves .count; digits = t i .alphabet .count; pairs = counted i }))
     ∙ sym (unless-none author (pairCheckOf file) (facts (checkFacts file)) none) ∙ sym (unless-none author (tableCheck file) _ (known .0))
 
 pub check-spec : {M : Type 1} → statement M

@@ -1,6 +1,6 @@
 -- The sets passed have their leaf's weight.
 use Rattle.weight_sets.proofs.Bits.{has-single}
-use Rattle.weight_sets.proofs.Weights.{entry-next}
+use Rattle.lists.proofs.Entries.{entry-next}
 use mathlib.Core.Path.{_≡_, refl, sym, ap, subst, _∙_}
 use Prim.Native.Nat.{ℕ, _+_, _-_, _<_, _^_}
 use native.Mathlib.Omega.{arith}

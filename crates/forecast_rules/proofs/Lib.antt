@@ -1,0 +1,3 @@
+pub mod Demand
+pub mod Facts
+pub mod Other

@@ -1,0 +1,3 @@
+pub mod Broken
+pub mod ForecastOf
+pub mod Forecast
