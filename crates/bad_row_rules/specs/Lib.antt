@@ -1,0 +1,4 @@
+pub mod Shows
+pub mod Broken
+pub mod RowOf
+pub mod BadRow
