@@ -19,9 +19,10 @@ use Rattle.digit_rules.specs.Digits.{operationCheck}
 use Rattle.digit_rules.specs.Record.{recordAt}
 use Rattle.digit_rules.proofs.Record.{element-parts}
 use Rattle.numeration.specs.Code.{Inputs}
-use Rattle.numeration.specs.PairTests.{pairBottom, pairRow, Holds}
+use Rattle.numeration.specs.Held.{Holds, Finds}
+use Rattle.numeration.specs.PairTests.{pairBottom, pairRow}
 use Rattle.numeration.proofs.Pairs.{length-pairString, convert-string, pairRow-holds, pairRow-inputs}
-use Rattle.numeration.proofs.Shown.{Finds, string-finds, string-shortest}
+use Rattle.numeration.proofs.Shown.{string-finds, string-shortest}
 use Rattle.reader_rules.specs.Table.{alphabetPart, inputPart, operationsOf, inputCount, leavesIn}
 use Rattle.reader_rules.specs.TableFacts.{tableFacts}
 use Rattle.reader_rules.specs.Check.{tableCheck}

@@ -18,7 +18,8 @@ use Rattle.numeration.specs.LeafOf.{leafOf, depth}
 use Rattle.numeration.specs.Prefix.{Below, OrderedCode, PrefixCode}
 use Rattle.numeration.specs.Conversion.{weightInto, weightAt, convert}
 use Rattle.numeration.specs.Pairs.{Fits, pairDigit, RowsConvert}
-use Rattle.numeration.specs.PairTests.{pairString, Holds}
+use Rattle.numeration.specs.Held.{Holds}
+use Rattle.numeration.specs.PairTests.{pairString}
 use Rattle.numeration.specs.Value.{value, topDown}
 use Rattle.numeration.specs.Changes.{Changes}
 use Rattle.numeration.specs.Renewal.{Local, rowChanges, InputRow, SumFollows}

@@ -18,7 +18,8 @@ use Rattle.numeration.specs.Prefix.{PrefixCode}
 use Rattle.numeration.specs.Conversion.{window, leafInto, weightAt, convert}
 use Rattle.numeration.specs.Pairs.{tail, Fits, pairDigit, RowsConvert}
 use Rattle.numeration.specs.Laws.{PairsConvert}
-use Rattle.numeration.specs.PairTests.{pairDigitAt, pairBottom, pairString, pairRow, Holds, fits, pairPasses, upperPasses, lowestBadUpper}
+use Rattle.numeration.specs.Held.{Holds}
+use Rattle.numeration.specs.PairTests.{pairDigitAt, pairBottom, pairString, pairRow, fits, pairPasses, upperPasses, lowestBadUpper}
 use Rattle.numeration.proofs.Agreement.{agree-sound, agree-complete}
 use Rattle.numeration.proofs.Leaves.{leafOf-begins}
 use Rattle.numeration.proofs.Windows.{window-by-place, window-below, weightInto-leaf}

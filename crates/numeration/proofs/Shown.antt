@@ -10,9 +10,10 @@ use Rattle.lists.specs.Span.{span}
 use Rattle.lists.proofs.Span.{length-span, getD-span}
 use Rattle.numeration.specs.Code.{Code, Begins, Inputs}
 use Rattle.numeration.specs.Prefix.{PrefixCode}
-use Rattle.numeration.specs.Conversion.{window, leafInto}
+use Rattle.numeration.specs.Conversion.{window}
 use Rattle.numeration.specs.Pairs.{Fits}
-use Rattle.numeration.specs.PairTests.{pairBottom, pairString, Holds}
+use Rattle.numeration.specs.Held.{Holds, Finds}
+use Rattle.numeration.specs.PairTests.{pairBottom, pairString}
 use Rattle.numeration.proofs.Leaves.{leafOf-unique}
 use Rattle.numeration.proofs.Pairs.{length-pairString, holds-upper, holds-lower, row-read, into-begins}
 
@@ -34,10 +35,6 @@ window-next : (row : List ℕ) (n : ℕ) → 0 < n → window row n (pred n) ≡
 unfolding window
 window-next row zero h = absurd (not-suc-le-zero h)
 window-next row (suc n) h = refl
-
--- at place j of a row the two look-ups find leaf u, and leaf l one place below
-abbrev pub Finds : {A : Type 0} → Code A → ℕ → ℕ → List ℕ → ℕ → Type 0
-Finds c u l row j = (leafInto c row (suc j) ≡ u) × (leafInto c row j ≡ l)
 
 module _ {A : Type 0} (c : Code A) (m : ℕ) (p : PrefixCode c m) (u l : ℕ) where
   pub string-finds : u < c .leaves → l < c .leaves → Fits c u l → (row : List ℕ) (j : ℕ) → Holds row j (pairString c u l) → Finds c u l row j

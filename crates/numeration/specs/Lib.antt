@@ -3,6 +3,7 @@ pub mod Code
 pub mod LeafOf
 pub mod Prefix
 pub mod Conversion
+pub mod Held
 pub mod Reach
 pub mod ReachOf
 pub mod Pairs

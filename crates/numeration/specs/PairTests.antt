@@ -1,22 +1,15 @@
 -- Pinned by pair-check and convert-string (proofs/Pairs.antt): a reader may skip this file. Rule 14 as a test of pairs, and the row that
 -- shows a fitting pair.
-use mathlib.Core.Path.{_≡_}
 use mathlib.Core.Bool.{Bool, true, false}
 use mathlib.Core.List.{List}
-use Prim.Native.Nat.{ℕ, zero, suc, _-_, _<_, min, max, pred}
+use Prim.Native.Nat.{ℕ, zero, suc, _-_, min, max, pred}
 use lib.Dec.{leb}
-use lib.ListN.{length, getD}
 use Rattle.lists.specs.Span.{span}
 use Rattle.lists.specs.Scan.{firstFailing, every}
 use Rattle.numeration.specs.Group.{Operations}
 use Rattle.numeration.specs.Code.{Code}
 use Rattle.numeration.specs.LeafOf.{agree}
-use Rattle.numeration.specs.Conversion.{window}
 use Rattle.numeration.specs.Pairs.{tail, pairDigit}
-
--- the row holds the string s, top digit first, from place j down
-abbrev pub Holds : List ℕ → ℕ → List ℕ → Type 0
-Holds row j s = (i : ℕ) → i < length s → window row (suc j) i ≡ getD s i 0
 
 module _ {A : Type 0} (c : Code A) where
   -- `Fits` as a test
