@@ -16,23 +16,26 @@ pub struct BadRow {
 
 /// What there is to show of a table: the first of all pairs, by upper and then by lower leaf, that fits and gives no alphabet digit.
 pub fn first(table: &Table) -> Option<BadRow> {
-    let count = table.leaves.len();
-    let mut pairs = (0..count).flat_map(|upper| (0..count).map(move |lower| (upper, lower)));
-    pairs.find_map(|(upper, lower)| shown(table, upper, lower))
+    (0..table.leaves.len()).find_map(|upper| with_upper(table, upper))
 }
 
-/// What two leaves show, none where they don't fit or give an alphabet digit.
-fn shown(table: &Table, upper: usize, lower: usize) -> Option<BadRow> {
-    let (high, low) = (&table.leaves[upper], &table.leaves[lower]);
-    let below = below_top(high, low)?;
-    let digit = pair_digit(table, high, low);
-    let string = || [&high.word[..1], below].concat();
-    let bad = !table.alphabet.contains(&digit);
-    bad.then(|| BadRow {
-        upper,
-        lower,
-        digit,
-        string: string(),
+/// The first lower leaf that shows something with an upper one. The digit at the string's top place is its input digit, minus the base times the
+/// weight that goes up, plus the weight that comes up from below.
+fn with_upper(table: &Table, upper: usize) -> Option<BadRow> {
+    let high = &table.leaves[upper];
+    let goes_up = table.base.times(&high.weight);
+    let left = &table.inputs[usize::from(high.word[0])] - &goes_up;
+    let mut lowers = table.leaves.iter().enumerate();
+    lowers.find_map(|(lower, low)| {
+        let below = below_top(high, low)?;
+        let digit = &left + &low.weight;
+        let bad = !table.alphabet.contains(&digit);
+        bad.then(|| BadRow {
+            upper,
+            lower,
+            digit,
+            string: [&high.word[..1], below].concat(),
+        })
     })
 }
 
@@ -41,11 +44,4 @@ fn below_top<'a>(upper: &'a Leaf, lower: &'a Leaf) -> Option<&'a [u8]> {
     let (tail, word) = (&upper.word[1..], &lower.word[..]);
     let longer = if tail.len() > word.len() { tail } else { word };
     (longer.starts_with(tail) && longer.starts_with(word)).then_some(longer)
-}
-
-/// The digit at the string's top place: its input digit, plus the weight that comes up from below, minus the base times the one that goes up.
-fn pair_digit(table: &Table, upper: &Leaf, lower: &Leaf) -> Element {
-    let input = &table.inputs[usize::from(upper.word[0])];
-    let goes_up = table.base.times(&upper.weight);
-    &(input + &lower.weight) - &goes_up
 }
