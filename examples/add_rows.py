@@ -1,5 +1,6 @@
 #!/usr/bin/env python3
-"""Checks a table, forecasts what a sum will need, adds two rows and edits a digit of the second; digits as elements, lowest place first:
+"""Checks a table, forecasts what a sum will need, adds two rows and edits a digit of the second; digits as elements, lowest place first. Of a
+table that refusal 14 is against it shows the bad row:
 
     python3 examples/add_rows.py mine.table
 """
@@ -36,6 +37,12 @@ def add_and_edit(table):
     show(table, edited.first, edited.second, edited.sum)
 
 
+def show_bad_row(table):
+    upper, lower, digit, string = yoyomyrtle.bad_row(table)
+    print('leaf %d above leaf %d gives %s, which is no alphabet digit' % (upper, lower, digit))
+    print('in rows with these input digits, by index, from the top:', *string)
+
+
 def main():
     if len(sys.argv) != 2:
         sys.exit('usage: add_rows.py FILE')
@@ -46,7 +53,11 @@ def main():
         sys.exit("can't read %s: %s" % (sys.argv[1], trouble.strerror))
     try:
         add_and_edit(table)
-    except (OSError, yoyomyrtle.Refused) as trouble:
+    except yoyomyrtle.Refused as refused:
+        if refused.number == 14:
+            show_bad_row(table)
+        sys.exit(str(refused))
+    except OSError as trouble:
         sys.exit(str(trouble))
 
 

@@ -1,5 +1,5 @@
 /* Loads a table (the file named, else the carried TERN), forecasts what a sum will need, adds two rows, tells their values and the midpoint of
- * these, edits a digit, runs a list of edits, subtracts and prints the rows.
+ * these, edits a digit, runs a list of edits, subtracts and prints the rows. Of a table that refusal 14 is against it shows the bad row.
  *
  *     cc -std=c99 -I include examples/caller.c target/staticlib/libadder_c.a -o caller && ./caller tables/bin.table */
 #include <stdio.h>
@@ -39,13 +39,28 @@ static void print_row(const char *name, const uint8_t *row, size_t length) {
     printf("\n");
 }
 
-/* Prints the parts of an element that words 1 and up of the answer hold. */
-static void print_parts(const char *name, size_t count) {
+/* Prints the parts of an element that the words of the answer hold from one on. */
+static void print_parts(const char *name, size_t from, size_t count) {
     printf("%s:", name);
-    for (size_t part = 1; part <= count; part++) {
+    for (size_t part = from; part < from + count; part++) {
         printf(" %d", (int)answer[part]);
     }
     printf("\n");
+}
+
+/* The base section's length is four times the degree of the ring. */
+static size_t degree_of_table(void) {
+    return (table[2] + 256u * table[3]) / 4;
+}
+
+/* The string holds input digits by their indexes, and the one whose place gets the digit comes first. */
+static void show_bad_row(size_t length) {
+    uint8_t string[YOYOMYRTLE_STRING_BYTES];
+    if (yoyomyrtle_bad_row(table, length, string, sizeof string, answer, YOYOMYRTLE_ANSWER_WORDS) == YOYOMYRTLE_FACTS && answer[1] > 0) {
+        printf("bad row: leaves %d and %d\n", (int)answer[2], (int)answer[3]);
+        print_parts("digit", 4, degree_of_table());
+        print_row("string", string, (size_t)answer[1]);
+    }
 }
 
 /* Prints the value of a row, with as many parts as the degree of the table's ring, and keeps them; 0 where it is too large. */
@@ -53,7 +68,7 @@ static int value_of(const char *name, size_t length, const uint8_t *row, size_t 
     if (yoyomyrtle_value(table, length, row, digits, answer, YOYOMYRTLE_ANSWER_WORDS) != YOYOMYRTLE_FACTS) {
         return !refused();
     }
-    print_parts(name, degree);
+    print_parts(name, 1, degree);
     for (size_t part = 0; part < degree; part++) {
         parts[part] = (int32_t)answer[1 + part];
     }
@@ -69,7 +84,9 @@ int main(int argc, char **argv) {
         return 2;
     }
     if (yoyomyrtle_check(table, length, answer, YOYOMYRTLE_ANSWER_WORDS) != YOYOMYRTLE_FACTS) {
-        return refused();
+        refused();
+        show_bad_row(length);
+        return 1;
     }
     uint64_t alphabet = (uint64_t)answer[3];
     printf("depth %d, leaves %d, digits %d, pairs %d\n", (int)answer[1], (int)answer[2], (int)answer[3], (int)answer[4]);
@@ -96,13 +113,13 @@ int main(int argc, char **argv) {
     print_row("second", second, DIGITS);
     print_row("sum", sum, places);
 
-    /* The base section's length is four times the degree of the ring. The midpoint has four parts of each element, whatever the degree. */
-    size_t degree = (table[2] + 256u * table[3]) / 4;
+    /* The midpoint has four parts of each element, whatever the degree. */
+    size_t degree = degree_of_table();
     int32_t x[PARTS] = {0}, y[PARTS] = {0}, z[PARTS];
     if (value_of("value of the first", length, first, DIGITS, degree, x) && value_of("value of the second", length, second, DIGITS, degree, y) &&
         value_of("value of the sum", length, sum, places, degree, z)) {
         yoyomyrtle_midpoint(x[0], x[1], x[2], x[3], y[0], y[1], y[2], y[3], answer, YOYOMYRTLE_ANSWER_WORDS);
-        print_parts("midpoint of the rows", degree);
+        print_parts("midpoint of the rows", 1, degree);
     }
 
     /* Place 2 of the second row (row number 1) gets the next digit of the alphabet. */

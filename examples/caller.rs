@@ -1,5 +1,6 @@
 //! Loads a table (the file named, else the carried TERN), forecasts what a sum will need, adds two rows, tells their values and the
-//! midpoint of these, edits a digit, runs a list of edits, subtracts and prints the rows.
+//! midpoint of these, edits a digit, runs a list of edits, subtracts and prints the rows. Of a table that refusal 14 is against it shows the
+//! bad row.
 //!
 //!     rustc --edition 2021 -L target/staticlib -l static=adder_c examples/caller.rs -o caller && ./caller tables/bin.table
 
@@ -8,6 +9,7 @@ use std::{env, fs, process::ExitCode};
 #[rustfmt::skip]
 extern "C" {
     fn yoyomyrtle_check(file: *const u8, file_len: usize, answer: *mut i64, answer_len: usize) -> u64;
+    fn yoyomyrtle_bad_row(table: *const u8, table_len: usize, string: *mut u8, string_len: usize, answer: *mut i64, answer_len: usize) -> u64;
     fn yoyomyrtle_forecast(table: *const u8, table_len: usize, digits: u64, answer: *mut i64, answer_len: usize) -> u64;
     fn yoyomyrtle_add(
         table: *const u8, table_len: usize, first: *const u8, first_len: usize, second: *const u8, second_len: usize,
@@ -41,6 +43,18 @@ fn check(table: &[u8]) -> Result<Answer, Answer> {
     let mut words = [0; 8];
     let returned = unsafe { yoyomyrtle_check(table.as_ptr(), table.len(), words.as_mut_ptr(), 8) };
     facts(returned, words)
+}
+
+/// The leaves' numbers, the digit and the string of the row that refusal 14 is about; none where there is nothing to show.
+#[rustfmt::skip]
+fn bad_row(table: &[u8]) -> Result<Option<(i64, i64, Element, Vec<u8>)>, Answer> {
+    let (mut words, mut string) = ([0; 8], [0; 9]);
+    let returned = unsafe {
+        yoyomyrtle_bad_row(table.as_ptr(), table.len(), string.as_mut_ptr(), string.len(), words.as_mut_ptr(), 8)
+    };
+    let [_, bytes, upper, lower, a, b, c, d] = facts(returned, words)?;
+    let digit = [a, b, c, d].map(|part| part as i32);
+    Ok((bytes > 0).then(|| (upper, lower, digit, string[..bytes as usize].to_vec())))
 }
 
 fn forecast(table: &[u8], digits: u64) -> Result<Answer, Answer> {
@@ -160,17 +174,28 @@ fn print_fault([group, number, place, ..]: Answer) {
     println!("refused {whose} {number} place {place}");
 }
 
+/// Prints as many parts of an element as the degree of the table's ring; the base section's length is four times that.
+fn print_parts(name: &str, table: &[u8], parts: Element) {
+    let degree = usize::from(u16::from_le_bytes([table[2], table[3]])) / 4;
+    let parts: String = parts[..degree]
+        .iter()
+        .map(|part| format!(" {part}"))
+        .collect();
+    println!("{name}:{parts}");
+}
+
+/// The string holds input digits by their indexes, and the one whose place gets the digit comes first.
+fn print_bad_row(table: &[u8]) {
+    if let Ok(Some((upper, lower, digit, string))) = bad_row(table) {
+        println!("bad row: leaves {upper} and {lower}");
+        print_parts("digit", table, digit);
+        print_row("string", &string);
+    }
+}
+
 /// Prints the values of the rows and of the sum and the midpoint of the first two, or the fault of the first that is too large.
 fn print_values(table: &[u8], rows: [(&str, &[u8]); 3]) -> Result<(), Answer> {
-    // The base section's length is four times the degree of the ring.
-    let degree = usize::from(u16::from_le_bytes([table[2], table[3]])) / 4;
-    let print = |name: &str, parts: Element| {
-        let parts: String = parts[..degree]
-            .iter()
-            .map(|part| format!(" {part}"))
-            .collect();
-        println!("{name}:{parts}");
-    };
+    let print = |name: &str, parts: Element| print_parts(name, table, parts);
     let mut values = Vec::new();
     for (name, row) in rows {
         values.push(value(table, row)?);
@@ -242,5 +267,6 @@ fn main() -> ExitCode {
         return ExitCode::SUCCESS;
     };
     print_fault(fault);
+    print_bad_row(&table);
     ExitCode::FAILURE
 }

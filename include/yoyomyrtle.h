@@ -5,8 +5,8 @@
  * outside and nothing else. It has no variables of its own, so that calls may run on several threads at once where none writes a buffer that
  * another is lent.
  *
- * Stack in bytes, at the most: check and run 73,500 and forecast 35,500, even with TERN, add, subtract and edit 4,300, value 2,600, the others
- * 100. Where memcpy and memset are looked up on first use, the dynamic linker takes some 3,000 more at that time.
+ * Stack in bytes, at the most: check, bad_row and run 73,500 and forecast 35,500, even with TERN, add, subtract and edit 4,300, value 2,600, the
+ * others 100. Where memcpy and memset are looked up on first use, the dynamic linker takes some 3,000 more at that time.
  *
  * Each buffer is a pointer and its length, and must hold as many bytes or words as its length says; the pointer may be NULL where the length
  * is 0. A buffer that a call may write, which is one without const and the answer array too, must not overlap any other buffer of that call.
@@ -24,8 +24,8 @@
  * subtract at places 0 to n + h - 1, in an edit of place p at places p - 1 to p + h of the rows as edited, -1 left out. Digits further below a
  * place than the reach had no part in the digit that the call found there. Of rows of zeros the reach is the length of leaf 0's word.
  *
- * A call returns YOYOMYRTLE_FACTS or YOYOMYRTLE_FAULT. If the answer array has under YOYOMYRTLE_ANSWER_WORDS words, it does nothing
- * and returns YOYOMYRTLE_TOO_SHORT. A call that refuses writes nothing but its answer. */
+ * A call returns YOYOMYRTLE_FACTS or YOYOMYRTLE_FAULT. If the answer array has under YOYOMYRTLE_ANSWER_WORDS words, or the string of bad_row
+ * under YOYOMYRTLE_STRING_BYTES bytes, it does nothing and returns YOYOMYRTLE_TOO_SHORT. A call that refuses writes nothing but its answer. */
 #ifndef YOYOMYRTLE_H
 #define YOYOMYRTLE_H
 
@@ -37,6 +37,7 @@ extern "C" {
 #endif
 
 #define YOYOMYRTLE_ANSWER_WORDS 8
+#define YOYOMYRTLE_STRING_BYTES 9
 #define YOYOMYRTLE_TERN_BYTES 165
 #define YOYOMYRTLE_BIN_BYTES 187
 
@@ -49,6 +50,20 @@ extern "C" {
  * leaf's word agree as far as both reach. */
 uint64_t yoyomyrtle_check(const uint8_t *file, size_t file_len,
                           int64_t *answer, size_t answer_len);
+
+/* Shows the row that refusal 14 is about. Where an upper and a lower leaf fit and give no alphabet digit, the facts are of the lowest upper leaf
+ * U for which this happens and the lowest lower leaf L with which it does: in word 1 how many bytes of the string are written, 2 to 9, U in
+ * word 2, L in word 3, and from word 4 on the parts of the digit, as many as the degree of the table's ring: a in word 4, b in word 5, c in
+ * word 6 from degree three on, d in word 7 at degree four. The digit is U's first digit plus L's weight minus the base times U's weight. The
+ * string holds input digits by their indexes, that of the top place first: U's first digit, and then the longer of U's word without it and L's
+ * word. In every row that holds it, from a place downwards, conversion gives the digit at that place. Further bytes of the string keep their
+ * contents.
+ *
+ * Word 1 is 0 where there is nothing to show, which is where the check accepts the table. The words from 2 on and all bytes of the string keep
+ * their contents then. Faults 1 to 13 are told as ever; 14 is no fault here. */
+uint64_t yoyomyrtle_bad_row(const uint8_t *table, size_t table_len,
+                            uint8_t *string, size_t string_len,
+                            int64_t *answer, size_t answer_len);
 
 /* Tells what a table and rows of so many digits will take, without judging a pair or adding. Facts: the number of fitting pairs in word 1, which
  * is the one that a check of an accepted table tells, and in word 2 the bytes that the sum of two such rows needs, digits + h. Over 256 digits it

@@ -41,7 +41,7 @@ import struct
 from collections import namedtuple
 
 _ROOT = os.path.dirname(os.path.dirname(os.path.realpath(__file__)))
-_ANSWER_WORDS, _TERN_BYTES, _BIN_BYTES = 8, 165, 187
+_ANSWER_WORDS, _STRING_BYTES, _TERN_BYTES, _BIN_BYTES = 8, 9, 165, 187
 _FACTS, _FAULT = 0, 1
 # What the answer array holds before a call. No fact is so low, and words with nothing to say keep it.
 _KEPT = -2**63
@@ -51,6 +51,7 @@ _DEEPEST = 8
 
 # Pairs here and the reach below came later and stand last, so that the other fields keep their numbers.
 Checked = namedtuple('Checked', 'depth leaves digits pairs')
+BadRow = namedtuple('BadRow', 'upper lower digit string')
 Forecast = namedtuple('Forecast', 'pairs bytes')
 Added = namedtuple('Added', 'places sum reach')
 Subtracted = namedtuple('Subtracted', 'places difference reach')
@@ -236,6 +237,32 @@ def check(table):
     yoyomyrtle.Refused: refused 14 place 2 (author): ...
     """
     return Checked(*_facts('check', _bytes(table)))
+
+
+def bad_row(table):
+    """What refusal 14 is about: the lowest upper leaf that gives no alphabet digit with a lower leaf that fits it, the lowest such lower leaf,
+    the digit that comes out, and a string of input digits, as their indexes, from the top: the upper word's first digit, and then the longer of
+    the rest of it and the lower word. In every row that holds the string, conversion gives that digit at the string's top place. None where
+    there is nothing to show, which is where `check` accepts the table.
+
+    TERN with weight 0 at input 2, which gives 3 where a 3 stands below it; its input digits 2 and 3 have the indexes 2 and 3:
+
+    >>> weights = {(0,): 0, (1,): 0, (2,): 0, (3,): 1, (4,): 1, (-1,): 0, (-2,): -1, (-3,): -1, (-4,): -1}
+    >>> row = bad_row(table((0, -1, 3, 0), [0, 1, 2, -1, -2], weights))
+    >>> row
+    BadRow(upper=2, lower=3, digit=Element(a=3, b=0), string=b'\\x02\\x03')
+    >>> print(*(inputs([0, 1, 2, -1, -2])[index] for index in row.string))
+    2 3
+    >>> print(bad_row(tern()))
+    None
+    """
+    string = _buffer([], _STRING_BYTES)
+    # Where there is nothing to show, the length of the string is the only fact.
+    size, *shown = _facts('bad_row', _bytes(table), string)
+    if not size:
+        return None
+    upper, lower, *digit = shown
+    return BadRow(upper, lower, Element(*digit), bytes(string[:size]))
 
 
 def forecast(table, digits):

@@ -1,6 +1,6 @@
 /* What include/yoyomyrtle.h promises besides the answers, tried: NULL where a length is 0, buffers that are only read lent twice, the words
- * of the answer that facts stand in and those that are kept, the degree that a table tells, and the stack that a call takes, with the tables
- * and rows of the stored vectors (docs/VECTORS.md has their format) on standard input.
+ * of the answer that facts stand in and those that are kept, the bytes of a bad row's string, the degree that a table tells, and the stack that
+ * a call takes, with the tables and rows of the stored vectors (docs/VECTORS.md has their format) on standard input.
  *
  *     cc -std=c99 -I include tests/header.c target/staticlib/libadder_c.a -o header && ./header <crates/vectors/stdin */
 #define _XOPEN_SOURCE 700
@@ -71,8 +71,9 @@ static void too_short(const char *what, uint64_t returned) {
 
 /* Each buffer of each call. The sum of empty rows is one digit with TERN. */
 static void nothing_lent(void) {
-    uint8_t sum[1];
+    uint8_t sum[1], string[YOYOMYRTLE_STRING_BYTES];
     fault("check: file", yoyomyrtle_check(NONE, ANSWER), 1, 1);
+    fault("bad_row: table", yoyomyrtle_bad_row(NONE, string, sizeof string, ANSWER), 1, 1);
     fault("forecast: table", yoyomyrtle_forecast(NONE, 257, ANSWER), 1, 1);
     fault("value: table", yoyomyrtle_value(NONE, NONE, ANSWER), 1, 1);
     facts("value: row", yoyomyrtle_value(tern, sizeof tern, NONE, ANSWER), 0, 0);
@@ -89,6 +90,8 @@ static void nothing_lent(void) {
     fact("run: rows", yoyomyrtle_run(tern, sizeof tern, NONE, NONE, sum, 1, NONE, NONE, NONE, NONE, NONE, NONE, ANSWER), 0);
     fault("run: sum", yoyomyrtle_run(tern, sizeof tern, NONE, NONE, NONE, NONE, NONE, NONE, NONE, NONE, NONE, ANSWER), 2, 23);
     too_short("check: answer", yoyomyrtle_check(tern, sizeof tern, NONE));
+    too_short("bad_row: answer", yoyomyrtle_bad_row(tern, sizeof tern, string, sizeof string, NONE));
+    too_short("bad_row: string", yoyomyrtle_bad_row(tern, sizeof tern, NONE, ANSWER));
     too_short("forecast: answer", yoyomyrtle_forecast(tern, sizeof tern, 257, NONE));
     too_short("value: answer", yoyomyrtle_value(tern, sizeof tern, NONE, NONE));
     too_short("add: answer", yoyomyrtle_add(tern, sizeof tern, NONE, NONE, sum, 1, NONE));
@@ -198,8 +201,14 @@ static void degrees(void) {
     parts("midpoint: two parts", yoyomyrtle_midpoint(-3, 5, 0, 0, 0, 2, 0, 0, ANSWER), 4, -2, 4, 0, 0);
 }
 
-/* Four facts of the check, two of the forecast. The latter counts pairs and judges none: with weight 0 at TERN's leaf 2, which has its record
- * behind the directory, the base, 5 alphabet and 9 input digits and two leaves, the check says 14 and the forecast what it said before. */
+/* TERN with weight 0 at leaf 2, which has its record behind the directory, the base, 5 alphabet and 9 input digits and two leaves. */
+static void refused_tern(uint8_t *out) {
+    memcpy(out, tern, sizeof tern);
+    out[20 + 8 + 5 * 4 + 9 * 4 + 2 * 8 + 4] = 0;
+}
+
+/* Four facts of the check, two of the forecast. The latter counts pairs and judges none: of the table that 14 refuses it says what it said
+ * before. */
 static void forecast(void) {
     const uint64_t over[] = {257, 65536, (uint64_t)1 << 32, UINT64_MAX};
     told("check: four facts", yoyomyrtle_check(tern, sizeof tern, ANSWER), YOYOMYRTLE_FACTS, 5, (const int64_t[]){0, 1, 9, 5, 81});
@@ -209,10 +218,48 @@ static void forecast(void) {
         fault("forecast: too many digits", yoyomyrtle_forecast(tern, sizeof tern, over[k], ANSWER), 2, 20);
     }
     uint8_t refused[sizeof tern];
-    memcpy(refused, tern, sizeof tern);
-    refused[20 + 8 + 5 * 4 + 9 * 4 + 2 * 8 + 4] = 0;
+    refused_tern(refused);
     told("check: 14", yoyomyrtle_check(refused, sizeof refused, ANSWER), YOYOMYRTLE_FAULT, 3, (const int64_t[]){1, 14, 2});
     facts("forecast: no pair is judged", yoyomyrtle_forecast(refused, sizeof refused, 256, ANSWER), 81, 257);
+}
+
+/* A string that is longer than bad_row needs it, and what each byte of it holds before the call. */
+enum { LENT_BYTES = YOYOMYRTLE_STRING_BYTES + 3, KEPT_BYTE = 0x77 };
+
+/* Makes the call with a string of so many bytes and judges which it wrote: the given ones, the further ones being kept. */
+static uint64_t shown(const char *what, const uint8_t *table, size_t table_len, size_t string_len, size_t count, const uint8_t *bytes) {
+    uint8_t string[LENT_BYTES];
+    memset(string, KEPT_BYTE, sizeof string);
+    uint64_t returned = yoyomyrtle_bad_row(table, table_len, string, string_len, ANSWER);
+    for (size_t at = 0; at < sizeof string; at++) {
+        judge(what, string[at] == (at < count ? bytes[at] : KEPT_BYTE));
+    }
+    return returned;
+}
+
+/* A bad row, as many parts as the degree of the ring, nothing to show, and faults. In the refused TERN 2 goes up from nothing, so that it gives 3
+ * with 3 below it. In BIN of every degree leaf 12, the digit -2, sends nothing up if its weight is 0; at degree two its record starts 8 * 12 bytes
+ * behind the leaves'. Eight bytes are too few for a string, however short it would be, and for nothing to show. */
+static void bad_row(void) {
+    uint8_t table[512];
+    refused_tern(table);
+    const uint8_t pair[] = {2, 3}, top[] = {4, 0};
+    const int64_t words[] = {0, 2, 2, 3, 3, 0};
+    told("bad_row: TERN", shown("bad_row: string", table, sizeof tern, 9, 2, pair), YOYOMYRTLE_FACTS, 6, words);
+    told("bad_row: long", shown("bad_row: long string", table, sizeof tern, LENT_BYTES, 2, pair), YOYOMYRTLE_FACTS, 6, words);
+    too_short("bad_row: 8 bytes", shown("bad_row: short string", table, sizeof tern, 8, 0, NULL));
+    too_short("bad_row: 8 bytes, nothing", shown("bad_row: short string", tern, sizeof tern, 8, 0, NULL));
+    fact("bad_row: nothing", shown("bad_row: no string", tern, sizeof tern, 9, 0, NULL), 0);
+    fault("bad_row: 1", shown("bad_row: refused", tern, 19, 9, 0, NULL), 1, 1);
+    yoyomyrtle_bin(table, sizeof table);
+    memset(table + 20 + 8 + 8 * 4 + 12 * 8 + 4, 0, 2);
+    told("bad_row: BIN", shown("bad_row: top", table, YOYOMYRTLE_BIN_BYTES, 9, 2, top), YOYOMYRTLE_FACTS, 6, (const int64_t[]){0, 2, 12, 0, -2, 0});
+    for (size_t degree = 3; degree <= 4; degree++) {
+        size_t table_len = raised(table, degree);
+        memset(table + 20 + 4 * degree + 8 * 2 * degree + 12 * (4 + 2 * degree) + 4, 0, 2 * degree);
+        const int64_t three[] = {0, 2, 12, 0, -2, 0, -2}, four[] = {0, 2, 12, 0, -2, 0, 0, -2};
+        told("bad_row: degree", shown("bad_row: top", table, table_len, 9, 2, top), YOYOMYRTLE_FACTS, 4 + degree, degree == 3 ? three : four);
+    }
 }
 
 /* What the calls below are given: buffers of one vector, those that it lacks being empty, and an edit. */
@@ -225,6 +272,10 @@ static size_t answers[3][EDITS];
 
 static void no_call(void) {}
 static void check_call(void) { yoyomyrtle_check(LENT(TABLE), ANSWER); }
+static void bad_row_call(void) {
+    static uint8_t string[YOYOMYRTLE_STRING_BYTES];
+    yoyomyrtle_bad_row(LENT(TABLE), string, sizeof string, ANSWER);
+}
 static void forecast_call(void) { yoyomyrtle_forecast(LENT(TABLE), 256, ANSWER); }
 static void add_call(void) { yoyomyrtle_add(LENT(TABLE), LENT(FIRST), LENT(SECOND), LENT(SUM), ANSWER); }
 static void subtract_call(void) { yoyomyrtle_subtract(LENT(TABLE), LENT(FIRST), LENT(SECOND), LENT(SUM), ANSWER); }
@@ -244,10 +295,10 @@ static struct {
     void (*call)(void);
     size_t promised, most;
 } calls[] = {
-    {"check", check_call, 73500, 0},      {"forecast", forecast_call, 35500, 0}, {"add", add_call, 4300, 0},
-    {"subtract", subtract_call, 4300, 0}, {"edit", edit_call, 4300, 0},          {"run", run_call, 73500, 0},
-    {"value", value_call, 2600, 0},       {"midpoint", midpoint_call, 100, 0},   {"tern", tern_call, 100, 0},
-    {"bin", bin_call, 100, 0},
+    {"check", check_call, 73500, 0}, {"bad_row", bad_row_call, 73500, 0},   {"forecast", forecast_call, 35500, 0},
+    {"add", add_call, 4300, 0},      {"subtract", subtract_call, 4300, 0}, {"edit", edit_call, 4300, 0},
+    {"run", run_call, 73500, 0},     {"value", value_call, 2600, 0},       {"midpoint", midpoint_call, 100, 0},
+    {"tern", tern_call, 100, 0},     {"bin", bin_call, 100, 0},
 };
 
 enum { CALLS = sizeof calls / sizeof *calls, STACK = 256 * 1024, PAINT = 0xa5 };
@@ -279,7 +330,7 @@ static void read_bytes(uint8_t *to, size_t count) {
 
 /* Takes the next vector's buffers; 0 where there is none. */
 static int next_vector(void) {
-    static const size_t buffers[] = {[1] = 1, [2] = 4, [3] = 4, [4] = 2, [8] = 4, [17] = 1, [19] = 1};
+    static const size_t buffers[] = {[1] = 1, [2] = 4, [3] = 4, [4] = 2, [8] = 4, [9] = 1, [17] = 1, [19] = 1};
     static const size_t more[] = {[3] = 24, [5] = 1, [17] = 8, [19] = 8};
     int call = getchar();
     uint8_t bytes[2 * 4 * 255];
@@ -325,6 +376,7 @@ int main(void) {
     reached();
     degrees();
     forecast();
+    bad_row();
     stack_taken();
     printf("%d things not as promised\n", wrong);
     return wrong > 0;

@@ -6,7 +6,7 @@ ROOT = os.path.join(os.path.dirname(os.path.abspath(__file__)), '..')
 STORED = os.path.join(ROOT, 'crates', 'vectors')
 
 # how many buffers follow a call's byte, and how many bytes follow them
-FOLLOWS = {1: (1, 0), 2: (4, 0), 3: (4, 24), 4: (2, 0), 5: (0, 1), 6: (0, 0), 7: (0, 0), 8: (4, 0), 17: (1, 8), 19: (1, 8)}
+FOLLOWS = {1: (1, 0), 2: (4, 0), 3: (4, 24), 4: (2, 0), 5: (0, 1), 6: (0, 0), 7: (0, 0), 8: (4, 0), 9: (1, 0), 17: (1, 8), 19: (1, 8)}
 # the call whose one byte is a degree; behind it come as many parts of two elements, four bytes each
 MIDPOINT = 5
 

@@ -77,6 +77,8 @@ impl Tally {
             return Err(format!("{}: accepted is {is_accepted}", sample.name));
         }
         self.compare(Call::Check, &mut lent)?;
+        // The string is written over the sum.
+        self.compare(Call::BadRow, &mut lent.clone())?;
         let mut calls = vec![Call::Forecast { digits: 256 }, Call::Add];
         if lend::subtracts(&lent) {
             calls.insert(0, Call::Subtract);
@@ -125,7 +127,7 @@ impl Tally {
             place: random.below(length + 1) as u64,
             digit: random.below(digits + 1) as u64,
         };
-        for call in [Call::Subtract, forecast(random)] {
+        for call in [Call::Subtract, Call::BadRow, forecast(random)] {
             self.compare(call, &mut lent.clone())?;
         }
         for call in [Call::Check, Call::Add, edit, edit, Call::Value] {

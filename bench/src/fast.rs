@@ -90,6 +90,37 @@ fn check_at<D: Degree>(file: &[u8], pairs: Pairs) -> Result<TableFacts, Fault> {
     })
 }
 
+/// The facts of a bad row, as many as there are: one where there is nothing to show.
+pub struct Shown {
+    words: [i64; 7],
+    count: usize,
+}
+
+impl AsRef<[i64]> for Shown {
+    fn as_ref(&self) -> &[i64] {
+        &self.words[..self.count]
+    }
+}
+
+/// The bad row, whose string is written.
+pub fn bad_row(file: &[u8], pairs: Pairs, string: &mut [u8]) -> Result<Shown, Fault> {
+    by_degree!(file, bad_row_at(pairs, string))
+}
+
+fn bad_row_at<D: Degree>(file: &[u8], pairs: Pairs, string: &mut [u8]) -> Result<Shown, Fault> {
+    let table = read::<D, true>(file)?;
+    let mut words = [0; 7];
+    let Err(upper) = pairs::judge(&table, pairs) else {
+        return Ok(Shown { words, count: 1 });
+    };
+    let lower = pairs::first_bad_lower(&table, upper);
+    let bytes = pairs::write_string(&table, upper, lower, string);
+    words[..3].copy_from_slice(&[bytes, upper, lower].map(|fact| fact as i64));
+    words[3..][..D::PARTS].copy_from_slice(pairs::digit(&table, upper, lower).as_ref());
+    let count = 3 + D::PARTS;
+    Ok(Shown { words, count })
+}
+
 /// The forecast: the fitting pairs, and the bytes of a sum.
 pub fn forecast(file: &[u8], digits: u64) -> Result<[usize; 2], Fault> {
     by_degree!(file, forecast_at(digits))

@@ -32,6 +32,7 @@ fn jobs(sample: &Sample, length: usize) -> Vec<Job> {
     let rows = || lend::rows(parts, accepted, length);
     let mut jobs = vec![
         job("check", vec![Call::Check], rows()),
+        job("bad_row", vec![Call::BadRow], rows()),
         job(
             "forecast",
             vec![Call::Forecast {

@@ -3,7 +3,7 @@
 use reference::{Fault, Group};
 
 use crate::fast::{self, Pairs};
-use crate::interface::{Call, Calls, Lent, ANSWER_WORDS, FACTS, FAULT, TOO_SHORT};
+use crate::interface::{Call, Calls, Lent, ANSWER_WORDS, FACTS, FAULT, STRING_BYTES, TOO_SHORT};
 
 /// The fast form, with one of its ways through the pairs of rule 14.
 pub struct Fast(pub Pairs);
@@ -25,6 +25,8 @@ impl Calls for Fast {
             Call::Check => store(answer, fast::check(table, self.0), |facts| {
                 words([facts.depth, facts.leaves, facts.digits, facts.pairs])
             }),
+            Call::BadRow if sum.len() < STRING_BYTES => TOO_SHORT,
+            Call::BadRow => store(answer, fast::bad_row(table, self.0, sum), |facts| facts),
             Call::Forecast { digits } => store(answer, fast::forecast(table, digits), words),
             Call::Add => store(answer, fast::add(table, first, second, sum), words),
             Call::Subtract => store(answer, fast::subtract(table, first, second, sum), words),

@@ -9,6 +9,14 @@ extern "C" {
         answer: *mut i64,
         answer_len: usize,
     ) -> u64;
+    fn yoyomyrtle_bad_row(
+        table: *const u8,
+        table_len: usize,
+        string: *mut u8,
+        string_len: usize,
+        answer: *mut i64,
+        answer_len: usize,
+    ) -> u64;
     fn yoyomyrtle_forecast(
         table: *const u8,
         table_len: usize,
@@ -118,6 +126,7 @@ impl Calls for Library {
         unsafe {
             match *call {
                 Call::Check => yoyomyrtle_check(table, table_len, answer, words),
+                Call::BadRow => yoyomyrtle_bad_row(table, table_len, sum, sum_len, answer, words),
                 Call::Forecast { digits } => {
                     yoyomyrtle_forecast(table, table_len, digits, answer, words)
                 }

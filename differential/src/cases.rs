@@ -1,5 +1,6 @@
 //! The cases: which tables, rows, buffers and numbers are tried.
 
+mod bad_rows;
 mod forecasts;
 mod lending;
 mod lists;
@@ -20,7 +21,7 @@ use lists::{ask, edits, random_edit, subtraction};
 
 /// Runs one case.
 pub fn run(pool: &Pool, comparison: &mut Comparison, random: &mut Random) {
-    match random.below(103) {
+    match random.below(111) {
         0..=16 => lists::list_of_edits(pool, comparison, random),
         17..=24 => lists::runs(pool, comparison, random),
         25..=28 => lists::needle(pool, comparison, random),
@@ -35,7 +36,8 @@ pub fn run(pool: &Pool, comparison: &mut Comparison, random: &mut Random) {
         84..=91 => values::values(pool, comparison, random),
         92..=96 => values::midpoints(comparison, random),
         97..=99 => short_buffers(pool, comparison, random),
-        _ => forecasts::forecasts(pool, comparison, random),
+        100..=102 => forecasts::forecasts(pool, comparison, random),
+        _ => bad_rows::bad_rows(pool, comparison, random),
     }
 }
 
@@ -54,7 +56,7 @@ fn damaged(pool: &Pool, comparison: &mut Comparison, times: usize, random: &mut 
 fn try_table(parts: &Parts, file: Vec<u8>, comparison: &mut Comparison, random: &mut Random) {
     let mut lent = lend(parts, file, random);
     comparison.call(Call::Check, &mut lent);
-    match random.below(8) {
+    match random.below(9) {
         0 => edits(parts, comparison, &mut lent, random),
         1 => {
             let call = random_edit(parts, lent.first.len(), random);
@@ -73,6 +75,9 @@ fn try_table(parts: &Parts, file: Vec<u8>, comparison: &mut Comparison, random: 
         }
         5 => subtraction(comparison, &lent),
         6 => forecasts::forecast(comparison, &lent, random),
+        7 => {
+            comparison.call(Call::BadRow, &mut bad_rows::lend_string(&lent, random));
+        }
         _ => (),
     }
 }
@@ -124,6 +129,7 @@ fn prefix_code(comparison: &mut Comparison, random: &mut Random) {
         comparison.call(Call::Check, &mut lent);
     }
     forecasts::forecast(comparison, &lent, random);
+    comparison.call(Call::BadRow, &mut bad_rows::lend_string(&lent, random));
     edits(&parts, comparison, &mut lent, random);
     comparison.call(Call::Value, &mut lent);
 }
@@ -143,6 +149,7 @@ fn refused_pair(pool: &Pool, comparison: &mut Comparison, random: &mut Random) {
         comparison.call(call, &mut lent);
     }
     subtraction(comparison, &lent);
+    comparison.call(Call::BadRow, &mut bad_rows::lend_string(&lent, random));
     ask(parts, &mut lent, random);
     comparison.call(Call::Run, &mut lent);
     edits(parts, comparison, &mut lent, random);
@@ -193,8 +200,9 @@ fn short_buffers(pool: &Pool, comparison: &mut Comparison, random: &mut Random) 
         lent.answer.truncate(random.below(8));
     }
     let out = random.pick(&[0, 1, 164, 165, 166, 186, 187, 188, 300]);
-    let call = match random.below(10) {
+    let call = match random.below(11) {
         0 => Call::Check,
+        10 => Call::BadRow,
         8 => Call::Subtract,
         9 => forecasts::any(random),
         1 => Call::Add,
@@ -213,6 +221,9 @@ fn short_buffers(pool: &Pool, comparison: &mut Comparison, random: &mut Random) 
     }
     if matches!(call, Call::Tern | Call::Bin) {
         lent.sum = random.bytes(out);
+    }
+    if call == Call::BadRow {
+        lent = bad_rows::lend_string(&lent, random);
     }
     comparison.call(call, &mut lent);
 }

@@ -8,6 +8,9 @@ pub const PARTS: usize = 4;
 
 pub type Passed = [i32; PARTS];
 
+/// The bytes that the lent string of a bad row has at least.
+pub const STRING_BYTES: usize = 9;
+
 /// What a call returns for facts.
 pub const FACTS: u64 = 0;
 /// What a call returns for a fault.
@@ -19,6 +22,7 @@ pub const TOO_SHORT: u64 = 2;
 #[derive(Clone, Copy, Debug, PartialEq, Eq)]
 pub enum Call {
     Check,
+    BadRow,
     Forecast { digits: u64 },
     Add,
     Subtract,
@@ -34,6 +38,7 @@ impl Call {
     pub fn name(&self) -> &'static str {
         match self {
             Call::Check => "check",
+            Call::BadRow => "bad_row",
             Call::Forecast { .. } => "forecast",
             Call::Add => "add",
             Call::Subtract => "subtract",
@@ -53,7 +58,7 @@ impl Call {
 }
 
 /// Everything lent to a call. A call uses the buffers that it has parameters for: the value call takes `first` as its row, and a
-/// difference or a carried table is written to `sum`. The runner takes the numbers of its edits from `rows`, `places` and `digits` and
+/// difference, the string of a bad row or a carried table is written to `sum`. The runner takes the numbers of its edits from `rows`, `places` and `digits` and
 /// tells their answers in `whose`, `numbers` and `values`. All are compared after every call, the ones that may only be read included.
 #[derive(Clone, Debug, Default, PartialEq, Eq)]
 pub struct Lent {

@@ -1,7 +1,8 @@
 //! Kinds of cases that a refusal number alone doesn't tell apart: those of subtraction and of input digits beyond the sums (job 2),
-//! those of midpoints at the half (job 6), those of the reach (job 7), those of degree three and four (job 8), and those of the forecast
-//! (job 13).
+//! those of midpoints at the half (job 6), those of the reach (job 7), those of degree three and four (job 8), those of the forecast
+//! (job 13), and those of bad rows (job 5).
 
+mod bad_row;
 mod degrees;
 mod forecast;
 mod reach;
@@ -123,11 +124,42 @@ pub enum Kind {
     /// The pairs of the check and of a forecast, and the bytes of a forecast and of the sum after it.
     PairsOfCheckAndForecast,
     SumAsForecast,
+    /// A bad row is shown, nothing is, and a fault of 1 to 13 is passed on.
+    RowShown,
+    NothingToShow,
+    BadRowRefused,
+    /// The upper word's tail is longer than the lower word, as long, and shorter.
+    TailLonger,
+    TailAsLong,
+    TailShorter,
+    /// A string of two digits, and one of nine.
+    ShortestString,
+    LongestString,
+    /// The upper leaf is the lower one too.
+    LeafWithItself,
+    /// In small tables, before the lower leaf: one that fits and passes, and one that fails and doesn't fit.
+    FittingLowerBefore,
+    FailingLowerBefore,
+    /// In small tables: a later lower leaf fails with the upper one too; a later upper leaf fails too, and with an earlier lower one.
+    LaterLower,
+    LaterUpper,
+    LowerOfLaterUpper,
+    /// Facts by a table of degree three or four.
+    BadRowBeyondTwo,
+    /// A part of the digit that 16 bits don't hold; a row shown of over 3,000 leaves.
+    WideDigit,
+    RowOfManyLeaves,
+    /// A lent string of more than nine bytes, and one of fewer.
+    LongString,
+    ShortString,
+    /// The upper leaf and the place of the check's 14; an addition of rows that hold the string, which says 27.
+    UpperOfCheck,
+    AddedBadRow,
 }
 
 impl Kind {
     /// All of them, for the report of those that a run missed.
-    pub const ALL: [Kind; 74] = [
+    pub const ALL: [Kind; 95] = [
         Kind::Subtracted,
         Kind::SubtractedByFurther,
         Kind::UnlistedFromZero,
@@ -202,6 +234,27 @@ impl Kind {
         Kind::ForecastBeyondTwo,
         Kind::PairsOfCheckAndForecast,
         Kind::SumAsForecast,
+        Kind::RowShown,
+        Kind::NothingToShow,
+        Kind::BadRowRefused,
+        Kind::TailLonger,
+        Kind::TailAsLong,
+        Kind::TailShorter,
+        Kind::ShortestString,
+        Kind::LongestString,
+        Kind::LeafWithItself,
+        Kind::FittingLowerBefore,
+        Kind::FailingLowerBefore,
+        Kind::LaterLower,
+        Kind::LaterUpper,
+        Kind::LowerOfLaterUpper,
+        Kind::BadRowBeyondTwo,
+        Kind::WideDigit,
+        Kind::RowOfManyLeaves,
+        Kind::LongString,
+        Kind::ShortString,
+        Kind::UpperOfCheck,
+        Kind::AddedBadRow,
     ];
 }
 
@@ -211,6 +264,9 @@ pub fn met(call: &Call, outcome: Outcome, before: &Lent, lent: &Lent) -> Vec<Kin
     kinds.extend(holding(degrees::met(call, outcome, lent)));
     if let Call::Forecast { digits } = *call {
         kinds.extend(holding(forecast::met(digits, outcome, lent)));
+    }
+    if *call == Call::BadRow {
+        kinds.extend(holding(bad_row::met(outcome, lent)));
     }
     let reaches = matches!(call, Call::Add | Call::Subtract | Call::Edit { .. });
     if reaches && outcome == Outcome::Facts {

@@ -2,9 +2,9 @@
 
 use reference::by_table;
 use reference::table::{self, Reading};
-use reference::{Answer, Group, Operation};
+use reference::{Answer, BadRow, Group, Operation};
 
-use crate::interface::{Call, Calls, Lent, ANSWER_WORDS, FACTS, FAULT, TOO_SHORT};
+use crate::interface::{Call, Calls, Lent, ANSWER_WORDS, FACTS, FAULT, STRING_BYTES, TOO_SHORT};
 
 /// The reference as an implementation of the interface.
 pub struct Model;
@@ -21,6 +21,7 @@ pub fn call_by(read: impl Fn(&[u8]) -> Reading, call: &Call, lent: &mut Lent) ->
         Call::Tern => write_carried(&reference::tern(), &mut lent.sum),
         Call::Bin => write_carried(&reference::bin(), &mut lent.sum),
         _ if lent.answer.len() < ANSWER_WORDS => TOO_SHORT,
+        Call::BadRow if lent.sum.len() < STRING_BYTES => TOO_SHORT,
         Call::Midpoint { x, y } => {
             let half = reference::midpoint(&x, &y);
             let parts = half.into_iter().map(i64::from).collect();
@@ -62,6 +63,10 @@ fn answer(reading: &Reading, call: &Call, lent: &mut Lent) -> Answer<Vec<i64>> {
         Call::Check => facts(by_table::check(reading), |f| {
             words([f.depth, f.leaves, f.digits, f.pairs])
         }),
+        Call::BadRow => facts(by_table::bad_row(reading), |shown| match shown {
+            Some(row) => show(&row, sum),
+            None => words([0]),
+        }),
         Call::Forecast { digits } => facts(by_table::forecast(reading, digits), |f| {
             words([f.pairs, f.bytes])
         }),
@@ -83,6 +88,15 @@ fn answer(reading: &Reading, call: &Call, lent: &mut Lent) -> Answer<Vec<i64>> {
         Call::Value => facts(by_table::value(reading, first), |x| x.parts),
         Call::Midpoint { .. } | Call::Tern | Call::Bin => Answer::Facts(Vec::new()),
     }
+}
+
+/// The string of a bad row goes into the buffer's start; its length, the leaves' numbers and the digit's parts are the facts.
+pub fn show(row: &BadRow, string: &mut [u8]) -> Vec<i64> {
+    let bytes = row.string.len();
+    string[..bytes].copy_from_slice(&row.string);
+    let mut facts = words([bytes, row.upper, row.lower]);
+    facts.extend(&row.digit.parts);
+    facts
 }
 
 fn words<const N: usize>(facts: [usize; N]) -> Vec<i64> {

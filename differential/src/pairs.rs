@@ -1,6 +1,8 @@
 //! Tables made by changing weights with rule 14 in view: ones that it refuses because of a single pair of leaves, among them a leaf
-//! with itself; and accepted ones in which digits far below decide, so that the top places of a sum aren't all zero.
+//! with itself; and accepted ones in which digits far below decide, so that the top places of a sum aren't all zero. And what rule 14 says of
+//! two leaves of a table.
 
+use reference::table::Table;
 use reference::{Base, Element, Parts};
 
 use crate::codes;
@@ -99,7 +101,7 @@ fn constant_leaf(parts: &mut Parts, random: &mut Random) -> usize {
 }
 
 /// The pairs with this leaf, upper or lower, that give no alphabet digit.
-fn failing(parts: &Parts, leaf: usize) -> Vec<(usize, usize)> {
+pub fn failing(parts: &Parts, leaf: usize) -> Vec<(usize, usize)> {
     let base = Base::of(&parts.base);
     let fails = |upper: usize, lower: usize| {
         let (high, low) = (&parts.leaves[upper], &parts.leaves[lower]);
@@ -121,4 +123,17 @@ fn failing(parts: &Parts, leaf: usize) -> Vec<(usize, usize)> {
     pairs
         .filter(|(upper, lower)| fails(*upper, *lower))
         .collect()
+}
+
+/// The upper word without its first digit and the lower word agree as far as both reach.
+pub fn fit(table: &Table, upper: usize, lower: usize) -> bool {
+    let (high, low) = (&table.leaves[upper].word, &table.leaves[lower].word);
+    high[1..].iter().zip(low).all(|(x, y)| x == y)
+}
+
+/// The first digit of the upper leaf, plus the lower leaf's weight, minus the base times the upper leaf's.
+pub fn digit(table: &Table, upper: usize, lower: usize) -> Element {
+    let (high, low) = (&table.leaves[upper], &table.leaves[lower]);
+    let first = &table.inputs[usize::from(high.word[0])];
+    &(first + &low.weight) - &table.base.times(&high.weight)
 }

@@ -101,8 +101,8 @@ impl<'a> Comparison<'a> {
     /// The counts, one line for each call, and then those of each refusal number over all calls.
     pub fn print(&self) {
         for name in [
-            "check", "forecast", "add", "subtract", "edit", "run", "value", "midpoint", "tern",
-            "bin",
+            "check", "bad_row", "forecast", "add", "subtract", "edit", "run", "value", "midpoint",
+            "tern", "bin",
         ] {
             let of_call = self.counts.iter().filter(|((call, _), _)| *call == name);
             let parts: Vec<String> = of_call

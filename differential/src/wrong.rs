@@ -1,5 +1,6 @@
 //! Implementations with one mistake each, to see that the comparison finds it.
 
+mod bad_row;
 mod degrees;
 mod forecast;
 mod midpoint;
@@ -110,6 +111,8 @@ pub enum Mistake {
     Pairs(&'static str, forecast::Counted),
     /// Something else is wrong with the forecast.
     Forecast(forecast::Slip),
+    /// Something is wrong with a bad row.
+    BadRow(bad_row::Slip),
     /// The place of one refusal number is one too high in subtraction.
     SubtractPlaceOff(i64),
     /// The place of one refusal number is one too high.
@@ -154,6 +157,7 @@ pub fn mistakes() -> Vec<Mistake> {
     all.extend(reach::mistakes());
     all.extend(degrees::mistakes());
     all.extend(forecast::mistakes());
+    all.extend(bad_row::mistakes());
     all.extend(NUMBERS.map(PlaceOff));
     all.extend(NUMBERS.map(NumberOff));
     all
@@ -181,6 +185,9 @@ impl Calls for Wrong {
         }
         if let Mistake::Forecast(slip) = self.mistake {
             return forecast::call(slip, call, lent);
+        }
+        if let Mistake::BadRow(slip) = self.mistake {
+            return bad_row::call(slip, call, lent);
         }
         let before = lent.clone();
         let returned = Model.call(&self.asked(call), lent);

@@ -1,6 +1,7 @@
 //! The calls that are given a table, by what the reader made of its file: a table past 1 to 13, or the fault that they pass on.
 
 use crate::answer::{editor, rows, Answer, Fault};
+use crate::bad_row::{self, BadRow};
 use crate::conversion::converted_row;
 use crate::element::{Element, Operation};
 use crate::reach;
@@ -60,6 +61,11 @@ pub fn check(reading: &Reading) -> Answer<TableFacts> {
         })
     };
     judge().into()
+}
+
+/// The row that refusal 14 is about, which is no fault here; none where there is nothing to show.
+pub fn bad_row(reading: &Reading) -> Answer<Option<BadRow>> {
+    table_of(reading).map(bad_row::first).into()
 }
 
 /// The forecast for rows of so many digits. It looks at words alone, so that a table that rule 14 refuses has one too.

@@ -1,6 +1,7 @@
 //! The calls of document 01 and of the jobs that have landed. Each reads its table anew.
 
 use crate::answer::Answer;
+use crate::bad_row::BadRow;
 use crate::by_table::{self, Asked, EditFacts, ForecastFacts, RowFacts, TableFacts};
 use crate::element::{Element, Operation};
 use crate::reach::{self, LeafFacts, Window};
@@ -9,6 +10,11 @@ use crate::table;
 /// The table check: rules 1 to 14.
 pub fn check(file: &[u8]) -> Answer<TableFacts> {
     by_table::check(&table::read(file))
+}
+
+/// The row that refusal 14 is about, or none where the check accepts (job 5).
+pub fn bad_row(file: &[u8]) -> Answer<Option<BadRow>> {
+    by_table::bad_row(&table::read(file))
 }
 
 /// What an addition of two rows of so many digits will take (job 13).

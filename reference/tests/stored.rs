@@ -69,6 +69,8 @@ fn every_kind_of_line_is_stored() {
         "difference",
         "leaf",
         "pairs",
+        "pair ",
+        "nothing",
     ];
     for head in heads {
         let kept = expected.lines().any(|line| line.starts_with(head));

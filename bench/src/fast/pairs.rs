@@ -56,6 +56,53 @@ pub fn offset<D: Degree>(table: &Table<D>, upper: usize) -> D::Key {
     D::key(first).minus(carried_up)
 }
 
+/// The first leaf of the run that fits an upper leaf and gives no alphabet digit with it.
+pub fn first_bad_lower<D: Degree>(table: &Table<D>, upper: usize) -> usize {
+    let code = &table.code;
+    let offset = offset(table, upper);
+    // A word that begins the tail, or the first that the tail begins.
+    let start = code.search(code.keys[upper] << 8);
+    let end = run(&code.keys, start, tail_end(table, upper));
+    let digit = |lower: usize| D::key(code.weight(lower)).plus(offset);
+    let bad = (start..end).find(|lower| table.alphabet.index(digit(*lower)).is_none());
+    bad.expect("an upper leaf that fails")
+}
+
+/// The parts of the digit that two leaves give.
+pub fn digit<D: Degree>(table: &Table<D>, upper: usize, lower: usize) -> D::Parts {
+    let first = (table.code.keys[upper] >> 56) as usize;
+    let mut digit = D::element(table.sections.inputs[first].as_ref());
+    let comes_up = table.code.weight(lower);
+    for (sum, part) in digit.as_mut().iter_mut().zip(comes_up.as_ref()) {
+        *sum += part;
+    }
+    let goes_up = table.code.weight(upper);
+    for (power, part) in table.sections.base.as_ref().iter().zip(goes_up.as_ref()) {
+        for (sum, of_power) in digit.as_mut().iter_mut().zip(power.as_ref()) {
+            *sum -= of_power * part;
+        }
+    }
+    digit
+}
+
+/// The upper word's first digit, then the longer of its tail and the lower word; how many bytes that is.
+pub fn write_string<D: Degree>(
+    table: &Table<D>,
+    upper: usize,
+    lower: usize,
+    string: &mut [u8],
+) -> usize {
+    let code = &table.code;
+    let [high, low] = [upper, lower].map(|leaf| code.keys[leaf].to_be_bytes());
+    let [high, low] =
+        [(&high, upper), (&low, lower)].map(|(word, leaf)| &word[..code.length(leaf)]);
+    let tail = &high[1..];
+    let below = if tail.len() > low.len() { tail } else { low };
+    string[0] = high[0];
+    string[1..][..below.len()].copy_from_slice(below);
+    1 + below.len()
+}
+
 /// Pair by pair.
 fn by_runs<D: Degree>(table: &Table<D>) -> Result<usize, usize> {
     let code = &table.code;

@@ -11,7 +11,7 @@ use crate::random::Random;
 use crate::tally::{Comparison, Outcome};
 
 /// Most of these tables are small, since the reference tries every two leaves.
-const FEW_LEAVES: usize = 400;
+pub const FEW_LEAVES: usize = 400;
 
 /// Forecasts by one table: an accepted one, one that rule 14 refuses, a damaged one; with the check in front of one of them.
 pub fn forecasts(pool: &Pool, comparison: &mut Comparison, random: &mut Random) {

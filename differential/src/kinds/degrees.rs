@@ -48,6 +48,7 @@ fn of_call(call: &Call) -> Kind {
         Call::Edit { .. } => Kind::EditedBeyondTwo,
         Call::Run => Kind::RanBeyondTwo,
         Call::Forecast { .. } => Kind::ForecastBeyondTwo,
+        Call::BadRow => Kind::BadRowBeyondTwo,
         _ => Kind::AddedBeyondTwo,
     }
 }

@@ -29,7 +29,12 @@ pub fn mistakes() -> Vec<Mistake> {
         MissingSumFirst,
         PairsOfSumsOnly,
     ];
-    all.extend(["check", "forecast", "add", "edit", "run", "value"].map(UnlistedSaidBy));
+    all.extend(
+        [
+            "check", "bad_row", "forecast", "add", "edit", "run", "value",
+        ]
+        .map(UnlistedSaidBy),
+    );
     all.extend([20, 21, 22, 23, 27].map(SubtractPlaceOff));
     all
 }

@@ -3,7 +3,7 @@
 
 use std::io::{self, Read, Write};
 
-use reference::{Answer, EditFacts, ForecastFacts, LeafFacts, RowFacts};
+use reference::{Answer, BadRow, EditFacts, ForecastFacts, LeafFacts, RowFacts};
 
 fn main() -> io::Result<()> {
     let mut bytes = Vec::new();
@@ -77,6 +77,7 @@ fn next_line(run: &mut Reader) -> Option<String> {
         6 => Some(format!("table {}", hexadecimal(&reference::tern()))),
         7 => Some(format!("table {}", hexadecimal(&reference::bin()))),
         8 => row_line(run, "difference", reference::subtract),
+        9 => Some(bad_row_line(&run.buffer()?)),
         17 => forecast_line(run),
         19 => look_up_line(run),
         _ => None,
@@ -90,6 +91,21 @@ fn check_line(file: &[u8]) -> String {
             facts.depth, facts.leaves, facts.digits, facts.pairs
         )
     })
+}
+
+fn bad_row_line(table: &[u8]) -> String {
+    or_fault(reference::bad_row(table), |shown| match shown {
+        Some(row) => shown_row(&row),
+        None => "nothing".to_string(),
+    })
+}
+
+fn shown_row(row: &BadRow) -> String {
+    let (parts, string) = (list(&row.digit.parts), hexadecimal(&row.string));
+    format!(
+        "pair {} {} digit {parts} string {string}",
+        row.upper, row.lower
+    )
 }
 
 fn forecast_line(run: &mut Reader) -> Option<String> {

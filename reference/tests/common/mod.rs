@@ -5,8 +5,15 @@ use std::process::{Command, Stdio};
 
 use reference::{carried, check, Answer, Parts};
 
-/// TERN with some leaves replaced by all their one-digit extensions, each of which keeps the weight.
+/// The file of TERN with longer words, which is accepted as TERN is.
 pub fn longer_words(split: &[&[u8]]) -> Vec<u8> {
+    let file = longer_parts(split).write();
+    assert!(matches!(check(&file), Answer::Facts(_)));
+    file
+}
+
+/// TERN with some leaves replaced by all their one-digit extensions, each of which keeps the weight.
+pub fn longer_parts(split: &[&[u8]]) -> Parts {
     let mut parts: Parts = carried::tern_parts();
     for word in split {
         let at = parts.leaves.iter().position(|leaf| leaf.0 == *word);
@@ -15,9 +22,7 @@ pub fn longer_words(split: &[&[u8]]) -> Vec<u8> {
         let extensions = (0..9).map(|below| ([word, &[below][..]].concat(), weight.clone()));
         parts.leaves.splice(at..=at, extensions);
     }
-    let file = parts.write();
-    assert!(matches!(check(&file), Answer::Facts(_)));
-    file
+    parts
 }
 
 /// A buffer as the vectors write it.
