@@ -3,7 +3,6 @@
 // their contents. A call returns 0 for facts, 1 for a fault, and 2 where a lent array is too short, which it then leaves alone.
 ghost use mathlib.Core.Path.{_≡_};
 ghost use mathlib.Core.List.{[], _∷_};
-ghost use Prim.Native.Nat.{_≤_};
 ghost use lib.ListN.{length};
 ghost use Rattle.lists.specs.Overwrite.{overwrite};
 ghost use Rattle.faults.specs.Outcome.{facts};
@@ -12,16 +11,16 @@ ghost use Rattle.layout_rules.specs.Section.{degreeIn};
 ghost use Rattle.midpoint.specs.Midpoint.{midpointOf};
 ghost use Rattle.table_rules.specs.Check.{checkOutcome};
 ghost use Rattle.forecast_rules.specs.Forecast.{forecastOutcome};
-ghost use Rattle.bad_row_rules.specs.BadRow.{badRowOutcome, badRowIn};
 ghost use Rattle.adder_rules.specs.Calls.{addOutcome, addSum, subtractOutcome, subtractDifference};
 ghost use Rattle.edit_rules.specs.Edit.{editOutcome, editState};
 ghost use Rattle.edit_rules.specs.State.{state};
 ghost use Rattle.value_call_rules.specs.Value.{valueOutcome};
 ghost use Rattle.carried.specs.Tables.{ternFile, binFile};
-ghost use Rattle.answer_rules.specs.Answer.{ifRoom, returned, answered, checkWords, forecastWords, addWords, editWords, elementWords, badRowWords};
+ghost use Rattle.answer_rules.specs.Answer.{ifRoom, returned, answered, checkWords, forecastWords, addWords, editWords, elementWords};
 use midpoint::Element;
 use ring::Degree;
 
+mod bad_rows;
 mod run;
 
 #[no_mangle]
@@ -45,41 +44,6 @@ pub extern "C" fn yoyomyrtle_forecast(table: &[u8], digits: u64, answer: &mut [i
         return 2;
     }
     answers::forecasted(answer, forecast::forecast(table, digits as usize))
-}
-
-// Writes nine bytes at the start of a buffer.
-fn put_nine(out: &mut [u8], bytes: &[u8; 9])
-    requires { ⌜ 9 ≤ length (now out) ⌝ }
-    ensures nine { λ _. ⌜ length (now (bytes .entry)) ≡ 9 ⌝ }
-    ensures written { λ _. ⌜ now (out .exit) ≡ overwrite (now (out .entry)) 0 (now (bytes .entry)) ⌝ }
-{
-    octets::put(out, 0, bytes);
-}
-
-// The string goes into the first nine bytes of `string`, as many of them as word 1 says; with fewer than nine both arrays are left alone.
-#[no_mangle]
-pub extern "C" fn yoyomyrtle_bad_row(table: &[u8], string: &mut [u8], answer: &mut [i64]) -> u64
-    ensures outcome { λ r. ⌜ r
-        ≡ ifRoom 9 (length (now (string .entry))) (returned (badRowOutcome (now (table .entry))) (now (answer .entry))) 2 ⌝ }
-    ensures answer { λ r. ⌜ now (answer .exit)
-        ≡ ifRoom 9 (length (now (string .entry)))
-        (answered (badRowWords (degreeIn (now (table .entry)))) (badRowOutcome (now (table .entry))) (now (answer .entry))) (now (answer .entry)) ⌝ }
-    ensures string { λ r. ⌜ now (string .exit)
-        ≡ ifRoom 9 (length (now (string .entry)))
-        (ifRoom 8 (length (now (answer .entry))) (badRowIn (now (table .entry)) (now (string .entry))) (now (string .entry))) (now (string .entry)) ⌝ }
-{
-    if answer.len() < 8 {
-        return 2;
-    }
-    if string.len() < 9 {
-        return 2;
-    }
-    let mut bytes = [0u8; 9];
-    octets::put(&mut bytes, 0, &string[..9]);
-    let degree = layout::degree_in(table);
-    let status = answers::shown(degree, answer, bad_row::bad_row(table, &mut bytes));
-    put_nine(string, &bytes);
-    status
 }
 
 #[no_mangle]

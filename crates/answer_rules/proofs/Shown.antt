@@ -2,19 +2,19 @@
 -- first nine bytes of the string, which are copied out and written back.
 use mathlib.Core.Path.{_≡_, refl, sym, ap, _∙_}
 use mathlib.Core.Bool.{Bool, true, false}
-use mathlib.Core.List.{List, [], _∷_, _++_, append-assoc, append-nil}
+use mathlib.Core.List.{List, _++_, append-assoc, append-nil}
 use Prim.Native.Nat.{ℕ, _<_, _≤_}
 use native.Mathlib.Nat.{zero-add}
 use native.Mathlib.Omega.{arith}
 use lib.IntN.{ℤ}
 use lib.Dec.{ltb}
-use lib.ListN.{length, take, drop, length-append, length-drop, take-append-drop, drop-of-length-le}
+use lib.ListN.{length, take, drop, length-append, take-append-drop, drop-of-length-le}
 use lib.Seq.{length-take-le, drop-append-le}
 use Rattle.lists.specs.Overwrite.{overwrite}
 use Rattle.lists.proofs.Overwrite.{length-overwrite}
-use Rattle.faults.specs.Outcome.{Group, Outcome, facts, refused, atExit}
+use Rattle.faults.specs.Outcome.{Outcome, facts, refused, atExit}
 use Rattle.ring.specs.declared.Degree.{Degree}
-use Rattle.bad_row_rules.specs.Shows.{Shows, RowFacts, row, nothing}
+use Rattle.bad_row_rules.specs.Shows.{Shows, row, nothing}
 use Rattle.bad_row_rules.specs.BadRow.{badRowOutcome, badRowIn, shows, stringOf, pairIn, written}
 use Rattle.answer_rules.specs.Answer.{outcomeWords, outcomeStatus, ifRoom, returned, answered, badRowWords}
 use Rattle.answer_rules.proofs.Answer.{no-room, some-room, short, told}
@@ -40,19 +40,27 @@ module _ {A : Type 0} where
   through-front s new n l h =
       let front = length-take-le n s h in
       let rest = drop (length new) (take n s) in
+      let again : rest ++ drop n s ≡ drop (length new) s =
+          sym (drop-append-le (length new) (take n s) (drop n s) (omega (arith, front))) ∙ ap (drop (length new)) (take-append-drop n s) in
       back s (overwrite (take n s) 0 new) n (length-overwrite (take n s) 0 new (omega (arith, front)) ∙ front)
       ∙ ap (λ (x : List A). x ++ drop n s) (at-start (take n s) new)
       ∙ append-assoc new rest (drop n s)
-      ∙ ap (λ (x : List A). new ++ x) (sym (drop-append-le (length new) (take n s) (drop n s) (omega (arith, front))) ∙ ap (drop (length new)) (take-append-drop n s))
+      ∙ ap (λ (x : List A). new ++ x) again
       ∙ sym (at-start s new)
 
+-- what a call leaves in a buffer by its outcome, and by what it shows
+abbrev leftIn : Outcome Shows → Shows → List ℕ → List ℕ → List ℕ
+leftIn o w string lent = atExit o lent (written w string lent)
+
 -- the string of a call that worked on the first entries is that of a call that worked on the whole buffer
-left : (o : Outcome Shows) (w : Shows) (string s : List ℕ) (n : ℕ) → n ≤ length s → length (atExit o (take n s) (written w string (take n s))) ≡ n → overwrite s 0 (atExit o (take n s) (written w string (take n s))) ≡ atExit o s (written w string s)
+left : (o : Outcome Shows) (w : Shows) (string s : List ℕ) (n : ℕ) → n ≤ length s → length (leftIn o w string (take n s)) ≡ n
+    → overwrite s 0 (leftIn o w string (take n s)) ≡ leftIn o w string s
 unfolding atExit written
 left (refused g number place) w string s n h l = kept-front s n h
 left (facts f) nothing string s n h l = kept-front s n h
 left (facts f) (row r) string s n h l =
-    through-front s string n (omega (arith, l, ap length (at-start (take n s) string), length-append string (drop (length string) (take n s)))) h
+    let long = length-append string (drop (length string) (take n s)) in
+    through-front s string n (omega (arith, l, ap length (at-start (take n s) string), long)) h
 
 -- what both arrays leave alone is left alone whether or not the second has room
 same : {A : Type 0} (b : Bool) (done short : A) → short ≡ done → short ≡ elim b [ true ↦ short | false ↦ done ]
@@ -67,27 +75,41 @@ module _ (d : Degree) (table string : List ℕ) (answer : List ℤ) where
   abbrev o : Outcome Shows
   o = badRowOutcome table
 
+  abbrev bytes : ℕ
+  bytes = length string
+
+  abbrev words : ℕ
+  words = length answer
+
   abbrev RowLeft : ℕ → List ℤ → List ℕ → Type 0
   RowLeft r last now =
-      (r ≡ ifRoom 9 (length string) (returned o answer) 2)
-      × ((last ≡ ifRoom 9 (length string) (answered (badRowWords d) o answer) answer)
-      × (now ≡ ifRoom 9 (length string) (ifRoom 8 (length answer) (badRowIn table string) string) string))
+      (r ≡ ifRoom 9 bytes (returned o answer) 2)
+      × ((last ≡ ifRoom 9 bytes (answered (badRowWords d) o answer) answer)
+      × (now ≡ ifRoom 9 bytes (ifRoom 8 words (badRowIn table string) string) string))
 
-  pub no-words : length answer < 8 → RowLeft 2 answer string
+  pub no-words : words < 8 → RowLeft 2 answer string
   no-words h =
-      (either 9 (length string) _ 2 (short (badRowWords d) o answer h .0), (either 9 (length string) _ answer (short (badRowWords d) o answer h .1), either 9 (length string) _ string (no-room 8 (length answer) (badRowIn table string) string h)))
+      let (status, words-kept) = short (badRowWords d) o answer h in
+      let kept = no-room 8 words (badRowIn table string) string h in
+      (either 9 bytes _ 2 status, (either 9 bytes _ answer words-kept, either 9 bytes _ string kept))
 
-  pub no-bytes : length string < 9 → RowLeft 2 answer string
-  no-bytes h = (no-room 9 (length string) _ 2 h, (no-room 9 (length string) _ answer h, no-room 9 (length string) _ string h))
+  pub no-bytes : bytes < 9 → RowLeft 2 answer string
+  no-bytes h = (no-room 9 bytes _ 2 h, (no-room 9 bytes _ answer h, no-room 9 bytes _ string h))
 
-  -- `lent` is the array of nine bytes that the call was given, `bytes` what it left there
-  pub as-shown : (given : Outcome Shows) (r : ℕ) (last : List ℤ) (zeros lent bytes now : List ℕ) → 8 ≤ length answer → 9 ≤ length string
-      → lent ≡ overwrite zeros 0 (take 9 string) → length zeros ≡ 9 → length bytes ≡ 9 → (given ≡ o) × (bytes ≡ badRowIn table lent)
-      → (r ≡ outcomeStatus given) × (last ≡ overwrite answer 0 (outcomeWords (badRowWords d) given)) → now ≡ overwrite string 0 bytes → RowLeft r last now
+  -- `lent` is the array of nine bytes that the call was given, `nine` what it left there
+  pub as-shown : (given : Outcome Shows) (r : ℕ) (last : List ℤ) (zeros lent nine now : List ℕ) → 8 ≤ words → 9 ≤ bytes
+      → lent ≡ overwrite zeros 0 (take 9 string) → length zeros ≡ 9 → length nine ≡ 9 → (given ≡ o) × (nine ≡ badRowIn table lent)
+      → (r ≡ outcomeStatus given) × (last ≡ overwrite answer 0 (outcomeWords (badRowWords d) given)) → now ≡ overwrite string 0 nine
+      → RowLeft r last now
   unfolding badRowIn
-  as-shown given r last zeros lent bytes now words room copied nine long call given-words put =
-      let words-told = told (badRowWords d) o answer given r last words (call .0) (given-words .0) (given-words .1) in
-      let is-front : lent ≡ take 9 string = copied ∙ whole zeros (take 9 string) (omega (arith, nine, length-take-le 9 string room)) in
-      let is-bytes : bytes ≡ badRowIn table (take 9 string) = call .1 ∙ ap (badRowIn table) is-front in
-      let is-now : now ≡ badRowIn table string = put ∙ ap (overwrite string 0) is-bytes ∙ left o (shows table) (stringOf table (pairIn table)) string 9 room (sym (ap length is-bytes) ∙ long) in
-      (words-told .0 ∙ some-room 9 (length string) (returned o answer) 2 room, (words-told .1 ∙ some-room 9 (length string) (answered (badRowWords d) o answer) answer room, is-now ∙ some-room 8 (length answer) (badRowIn table string) string words ∙ some-room 9 (length string) (ifRoom 8 (length answer) (badRowIn table string) string) string room))
+  as-shown given r last zeros lent nine now roomy room copied zeros-nine nine-nine call tells put =
+      let (status, words-told) = told (badRowWords d) o answer given r last roomy (call .0) (tells .0) (tells .1) in
+      let is-front : lent ≡ take 9 string = copied ∙ whole zeros (take 9 string) (omega (arith, zeros-nine, length-take-le 9 string room)) in
+      let is-nine : nine ≡ badRowIn table (take 9 string) = call .1 ∙ ap (badRowIn table) is-front in
+      let long = sym (ap length is-nine) ∙ nine-nine in
+      let is-now : now ≡ badRowIn table string =
+          put ∙ ap (overwrite string 0) is-nine ∙ left o (shows table) (stringOf table (pairIn table)) string 9 room long in
+      let shown = some-room 8 words (badRowIn table string) string roomy in
+      (status ∙ some-room 9 bytes (returned o answer) 2 room,
+      (words-told ∙ some-room 9 bytes (answered (badRowWords d) o answer) answer room,
+      is-now ∙ shown ∙ some-room 9 bytes (ifRoom 8 words (badRowIn table string) string) string room))

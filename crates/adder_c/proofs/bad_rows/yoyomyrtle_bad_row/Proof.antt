@@ -1,6 +1,7 @@
 -- The outcome of the call that shows a bad row in words, and the string, which it wrote into nine bytes copied from the buffer.
 use mathlib.Core.Path.{refl, sym, _∙_}
 use native.Mathlib.Omega.{arith}
+use lib.ListN.{length-take}
 use lib.Seq.{length-take-le}
 use Rattle.answer_rules.proofs.Shown.{no-words, no-bytes, as-shown}
 use Rattle.answer_rules.specs.Answer.{outcomeWords, badRowWords}
@@ -8,8 +9,8 @@ use Rattle.bad_row.specs.Answer.{shownAs}
 use Rattle.layout_rules.specs.Section.{degreeIn}
 use Rattle.lists.specs.Overwrite.{overwrite}
 use borrow.Author.Needs.{needs}
-use Rattle.adder_c.proofs.yoyomyrtle_bad_row.Statement.{statement}
-use Rattle.adder_c.proofs.yoyomyrtle_bad_row.Tie as tie
+use Rattle.adder_c.proofs.bad_rows.yoyomyrtle_bad_row.Statement.{statement}
+use Rattle.adder_c.proofs.bad_rows.yoyomyrtle_bad_row.Tie as tie
 
 returns : tie.Need-returns
 returns c =
@@ -29,11 +30,11 @@ slice-reshare-prefix-put c = search needs
 
 slice-aggregate-put-2 : tie.Need-slice-aggregate-put-2
 slice-aggregate-put-2 c =
-    sym (length-take-le 9 (c .before .before .before .before .before .before .args .string .now) (c .before .before .if2 .left))
+    let room = c .before .before in
+    sym (length-take-le _ (room .before .before .before .before .args .string .now) (omega (arith, room .if2 .left)))
 
 put-requires : tie.Need-put-requires
-put-requires c κs =
-    omega (arith, length-take-le 9 (c .before .before .before .before .before .before .args .string .now) (c .before .before .if2 .left))
+put-requires c κs = simp length-take (omega arith)
 
 degree-in-requires : tie.Need-degree-in-requires
 degree-in-requires c κs = search needs
