@@ -40,8 +40,8 @@ module _ {A : Type 0} where
   through-front s new n l h =
       let front = length-take-le n s h in
       let rest = drop (length new) (take n s) in
-      let again : rest ++ drop n s ≡ drop (length new) s =
-          sym (drop-append-le (length new) (take n s) (drop n s) (omega (arith, front))) ∙ ap (drop (length new)) (take-append-drop n s) in
+      let split = sym (drop-append-le (length new) (take n s) (drop n s) (omega (arith, front))) in
+      let again : rest ++ drop n s ≡ drop (length new) s = split ∙ ap (drop (length new)) (take-append-drop n s) in
       back s (overwrite (take n s) 0 new) n (length-overwrite (take n s) 0 new (omega (arith, front)) ∙ front)
       ∙ ap (λ (x : List A). x ++ drop n s) (at-start (take n s) new)
       ∙ append-assoc new rest (drop n s)
@@ -107,9 +107,9 @@ module _ (d : Degree) (table string : List ℕ) (answer : List ℤ) where
       let is-front : lent ≡ take 9 string = copied ∙ whole zeros (take 9 string) (omega (arith, zeros-nine, length-take-le 9 string room)) in
       let is-nine : nine ≡ badRowIn table (take 9 string) = call .1 ∙ ap (badRowIn table) is-front in
       let long = sym (ap length is-nine) ∙ nine-nine in
-      let is-now : now ≡ badRowIn table string =
-          put ∙ ap (overwrite string 0) is-nine ∙ left o (shows table) (stringOf table (pairIn table)) string 9 room long in
-      let shown = some-room 8 words (badRowIn table string) string roomy in
-      (status ∙ some-room 9 bytes (returned o answer) 2 room,
-      (words-told ∙ some-room 9 bytes (answered (badRowWords d) o answer) answer room,
-      is-now ∙ shown ∙ some-room 9 bytes (ifRoom 8 words (badRowIn table string) string) string room))
+      let moved = left o (shows table) (stringOf table (pairIn table)) string 9 room long in
+      let is-now : now ≡ badRowIn table string = put ∙ ap (overwrite string 0) is-nine ∙ moved in
+      let shown = is-now ∙ some-room 8 words (badRowIn table string) string roomy in
+      let done = some-room 9 bytes (ifRoom 8 words (badRowIn table string) string) string room in
+      let answer-done = some-room 9 bytes (answered (badRowWords d) o answer) answer room in
+      (status ∙ some-room 9 bytes (returned o answer) 2 room, (words-told ∙ answer-done, shown ∙ done))

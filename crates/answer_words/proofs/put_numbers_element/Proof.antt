@@ -51,7 +51,8 @@ slice-aggregate-put c = sym (length-take-le _ _ (omega (arith, c .before .before
 put-requires : tie.Need-put-requires
 put-requires c κs =
     let count = c .before .before in
-    simp length-take (omega (arith, count .part-count .ensures .1, count .before .before .before .before .before .before .before .before .before .before .before .before .pre))
+    let start = count .before .before .before .before .before .before .before .before .before .before .before .before in
+    simp length-take (omega (arith, count .part-count .ensures .1, start .pre))
 
 same-length : tie.Need-same-length
 same-length c = search needs

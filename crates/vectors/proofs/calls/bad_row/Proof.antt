@@ -24,7 +24,8 @@ returns c = search needs
 
 array-share-prefix-table : tie.Need-array-share-prefix-table
 array-share-prefix-table c =
-    omega (arith, ap valueOf (c .before .read .given .1), c .before .before .before .before .buffer .ensures, c .before .before .before .before .buffer .kept .0)
+    let buffer = c .before .before .before .before .buffer in
+    omega (arith, ap valueOf (c .before .read .given .1), buffer .ensures, buffer .kept .0)
 
 slice-aggregate-bad-row-line : tie.Need-slice-aggregate-bad-row-line
 slice-aggregate-bad-row-line c =
