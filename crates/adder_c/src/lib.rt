@@ -20,6 +20,7 @@ ghost use Rattle.answer_rules.specs.Answer.{ifRoom, returned, answered, checkWo
 use midpoint::Element;
 use ring::Degree;
 
+mod bad_rows;
 mod run;
 
 #[no_mangle]

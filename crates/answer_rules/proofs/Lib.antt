@@ -1,3 +1,5 @@
 pub mod Bits
+pub mod Parts
 pub mod Answer
+pub mod Shown
 pub mod Words

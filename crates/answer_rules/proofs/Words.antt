@@ -3,6 +3,7 @@ use mathlib.Core.Path.{_≡_, refl, ap}
 use mathlib.Core.Bool.{Bool, true, false}
 use mathlib.Core.List.{List, [], _∷_}
 use Prim.Native.Nat.{ℕ, zero, suc, _^_, _<_, _≤_}
+use native.Mathlib.Decide.{decLt}
 use native.Mathlib.Omega.{arith}
 use lib.IntN.{pos}
 use Rattle.lists.proofs.Cons.{cons≡}
@@ -26,13 +27,20 @@ use Rattle.forecast_rules.specs.declared.ForecastFacts.{ForecastFacts}
 use Rattle.forecast_rules.specs.Forecast.{forecastOutcome}
 use Rattle.forecast_rules.proofs.Facts.{most-pairs, most-bytes}
 use Rattle.forecast_rules.proofs.Other.{check-agrees}
+use Rattle.leaf_rules.specs.Leaf.{leafCount}
+use Rattle.numeration.proofs.Pairs.{length-pairString}
+use Rattle.reader_rules.specs.Table.{leafPart, leavesIn}
+use Rattle.ring.specs.declared.Degree.{Degree}
+use Rattle.bad_row_rules.specs.Shows.{RowFacts, row, nothing}
+use Rattle.bad_row_rules.specs.BadRow.{pairIn, rowFacts, shows, badRowOutcome}
+use Rattle.bad_row_rules.proofs.Shows.{shows-nothing, fails-first, shows-pair}
 use Rattle.edit_rules.specs.declared.EditedFacts.{EditedFacts}
 use Rattle.edit_rules.specs.Count.{tally, failing}
 use Rattle.edit_rules.specs.Edit.{count, editOutcome}
 use Rattle.edit_rules.specs.State.{State, renewedCount}
 use Rattle.edit_rules.proofs.Demand.{demand-1 as edit-demand-1}
 use Rattle.edit_rules.proofs.Reach.{edit-reach}
-use Rattle.answer_rules.specs.Answer.{checkWords, forecastWords, addWords, editWords}
+use Rattle.answer_rules.specs.Answer.{elementWords, checkWords, forecastWords, badRowWords, addWords, editWords}
 
 -- a fault's number and place
 pub fault-words : (g : Group) (n p : ℕ) → n < 2 ^ 63 → p < 2 ^ 63 → refusalWords g n p ≡ pos (groupNumber g) ∷ pos n ∷ pos p ∷ []
@@ -42,6 +50,43 @@ fault-words g n p h l = cons≡ refl (cons≡ (word-small n h) (cons≡ (word-sm
 pub forecast-words : (table : List ℕ) (n : ℕ) (f : ForecastFacts) → forecastOutcome table n ≡ facts f → forecastWords f ≡ pos (f .pairs) ∷ pos (f .bytes) ∷ []
 forecast-words table n f is =
     cons≡ (word-small _ (omega (arith, most-pairs table n f is))) (cons≡ (word-small _ (omega (arith, most-bytes table n f is))) refl)
+
+-- of a row that is shown
+module _ (table : List ℕ) (f : RowFacts) (is : badRowOutcome table ≡ facts (row f)) where
+  passes : tableCheck table .number ≡ 0
+  unfolding badRowOutcome
+  passes = unless-given author (tableCheck table) (facts (shows table)) (row f) is .0
+
+  shows-it : shows table ≡ row f
+  unfolding badRowOutcome
+  shows-it = let e = unless-given author (tableCheck table) (facts (shows table)) (row f) is .1 in cc
+
+  fails : pairIn table .upper < leafCount (leafPart table)
+  fails =
+      elim (decLt (pairIn table .upper) (leafCount (leafPart table))) [
+        | yes h ↦ h
+        | no h ↦ let none = shows-nothing table (omega arith) in let it = shows-it in let z : _≡_ {A = ℕ} 0 1 = cc in omega arith
+      ]
+
+  facts-are : f ≡ rowFacts table (pairIn table)
+  facts-are = let e = shows-pair table (pairIn table) refl fails in let it = shows-it in cc
+
+  -- its words: the count of bytes, U and L are numbers below 2^63
+  pub bad-row-words : (d : Degree) → badRowWords d (row f) ≡ pos (f .bytes) ∷ pos (f .upper) ∷ pos (f .lower) ∷ elementWords d (f .digit)
+  bad-row-words d =
+      let r = ready-passed table passes in
+      let p = pairIn table in
+      let pair = fails-first table p refl fails in
+      let long = length-pairString (leavesIn table) (p .upper) (p .lower) in
+      let upper = r .none-deeper (p .upper) (pair .upper-there) in
+      let lower = r .none-deeper (p .lower) (pair .lower-there) in
+      cons≡ (word-small _ (omega (arith, ap (λ (g : RowFacts). g .bytes) facts-are, long, upper, lower, r .depth-high)))
+      (cons≡ (word-small _ (omega (arith, ap (λ (g : RowFacts). g .upper) facts-are, pair .upper-there, r .leaf-count .1)))
+      (cons≡ (word-small _ (omega (arith, ap (λ (g : RowFacts). g .lower) facts-are, pair .lower-there, r .leaf-count .1))) refl))
+
+-- where there is nothing to show, the count 0 alone
+pub nothing-words : (d : Degree) → badRowWords d nothing ≡ pos 0 ∷ []
+nothing-words d = cons≡ (word-small 0 (omega arith)) refl
 
 -- h, leaf count, alphabet size and the number of fitting pairs of an accepted table; the forecast of the same table bounds the pairs
 pub check-words : (file : List ℕ) (f : Facts) → checkOutcome file ≡ facts f → checkWords f ≡ pos (f .depth) ∷ pos (f .leaves) ∷ pos (f .digits) ∷ pos (f .pairs) ∷ []

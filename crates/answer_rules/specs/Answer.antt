@@ -12,6 +12,7 @@ use Rattle.faults.specs.Outcome.{Outcome, facts, refused}
 use Rattle.table_rules.specs.declared.Facts.{Facts}
 use Rattle.adder_rules.specs.declared.AddedFacts.{AddedFacts}
 use Rattle.forecast_rules.specs.declared.ForecastFacts.{ForecastFacts}
+use Rattle.bad_row_rules.specs.Shows.{Shows, row, nothing}
 use Rattle.edit_rules.specs.declared.EditedFacts.{EditedFacts}
 use Rattle.runner_rules.specs.declared.RanFacts.{RanFacts}
 use Rattle.answer_rules.specs.Word.{wordOf}
@@ -62,3 +63,8 @@ runWords f = wordOf (f .edits) ∷ []
 -- an element: its parts, as many as the degree says
 abbrev pub elementWords : Degree → List ℤ → List ℤ
 elementWords d parts = take (partCount d) parts
+
+-- the facts of the call that shows a bad row: how many bytes its string has, U, L and the digit; the count 0 alone where there is nothing to show
+abbrev pub badRowWords : Degree → Shows → List ℤ
+badRowWords d (row f) = wordOf (f .bytes) ∷ wordOf (f .upper) ∷ wordOf (f .lower) ∷ elementWords d (f .digit)
+badRowWords d nothing = wordOf 0 ∷ []

@@ -97,3 +97,32 @@ pub fn put_element(degree: Degree, answer: &mut [i64], x: Element) -> u64
     put(answer, &words[..end]);
     0
 }
+
+// Writes three numbers and then the parts of an element as facts, as many as the degree says; what the call returns.
+pub fn put_numbers_element(
+    degree: Degree,
+    answer: &mut [i64],
+    n: usize,
+    m: usize,
+    k: usize,
+    x: Element,
+) -> u64
+    requires { ⌜ 8 ≤ length (now answer) ⌝ }
+    ensures status { λ r. ⌜ r ≡ 0 ⌝ }
+    ensures answer { λ r. ⌜ now (answer .exit)
+        ≡ overwrite (now (answer .entry)) 0 (pos 0 ∷ wordOf n ∷ wordOf m ∷ wordOf k ∷ elementWords degree (parts x)) ⌝ }
+{
+    let words = [
+        0,
+        word(n),
+        word(m),
+        word(k),
+        x.a as i64,
+        x.b as i64,
+        x.c as i64,
+        x.d as i64,
+    ];
+    let end = layout::part_count(degree) + 4;
+    put(answer, &words[..end]);
+    0
+}

@@ -3,15 +3,17 @@ ghost use mathlib.Core.Path.{_≡_};
 ghost use Prim.Native.Nat.{_≤_};
 ghost use lib.ListN.{length};
 ghost use Rattle.lists.specs.Overwrite.{overwrite};
-ghost use Rattle.answer_rules.specs.Answer.{outcomeStatus, outcomeWords, checkWords, forecastWords, addWords, editWords, runWords, elementWords};
+ghost use Rattle.answer_rules.specs.Answer.{outcomeStatus, outcomeWords, checkWords, forecastWords, addWords, editWords, runWords, elementWords, badRowWords};
 ghost use Rattle.table.specs.Answer.{outcomeOf as checkedAs};
 ghost use Rattle.forecast.specs.Answer.{forecastAs};
+ghost use Rattle.bad_row.specs.Answer.{shownAs};
 ghost use Rattle.adder.specs.Answer.{outcomeOf as addedAs, subtractedAs};
 ghost use Rattle.row_edit.specs.Answer.{outcomeOf as editedAs};
 ghost use Rattle.runner.specs.Answer.{outcomeOf as ranAs};
 ghost use Rattle.value_call.specs.Answer.{valuedAs};
 use adder::Added;
 use adder::Subtracted;
+use bad_row_rules::Shown;
 use forecast_rules::Forecast;
 use ring::Degree;
 use row_edit::Edited;
@@ -105,5 +107,20 @@ pub fn valued(degree: Degree, answer: &mut [i64], given: Valued) -> u64
     match given {
         Valued::Value(x) => answer_words::put_element(degree, answer, x),
         Valued::Refused(fault) => answer_words::refuse(answer, fault),
+    }
+}
+
+pub fn shown(degree: Degree, answer: &mut [i64], given: Shown) -> u64
+    requires { ⌜ 8 ≤ length (now answer) ⌝ }
+    ensures status { λ r. ⌜ r ≡ outcomeStatus (shownAs given) ⌝ }
+    ensures answer { λ r. ⌜ now (answer .exit) ≡ overwrite (now (answer .entry)) 0 (outcomeWords (badRowWords degree) (shownAs given)) ⌝ }
+{
+    match given {
+        Shown::Row(r) => {
+            let digit = r.digit;
+            answer_words::put_numbers_element(degree, answer, r.bytes, r.upper, r.lower, digit)
+        }
+        Shown::Nothing => answer_words::put_number(answer, 0),
+        Shown::Refused(fault) => answer_words::refuse(answer, fault),
     }
 }

@@ -99,6 +99,21 @@ pub fn quartic() -> [u8; 279] {
     file
 }
 
+// With weight ω² − ω at leaf 2 of the first, and 4 + 3·ω + 2·ω² + ω³ at that of the second: two fitting leaves give no alphabet digit.
+pub fn damaged_cubic() -> [u8; 215] {
+    let mut file = cubic();
+    file[140] = 0;
+    file
+}
+
+pub fn damaged_quartic() -> [u8; 279] {
+    let mut file = quartic();
+    file[128] = 4;
+    file[130] = 3;
+    file[132] = 2;
+    file
+}
+
 // 65 in the base section at degree three and 33 at degree four, at the second number.
 fn limits() {
     let mut three = cubic();

@@ -3,6 +3,8 @@ ghost use Prim.Native.Nat.{_≤_};
 ghost use lib.ListN.{length};
 use adder::Added;
 use adder::Subtracted;
+use bad_row_rules::BadRow;
+use bad_row_rules::Shown;
 use faults::Fault;
 use forecast_rules::Forecast;
 use forecast_rules::ForecastFacts;
@@ -46,6 +48,11 @@ pub fn buffer(bytes: &[u8])
     let mut out = [b' '; 522];
     let end = fault_text::put_hex(&mut out, 1, bytes);
     written(&out, end);
+}
+
+// A space and the nine bytes that a string is shown in.
+pub fn nine(bytes: &[u8; 9]) {
+    buffer(bytes);
 }
 
 // A space and a fault.
@@ -116,6 +123,25 @@ pub fn forecasted(label: &[u8], answer: Forecast) {
         Forecast::Refused(fault) => refused(fault),
     }
     word(b"\n");
+}
+
+fn failing(degree: Degree, row: BadRow) {
+    item(b" pair ", row.upper);
+    item(b" ", row.lower);
+    word(b" digit");
+    let digit = row.digit;
+    parts(degree, digit);
+    item(b" bytes ", row.bytes);
+}
+
+// `LABEL pair U L digit PARTS bytes K`, or that there is nothing to show, or the fault.
+pub fn shown(label: &[u8], degree: Degree, answer: Shown) {
+    word(label);
+    match answer {
+        Shown::Row(row) => failing(degree, row),
+        Shown::Nothing => word(b" nothing"),
+        Shown::Refused(fault) => refused(fault),
+    }
 }
 
 // A word, a count and the reach.

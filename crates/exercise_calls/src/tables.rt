@@ -8,6 +8,20 @@ pub fn damaged() -> [u8; 165] {
     file
 }
 
+// BIN with weight 0 at leaf 2, whose word is 1, 1: 20 bytes of directory, 40 of base and digits, two records, four bytes.
+pub fn damaged_bin() -> [u8; 187] {
+    let mut file = carried::bin();
+    file[80] = 0;
+    file
+}
+
+// TERN with weight 1 at leaf 0: 13 is the last rule before 14.
+pub fn with_weight_at_zero() -> [u8; 165] {
+    let mut file = carried::tern();
+    file[88] = 1;
+    file
+}
+
 // TERN with 3, 4 for the alphabet digits −1, −2, and 5 to 8 for the input digits −1 to −4: every sum is listed, and no difference below zero.
 pub fn without_negatives() -> [u8; 165] {
     let mut file = carried::tern();

@@ -2,6 +2,7 @@
 // as the byte that it is in a row: its alphabet index, two hexadecimal digits.
 use exercise_calls::additions;
 use exercise_calls::arithmetic;
+use exercise_calls::bad_rows;
 use exercise_calls::degrees;
 use exercise_calls::forecasts;
 use exercise_calls::lines;
@@ -64,6 +65,14 @@ fn forecast_tables() {
     forecasts::of_no_table();
 }
 
+// Job 5
+fn rows_to_show() {
+    bad_rows::of_tables();
+    bad_rows::of_degrees();
+    bad_rows::of_no_table();
+    bad_rows::added();
+}
+
 // Job 8
 fn degrees_three_and_four() {
     degrees::checks();
@@ -81,5 +90,6 @@ fn main() {
     elements_of_rows();
     degrees_three_and_four();
     forecast_tables();
+    rows_to_show();
     lines::of_files();
 }

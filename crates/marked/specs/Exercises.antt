@@ -15,6 +15,8 @@ use Rattle.adder_rules.specs.declared.AddedFacts.{AddedFacts}
 use Rattle.adder_rules.specs.Calls.{addOutcome, addSum}
 use Rattle.forecast_rules.specs.declared.ForecastFacts.{ForecastFacts}
 use Rattle.forecast_rules.specs.Forecast.{forecastOutcome}
+use Rattle.bad_row_rules.specs.Shows.{Shows, row, nothing}
+use Rattle.bad_row_rules.specs.BadRow.{badRowOutcome, badRowIn}
 use Rattle.row_rules.specs.declared.Change.{Change}
 use Rattle.edit_rules.specs.declared.EditedFacts.{EditedFacts}
 use Rattle.edit_rules.specs.State.{State, state}
@@ -23,7 +25,7 @@ use Rattle.runner_rules.specs.declared.RanFacts.{RanFacts}
 use Rattle.runner_rules.specs.Told.{groupsOf, numbersOf, valuesOf}
 use Rattle.runner_rules.specs.Run.{askedEdits, runOutcome, runAll}
 use Rattle.runner_rules.specs.Follows.{toldIn}
-use Rattle.carried.specs.Tables.{ternInputs, ternLeaves, ternFile, binFile, whole, wholeFile}
+use Rattle.carried.specs.Tables.{ternInputs, ternLeaves, ternFile, binInputs, binLeaves, binFile, whole, wholeFile}
 use Rattle.marked.specs.Degrees.{cubicWith, cubic, quarticWith, quartic, root, complexRoot}
 
 pub data Exercise : Type 0 where
@@ -35,6 +37,8 @@ pub data Exercise : Type 0 where
   checks : List ℕ → Exercise
   -- a table file and a number of digits: the forecast's outcome
   forecasts : List ℕ → ℕ → Exercise
+  -- a table file and the bytes for the string: what is shown, and the bytes after it
+  showsRow : List ℕ → List ℕ → Exercise
   -- a table file, two rows and the sum buffer: the outcome of addition and the buffer after it
   adds : List ℕ → List ℕ → List ℕ → List ℕ → Exercise
   -- a table file, two rows and the sum buffer, and edits after the addition: the buffers after the list, and the answers
@@ -48,6 +52,7 @@ pub data Answer : Type 0 where
   verdict : Bool → Answer
   outcome : Outcome Facts → Answer
   expects : Outcome ForecastFacts → Answer
+  shown : Outcome Shows → List ℕ → Answer
   summed : Outcome AddedFacts → List ℕ → Answer
   ran : State → List (Outcome EditedFacts) → Answer
   listed : Outcome RanFacts → State → List ℕ → List ℕ → List ℕ → Answer
@@ -58,6 +63,7 @@ answer (productOf r x y) = element (product r x y)
 answer (expands s t u v) = verdict (expanding s t u v)
 answer (checks file) = outcome (checkOutcome file)
 answer (forecasts file n) = expects (forecastOutcome file n)
+answer (showsRow file string) = shown (badRowOutcome file) (badRowIn file string)
 answer (adds file first second sum) = summed (addOutcome file first second (length sum)) (addSum file first second sum)
 answer (runs file first second sum edits) =
     ran (run file (state first second sum) edits .buffers) (run file (state first second sum) edits .answers)
@@ -76,6 +82,10 @@ pair a b = a ∷ b ∷ []
 unfoldable pub ternWithout : List ℕ
 ternWithout =
     wholeFile (pos 3) (pos 0 ∷ pos 1 ∷ pos 2 ∷ negsuc 0 ∷ negsuc 1 ∷ []) ternInputs (set ternLeaves 2 (2 ∷ [], whole (pos 0)))
+
+-- BIN with weight 0 at leaf 2, whose word is 1, 1
+unfoldable pub binWithout : List ℕ
+binWithout = wholeFile (pos 2) (pos 0 ∷ pos 1 ∷ negsuc 0 ∷ []) binInputs (set binLeaves 2 (1 ∷ 1 ∷ [], whole (pos 0)))
 
 unfoldable pub table : List Case
 table =
@@ -114,6 +124,23 @@ table =
     ∷ record { exercise = forecasts ternWithout 256; expected = expects (facts (record { pairs = 81; bytes = 257 })) }
     ∷ record { exercise = forecasts ternFile 257; expected = expects (refused of-rows 20 0) }
     ∷ record { exercise = forecasts [] 257; expected = expects (refused author 1 0) }
+    -- Job 5: TERN; M12's table, and BIN with another weight, where the words have two digits; a table's fault
+    ∷ record { exercise = showsRow ternFile (9 ∷ 9 ∷ 9 ∷ 9 ∷ []); expected = shown (facts nothing) (9 ∷ 9 ∷ 9 ∷ 9 ∷ []) }
+    ∷ record {
+      exercise = showsRow ternWithout (9 ∷ 9 ∷ 9 ∷ 9 ∷ []);
+      expected = shown (facts (row (record { upper = 2; lower = 3; digit = pos 3 ∷ pos 0 ∷ pos 0 ∷ pos 0 ∷ []; bytes = 2 }))) (2 ∷ 3 ∷ 9 ∷ 9 ∷ []);
+    }
+    ∷ record {
+      exercise = showsRow binWithout (9 ∷ 9 ∷ 9 ∷ 9 ∷ []);
+      expected = shown (facts (row (record { upper = 2; lower = 3; digit = pos 2 ∷ pos 0 ∷ pos 0 ∷ pos 0 ∷ []; bytes = 3 }))) (1 ∷ 1 ∷ 2 ∷ 9 ∷ []);
+    }
+    ∷ record { exercise = showsRow [] (9 ∷ []); expected = shown (refused author 1 0) (9 ∷ []) }
+    -- M12's and that string as sums of two rows: 27 at the place of the string's top digit
+    ∷ record { exercise = adds ternWithout (1 ∷ 1 ∷ []) (2 ∷ 1 ∷ []) (9 ∷ 9 ∷ 9 ∷ []); expected = summed (refused author 27 1) (9 ∷ 9 ∷ 9 ∷ []) }
+    ∷ record {
+      exercise = adds binWithout (1 ∷ 1 ∷ 1 ∷ []) (1 ∷ 0 ∷ 0 ∷ []) (9 ∷ 9 ∷ 9 ∷ 9 ∷ 9 ∷ []);
+      expected = summed (refused author 27 2) (9 ∷ 9 ∷ 9 ∷ 9 ∷ 9 ∷ []);
+    }
     -- Job 8: ω⁴ is 2·ω + ω² where ω³ is 2 + ω, and in degree four ω³·ω³ is ω²·ω⁴
     ∷ record {
       exercise = productOf (pos 2 ∷ pos 1 ∷ pos 0 ∷ []) (pos 0 ∷ pos 0 ∷ pos 1 ∷ []) (pos 0 ∷ pos 0 ∷ pos 1 ∷ []);

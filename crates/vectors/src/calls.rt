@@ -133,6 +133,24 @@ pub fn look_up() -> bool {
     leaf_line(&table[..n], window)
 }
 
+// What is shown of a table, and its line: the degree of the table says how many parts the digit has.
+fn bad_row_line(table: &[u8]) -> bool {
+    let degree = layout::degree_in(table);
+    let mut string = [0u8; 9];
+    let answer = bad_row::bad_row(table, &mut string);
+    output::shown(degree, answer, &string)
+}
+
+// 9: the table.
+pub fn bad_row() -> bool {
+    let mut table = [0u8; 70000];
+    let read = input::buffer(&mut table);
+    let Read::Got(n) = read else {
+        return false;
+    };
+    bad_row_line(&table[..n])
+}
+
 // 17: the table, the number of digits.
 pub fn forecast() -> bool {
     let mut table = [0u8; 70000];

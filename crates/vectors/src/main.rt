@@ -18,6 +18,7 @@ fn answered() -> bool {
         5 => calls::midpoint(),
         6 => output::table_bytes(&carried::tern()),
         7 => output::table_bytes(&carried::bin()),
+        9 => calls::bad_row(),
         17 => calls::forecast(),
         19 => calls::look_up(),
         _ => false,

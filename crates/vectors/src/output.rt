@@ -4,6 +4,8 @@ ghost use Prim.Native.Nat.{_+_, _*_, _≤_};
 ghost use lib.ListN.{length};
 use adder::Added;
 use adder::Subtracted;
+use bad_row_rules::BadRow;
+use bad_row_rules::Shown;
 use faults::Fault;
 use forecast_rules::Forecast;
 use look_up::Found;
@@ -192,19 +194,29 @@ fn put_part(out: &mut [u8], at: usize, part: i32) -> usize
     text::put_signed(out, at + 1, part)
 }
 
-// A word and then the parts of an element, as many as its degree says.
-pub fn parts(word: &[u8], degree: Degree, x: Element) -> bool
-    requires { ⌜ length (now word) ≤ 20 ⌝ }
+// The parts of an element, as many as its degree says, from a place on; the next place.
+fn put_parts(out: &mut [u8], at: usize, degree: Degree, x: Element) -> usize
+    requires { ⌜ at + 48 ≤ length (now out) ⌝ }
+    ensures { λ r. ⌜ r ≤ at + 48 ⌝ }
 {
     let all = [x.a, x.b, x.c, x.d];
     let count = layout::part_count(degree);
-    let mut out = [0u8; 128];
-    let mut end = octets::put(&mut out, 0, word);
+    let mut end = at;
     let mut i = 0;
     while i < count {
-        end = put_part(&mut out, end, all[i]);
+        end = put_part(out, end, all[i]);
         i += 1;
     }
+    end
+}
+
+// A word and then the parts of an element.
+pub fn parts(word: &[u8], degree: Degree, x: Element) -> bool
+    requires { ⌜ length (now word) ≤ 20 ⌝ }
+{
+    let mut out = [0u8; 128];
+    let at = octets::put(&mut out, 0, word);
+    let end = put_parts(&mut out, at, degree, x);
     line(&mut out, end)
 }
 
@@ -213,5 +225,42 @@ pub fn valued(degree: Degree, answer: Valued) -> bool {
     match answer {
         Valued::Value(x) => parts(b"value", degree, x),
         Valued::Refused(fault) => fault_line(fault),
+    }
+}
+
+// `pair U L digit PARTS string STRING`. The leaves take never over 64 bytes and the string never over nine; the tests make it plain.
+fn row_line(degree: Degree, row: BadRow, string: &[u8]) -> bool
+    requires { ⌜ length (now string) ≡ 9 ⌝ }
+{
+    let mut out = [0u8; 256];
+    let leaves = put_counts(&mut out, b"pair ", row.upper, b" ", row.lower);
+    let bytes = row.bytes;
+    if 100 < leaves {
+        return false;
+    }
+    if string.len() < bytes {
+        return false;
+    }
+    let word = octets::put(&mut out, leaves, b" digit");
+    let digit = row.digit;
+    let end = put_parts(&mut out, word, degree, digit);
+    let last = octets::put(&mut out, end, b" string");
+    let stop = put_buffer(&mut out, last, &string[..bytes]);
+    line(&mut out, stop)
+}
+
+// `nothing`
+fn nothing_line() -> bool {
+    let mut out = [0u8; 16];
+    let end = octets::put(&mut out, 0, b"nothing");
+    line(&mut out, end)
+}
+
+// The pair of a bad row, its digit and its string, or that there is nothing to show, or the fault.
+pub fn shown(degree: Degree, answer: Shown, string: &[u8; 9]) -> bool {
+    match answer {
+        Shown::Row(row) => row_line(degree, row, string),
+        Shown::Nothing => nothing_line(),
+        Shown::Refused(fault) => fault_line(fault),
     }
 }

@@ -1,23 +1,17 @@
 -- Each part widened to 64 bits, and as many written as the degree says.
-use mathlib.Core.List.{List, _∷_}
-use mathlib.Core.Path.{_≡_, refl, sym, ap, _∙_}
-use Prim.Native.Nat.{ℕ, _+_}
-use native.Mathlib.Numerals.{add-one}
+use mathlib.Core.List.{[], _∷_}
+use mathlib.Core.Path.{refl, sym, ap, _∙_}
 use native.Mathlib.Omega.{arith}
-use lib.IntN.{ℤ}
-use lib.ListN.{take, length-take}
+use lib.IntN.{pos}
+use lib.ListN.{length-take}
 use lib.Seq.{length-take-le}
 use borrow.Author.Needs.{needs}
-use Rattle.lists.proofs.Cons.{cons≡}
 use Rattle.lists.specs.Overwrite.{overwrite}
 use Rattle.ring.specs.Degree.{partCount}
-use Rattle.answer_rules.proofs.Bits.{narrow-fits, widened}
+use Rattle.answer_rules.proofs.Bits.{narrow-fits}
+use Rattle.answer_rules.proofs.Parts.{parts-widened, first-words}
 use Rattle.answer_words.proofs.put_element.Statement.{statement}
 use Rattle.answer_words.proofs.put_element.Tie as tie
-
--- a word and the first n behind it
-first-words : (n d : ℕ) (head : ℤ) (words parts : List ℤ) → n ≡ d → words ≡ parts → take (n + 1) (head ∷ words) ≡ head ∷ take d parts
-first-words n d head words parts counts are = rw (add-one n, counts, are)
 
 cast-t6 : tie.Need-cast-t6
 cast-t6 c = narrow-fits (c .before .before .args .x .a) (search needs)
@@ -54,8 +48,8 @@ returns c =
     let s = c .before .before .before .before .before .before .before .before .before .before .before .before .before in
     let x = s .args .x in
     let count = c .before .before .before .before .part-count in
-    let wide = cons≡ (widened (x .a) (search needs)) (cons≡ (widened (x .b) (search needs)) (cons≡ (widened (x .c) (search needs)) (cons≡ (widened (x .d) (search needs)) refl))) in
-    (refl, c .before .put .ensures ∙ ap (overwrite (s .args .answer .now) 0) (first-words (count .result) (partCount (s .args .degree)) _ _ _ (count .ensures .0) wide))
+    let wide = parts-widened (x .a) (x .b) (x .c) (x .d) (search needs) (search needs) (search needs) (search needs) in
+    (refl, c .before .put .ensures ∙ ap (overwrite (s .args .answer .now) 0) (first-words (count .result) (partCount (s .args .degree)) _ (pos 0 ∷ []) _ _ (count .ensures .0) refl wide))
 
 pub put-element-spec : {M : Type 1} → statement M
 put-element-spec =
