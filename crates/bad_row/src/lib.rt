@@ -10,7 +10,8 @@ ghost use Rattle.leaf_rules.specs.Leaf.{leafCount};
 ghost use Rattle.numeration.specs.Pairs.{pairDigit};
 ghost use Rattle.reader_rules.specs.Table.{inputPart, leafPart, operationsOf, leavesIn};
 ghost use Rattle.reader_rules.specs.Check.{tableCheck};
-ghost use Rattle.bad_row_rules.specs.BadRow.{pairIn, stringOf, shows, badRowOutcome, written, badRowIn};
+ghost use Rattle.table_rules.specs.Check.{badPairOf};
+ghost use Rattle.bad_row_rules.specs.BadRow.{stringOf, shows, badRowOutcome, written, badRowIn};
 ghost use Rattle.bad_row.specs.Answer.{shownAs};
 ghost use Rattle.bad_row.specs.Words.{wordString};
 use bad_row_rules::BadRow;
@@ -20,24 +21,7 @@ use midpoint::Element;
 use reader_rules::Reading;
 use table_rules::Pair;
 
-// The failing pair of a table that passes 1 to 13, or the leaf count twice: the search of the check.
-fn failing_pair(table: &[u8]) -> Pair
-    requires { ⌜ tableCheck (now table) .number ≡ 0 ⌝ }
-    ensures { λ r. ⌜ r ≡ pairIn (now (table .entry)) ⌝ }
-{
-    let degree = layout::degree_in(table);
-    let found = pairs::search(
-        degree,
-        reader::section(table, 0),
-        reader::section(table, 1),
-        reader::section(table, 2),
-        reader::section(table, 3),
-        reader::section(table, 4),
-    );
-    found.pair
-}
-
-// The digit that two leaves of such a table give: the upper word's first digit, plus the lower weight, minus the base times the upper one.
+// The digit that two leaves of a table that passes 1 to 13 give: the upper word's first digit, plus the lower weight, minus the base times the upper one.
 fn digit_of(table: &[u8], pair: Pair) -> Element
     requires table { ⌜ tableCheck (now table) .number ≡ 0 ⌝ }
     requires leaves { ⌜ (pair .upper < leafCount (leafPart (now table))) × (pair .lower < leafCount (leafPart (now table))) ⌝ }
@@ -71,17 +55,18 @@ fn put_string(upper: &[u8], lower: &[u8], string: &mut [u8; 9]) -> usize
     octets::put(string, behind, lower)
 }
 
-// Of a table that passes 1 to 13.
+// Of a table that passes 1 to 13: the failing pair is that of the check's search.
 fn show(table: &[u8], string: &mut [u8; 9]) -> Shown
     requires { ⌜ tableCheck (now table) .number ≡ 0 ⌝ }
     ensures answer { λ r. ⌜ shownAs r ≡ facts (shows (now (table .entry))) ⌝ }
     ensures string { λ r. ⌜ now (string .exit)
-        ≡ written (shows (now (table .entry))) (stringOf (now (table .entry)) (pairIn (now (table .entry)))) (now (string .entry)) ⌝ }
+        ≡ written (shows (now (table .entry))) (stringOf (now (table .entry)) (badPairOf (now (table .entry)))) (now (string .entry)) ⌝ }
 {
     let degree = layout::degree_in(table);
     let leaves = reader::section(table, 3);
     let words = reader::section(table, 4);
-    let pair = failing_pair(table);
+    let found = table::search(table);
+    let pair = found.pair;
     if leaves::leaf_count(degree, leaves) <= pair.upper {
         return Shown::Nothing;
     }

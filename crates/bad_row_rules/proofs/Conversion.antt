@@ -35,8 +35,9 @@ use Rattle.adder_rules.specs.Input.{inputRow}
 use Rattle.adder_rules.specs.Add.{resultOutcome}
 use Rattle.adder_rules.proofs.Table.{all-listed}
 use Rattle.table_rules.specs.declared.Pair.{Pair}
+use Rattle.table_rules.specs.Check.{badPairOf}
 use Rattle.bad_row_rules.specs.Shows.{RowFacts, row}
-use Rattle.bad_row_rules.specs.BadRow.{pairIn, stringOf, badRowOutcome, badRowIn}
+use Rattle.bad_row_rules.specs.BadRow.{stringOf, badRowOutcome, badRowIn}
 use Rattle.bad_row_rules.proofs.Shows.{Failing, fails-first}
 use Rattle.bad_row_rules.proofs.Row.{told-passes, pair-there, row-is, string-taken}
 use Rattle.bad_row_rules.proofs.Addition.{refused-27}
@@ -80,7 +81,7 @@ module _ (table : List ℕ) (f : RowFacts) (shown : badRowOutcome table ≡ fact
   is = ready-passed table read
 
   abbrev pair : Pair
-  pair = pairIn table
+  pair = badPairOf table
 
   first : Failing table pair
   first = fails-first table pair refl (pair-there table f shown)

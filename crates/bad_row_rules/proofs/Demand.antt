@@ -10,9 +10,10 @@ use Rattle.calls.proofs.Numbers.{fault-number}
 use Rattle.reader_rules.specs.Broken.{tableRules}
 use Rattle.reader_rules.specs.Check.{tableCheck}
 use Rattle.reader_rules.proofs.Broken.{table-decided}
+use Rattle.table_rules.specs.Check.{badPairOf}
 use Rattle.bad_row_rules.specs.Shows.{Shows, nothing}
 use Rattle.bad_row_rules.specs.Broken.{badRowStages}
-use Rattle.bad_row_rules.specs.BadRow.{pairIn, stringOf, shows, badRowOutcome, written, badRowIn}
+use Rattle.bad_row_rules.specs.BadRow.{stringOf, shows, badRowOutcome, written, badRowIn}
 use Rattle.bad_row_rules.proofs.Shows.{lent-kept, lent-written}
 
 module _ (table : List ℕ) where
@@ -35,4 +36,4 @@ module _ (table : List ℕ) where
   unfolding written
   nothing-lent lent e =
       let is : nothing ≡ shows table = demand-1 .only-facts nothing e in
-      sym (ap (λ (x : Shows). written x (stringOf table (pairIn table)) lent) is ∙ lent-written table lent (e ∙ ap facts is))
+      sym (ap (λ (x : Shows). written x (stringOf table (badPairOf table)) lent) is ∙ lent-written table lent (e ∙ ap facts is))

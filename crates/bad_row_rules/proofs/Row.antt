@@ -19,14 +19,14 @@ use Rattle.faults.proofs.Exit.{facts-no-fault, one-fault}
 use Rattle.calls.proofs.Answers.{unless-given}
 use Rattle.leaf_rules.specs.Leaf.{leafCount}
 use Rattle.numeration.proofs.Pairs.{length-pairString, pairString-at, pair-upper, pair-lower}
-use Rattle.reader_rules.specs.Table.{basePart, alphabetPart, inputPart, leafPart, wordPart, leavesIn}
+use Rattle.reader_rules.specs.Table.{leafPart, leavesIn}
 use Rattle.reader_rules.specs.Check.{tableCheck}
 use Rattle.reader_rules.proofs.Ready.{ready-passed}
 use Rattle.table_rules.specs.declared.Pair.{Pair}
-use Rattle.table_rules.specs.Check.{pairCheckOf, checkFacts, checkOutcome}
-use Rattle.table_rules.proofs.Bad.{pairs-broken, pairs-kept}
+use Rattle.table_rules.specs.Check.{pairCheckOf, badPairOf, checkFacts, checkOutcome}
+use Rattle.table_rules.proofs.Bad.{file-broken, file-kept}
 use Rattle.bad_row_rules.specs.Shows.{RowFacts, Shows, row, nothing}
-use Rattle.bad_row_rules.specs.BadRow.{pairIn, stringOf, rowFacts, shows, badRowOutcome, written, badRowIn}
+use Rattle.bad_row_rules.specs.BadRow.{stringOf, rowFacts, shows, badRowOutcome, written, badRowIn}
 use Rattle.bad_row_rules.specs.RowOf.{RowOf}
 use Rattle.bad_row_rules.proofs.Shows.{shows-nothing, shows-pair, fails-first, passed-shows, lent-written}
 use Rattle.bad_row_rules.proofs.Demand.{demand-1, never-14}
@@ -48,7 +48,7 @@ module _ (table : List ℕ) where
     is-shown = sym (demand-1 table .only-facts (row f) e)
 
     abbrev pair : Pair
-    pair = pairIn table
+    pair = badPairOf table
 
     -- there is a failing pair
     pub pair-there : pair .upper < leafCount (leafPart table)
@@ -117,14 +117,6 @@ module _ (table : List ℕ) where
   abbrev N : ℕ
   N = leafCount (leafPart table)
 
-  pair-kept : N ≤ pairIn table .upper → pairCheckOf table .number ≡ 0
-  unfolding pairCheckOf
-  pair-kept h = ap (λ (r : Refusal). r .number) (sym (pairs-kept (basePart table) (alphabetPart table) (inputPart table) (leafPart table) (wordPart table) (pairIn table) refl h))
-
-  pair-broken : pairIn table .upper < N → refusal 14 (pairIn table .upper) ≡ pairCheckOf table
-  unfolding pairCheckOf
-  pair-broken h = pairs-broken (basePart table) (alphabetPart table) (inputPart table) (leafPart table) (wordPart table) (pairIn table) refl h
-
   -- Nothing is shown exactly where the check accepts.
   pub nothing-accepted : (badRowOutcome table ≡ facts nothing) ↔ (checkOutcome table ≡ facts (checkFacts table))
   unfolding checkOutcome
@@ -132,17 +124,17 @@ module _ (table : List ℕ) where
     where
       to : badRowOutcome table ≡ facts nothing → unless author (tableCheck table) (unless author (pairCheckOf table) (facts (checkFacts table))) ≡ facts (checkFacts table)
       to e =
-          unless-none author (tableCheck table) _ (told-passes nothing e) ∙ unless-none author (pairCheckOf table) _ (elim (decLt (pairIn table .upper) N) [
-            | yes h ↦ absurd (not-nothing (rowFacts table (pairIn table)) (shows table) (shows-pair table (pairIn table) refl h) (sym (demand-1 table .only-facts nothing e)))
-            | no h ↦ pair-kept (omega arith)
+          unless-none author (tableCheck table) _ (told-passes nothing e) ∙ unless-none author (pairCheckOf table) _ (elim (decLt (badPairOf table .upper) N) [
+            | yes h ↦ absurd (not-nothing (rowFacts table (badPairOf table)) (shows table) (shows-pair table (badPairOf table) refl h) (sym (demand-1 table .only-facts nothing e)))
+            | no h ↦ ap (λ (r : Refusal). r .number) (sym (file-kept table (badPairOf table) refl (omega arith)))
           ])
 
       from : unless author (tableCheck table) (unless author (pairCheckOf table) (facts (checkFacts table))) ≡ facts (checkFacts table) → badRowOutcome table ≡ facts nothing
       from e =
           let a = unless-given author (tableCheck table) _ (checkFacts table) e in
           let b = unless-given author (pairCheckOf table) (facts (checkFacts table)) (checkFacts table) (a .1) in
-          passed-shows table (a .0) ∙ ap facts (elim (decLt (pairIn table .upper) N) [
-            | yes h ↦ absurd (omega (arith, b .0, ap (λ (r : Refusal). r .number) (pair-broken h)))
+          passed-shows table (a .0) ∙ ap facts (elim (decLt (badPairOf table .upper) N) [
+            | yes h ↦ absurd (omega (arith, b .0, ap (λ (r : Refusal). r .number) (file-broken table (badPairOf table) refl h)))
             | no h ↦ shows-nothing table (omega arith)
           ])
 
@@ -150,10 +142,10 @@ module _ (table : List ℕ) where
   pub same-leaf : (f : RowFacts) → badRowOutcome table ≡ facts (row f) → checkOutcome table ≡ refused author 14 (f .upper)
   unfolding checkOutcome
   same-leaf f e =
-      let broken = pair-broken (pair-there f e) in
+      let broken = file-broken table (badPairOf table) refl (pair-there f e) in
       unless-none author (tableCheck table) _ (told-passes (row f) e)
       ∙ ap (λ (r : Refusal). unless author r (facts (checkFacts table))) (sym broken)
-      ∙ unless-found author (refusal 14 (pairIn table .upper)) (facts (checkFacts table)) (λ z. omega (arith, z))
+      ∙ unless-found author (refusal 14 (badPairOf table .upper)) (facts (checkFacts table)) (λ z. omega (arith, z))
       ∙ ap (λ (g : RowFacts). refused author 14 (g .upper)) (sym (row-is f e))
 
   -- a fault of the check's that is one of 1 to 13 is this call's too
@@ -167,9 +159,9 @@ module _ (table : List ℕ) where
   pub shown-where-14 : (p : ℕ) → checkOutcome table ≡ refused author 14 p → (f : RowFacts) × (badRowOutcome table ≡ facts (row f)) × (f .upper ≡ p)
   shown-where-14 p e =
       elim (ℕ-discrete (tableCheck table .number) 0) [
-        | yes z ↦ elim (decLt (pairIn table .upper) N) [
-          | yes h ↦ let f = rowFacts table (pairIn table) in
-              let shown : badRowOutcome table ≡ facts (row f) = passed-shows table z ∙ ap facts (shows-pair table (pairIn table) refl h) in
+        | yes z ↦ elim (decLt (badPairOf table .upper) N) [
+          | yes h ↦ let f = rowFacts table (badPairOf table) in
+              let shown : badRowOutcome table ≡ facts (row f) = passed-shows table z ∙ ap facts (shows-pair table (badPairOf table) refl h) in
               (f, shown, one-fault (checkOutcome table) author author 14 14 (f .upper) p (same-leaf f shown) e .2)
           | no h ↦ absurd (facts-no-fault (checkOutcome table) (checkFacts table) author 14 p (nothing-accepted .0 (passed-shows table z ∙ ap facts (shows-nothing table (omega arith)))) e)
         ]

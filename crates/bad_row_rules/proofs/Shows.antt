@@ -10,28 +10,29 @@ use Rattle.leaf_rules.specs.Leaf.{leafCount}
 use Rattle.reader_rules.specs.Table.{basePart, alphabetPart, inputPart, leafPart, wordPart}
 use Rattle.reader_rules.specs.Check.{tableCheck}
 use Rattle.table_rules.specs.declared.Pair.{Pair}
+use Rattle.table_rules.specs.Check.{badPairOf}
 use Rattle.table_rules.proofs.Failing.{FirstFailing, failing-first}
 use Rattle.bad_row_rules.specs.Shows.{row, nothing}
-use Rattle.bad_row_rules.specs.BadRow.{pairIn, stringOf, rowFacts, shows, badRowOutcome, written, badRowIn}
+use Rattle.bad_row_rules.specs.BadRow.{stringOf, rowFacts, shows, badRowOutcome, written, badRowIn}
 
 module _ (table : List ℕ) where
-  pub shows-nothing : leafCount (leafPart table) ≤ pairIn table .upper → shows table ≡ nothing
+  pub shows-nothing : leafCount (leafPart table) ≤ badPairOf table .upper → shows table ≡ nothing
   unfolding shows
-  shows-nothing h = rw (le-ltb (pairIn table .upper) (leafCount (leafPart table)) h, shows)
+  shows-nothing h = rw (le-ltb (badPairOf table .upper) (leafCount (leafPart table)) h, shows)
 
-  shows-row : pairIn table .upper < leafCount (leafPart table) → shows table ≡ row (rowFacts table (pairIn table))
+  shows-row : badPairOf table .upper < leafCount (leafPart table) → shows table ≡ row (rowFacts table (badPairOf table))
   unfolding shows
-  shows-row h = rw (lt-ltb (pairIn table .upper) (leafCount (leafPart table)) h, shows)
+  shows-row h = rw (lt-ltb (badPairOf table .upper) (leafCount (leafPart table)) h, shows)
 
   -- the failing pair, however it was found
   abbrev pub Failing : Pair → Type 0
   Failing p = FirstFailing (basePart table) (alphabetPart table) (inputPart table) (leafPart table) (wordPart table) p
 
-  pub fails-first : (p : Pair) → p ≡ pairIn table → p .upper < leafCount (leafPart table) → Failing p
+  pub fails-first : (p : Pair) → p ≡ badPairOf table → p .upper < leafCount (leafPart table) → Failing p
   fails-first p e h =
       subst Failing (sym e) (failing-first (basePart table) (alphabetPart table) (inputPart table) (leafPart table) (wordPart table) (subst (λ (q : Pair). q .upper < leafCount (leafPart table)) e h))
 
-  pub shows-pair : (p : Pair) → p ≡ pairIn table → p .upper < leafCount (leafPart table) → shows table ≡ row (rowFacts table p)
+  pub shows-pair : (p : Pair) → p ≡ badPairOf table → p .upper < leafCount (leafPart table) → shows table ≡ row (rowFacts table p)
   shows-pair p e h = shows-row (subst (λ (q : Pair). q .upper < leafCount (leafPart table)) e h) ∙ ap (λ (q : Pair). row (rowFacts table q)) (sym e)
 
   -- a table that passes 1 to 13
@@ -44,6 +45,6 @@ module _ (table : List ℕ) where
   unfolding badRowIn
   lent-kept lent g n p e = exit-lent (badRowOutcome table) g n p lent _ (sym e)
 
-  pub lent-written : (lent : List ℕ) → badRowOutcome table ≡ facts (shows table) → written (shows table) (stringOf table (pairIn table)) lent ≡ badRowIn table lent
+  pub lent-written : (lent : List ℕ) → badRowOutcome table ≡ facts (shows table) → written (shows table) (stringOf table (badPairOf table)) lent ≡ badRowIn table lent
   unfolding badRowIn
   lent-written lent e = exit-written (badRowOutcome table) (shows table) lent _ (sym e)

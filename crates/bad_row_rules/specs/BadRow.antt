@@ -12,17 +12,13 @@ use Rattle.digit_rules.specs.Record.{recordAt}
 use Rattle.leaf_rules.specs.Leaf.{leafCount}
 use Rattle.numeration.specs.Pairs.{pairDigit}
 use Rattle.numeration.specs.PairTests.{pairString}
-use Rattle.reader_rules.specs.Table.{basePart, alphabetPart, inputPart, leafPart, wordPart, operationsOf, leavesIn}
+use Rattle.reader_rules.specs.Table.{inputPart, leafPart, operationsOf, leavesIn}
 use Rattle.reader_rules.specs.Check.{tableCheck}
 use Rattle.table_rules.specs.declared.Pair.{Pair}
-use Rattle.table_rules.specs.Pairs.{badPair}
+use Rattle.table_rules.specs.Check.{badPairOf}
 use Rattle.bad_row_rules.specs.Shows.{RowFacts, Shows, row, nothing}
 
 module _ (table : List ℕ) where
-  -- the failing pair that rule 14 names; the leaf count twice where none fails
-  abbrev pub pairIn : Pair
-  pairIn = badPair (basePart table) (alphabetPart table) (inputPart table) (leafPart table) (wordPart table)
-
   -- of two leaves: the string, and the facts
   abbrev pub stringOf : Pair → List ℕ
   stringOf p = pairString (leavesIn table) (p .upper) (p .lower)
@@ -38,7 +34,7 @@ module _ (table : List ℕ) where
 
   -- of a table that passes 1 to 13
   unfoldable pub shows : Shows
-  shows = elim (ltb (pairIn .upper) (leafCount (leafPart table))) [ true ↦ row (rowFacts pairIn) | false ↦ nothing ]
+  shows = elim (ltb (badPairOf table .upper) (leafCount (leafPart table))) [ true ↦ row (rowFacts (badPairOf table)) | false ↦ nothing ]
 
   -- for every list of bytes: refused by 1 to 13, or what is shown
   unfoldable pub badRowOutcome : Outcome Shows
@@ -51,4 +47,4 @@ written nothing string lent = lent
 
 -- the lent buffer at exit: "Bytes beyond keep their contents; with Nothing or a fault all do"
 unfoldable pub badRowIn : List ℕ → List ℕ → List ℕ
-badRowIn table lent = atExit (badRowOutcome table) lent (written (shows table) (stringOf table (pairIn table)) lent)
+badRowIn table lent = atExit (badRowOutcome table) lent (written (shows table) (stringOf table (badPairOf table)) lent)

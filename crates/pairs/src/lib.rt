@@ -16,11 +16,10 @@ ghost use Rattle.prefix_rules.specs.Check.{leafCheck};
 ghost use mathlib.Core.Bool.{true};
 ghost use Rattle.pair_digits.specs.Slots.{Slotted};
 ghost use Rattle.pair_sets.specs.Runs.{Judgement};
-ghost use Rattle.table_rules.specs.Pairs.{inAlphabet, badPair, pairCheck};
+ghost use Rattle.table_rules.specs.Pairs.{inAlphabet, badPair};
 ghost use Prim.Native.Nat.{_+_, _<_, _≤_, _^_, min, pred};
 ghost use Rattle.lists.specs.Span.{span};
 ghost use Rattle.lists.specs.Scan.{firstFailing};
-use faults::Refusal;
 use pair_sets::PassedLeaves;
 use ring::Degree;
 use table_rules::Pair;
@@ -40,12 +39,6 @@ struct Run {
 // The failing pair, or the leaf count twice and then the number of fitting pairs.
 pub struct Scan {
     pub pair: Pair,
-    pub pairs: usize,
-}
-
-// Rule 14's refusal, and where it has none the number of fitting pairs.
-pub struct Verdict {
-    pub refusal: Refusal,
     pub pairs: usize,
 }
 
@@ -226,40 +219,4 @@ pub fn search(
         };
     }
     bad_pair(degree, base, alphabet, inputs, leaves, words, passed)
-}
-
-// Rule 14, at the upper leaf of the failing pair.
-pub fn pairs(
-    degree: Degree,
-    base: &[u8],
-    alphabet: &[u8],
-    inputs: &[u8],
-    leaves: &[u8],
-    words: &[u8],
-) -> Verdict
-    requires table { ⌜ BasePart (ofDegree degree (now base)) × (0 < elementCount (ofDegree degree (now inputs)))
-        × (leafCheck (ofDegree degree (now leaves)) (now words) (elementCount (ofDegree degree (now inputs))) .number ≡ 0) ⌝ }
-    requires count { ⌜ leafCount (ofDegree degree (now leaves)) ≤ 4096 ⌝ }
-    ensures refusal { λ r. ⌜ r .refusal ≡ pairCheck (ofDegree degree (now (base .entry))) (ofDegree degree (now (alphabet .entry)))
-        (ofDegree degree (now (inputs .entry))) (ofDegree degree (now (leaves .entry))) (now (words .entry)) ⌝ }
-    ensures pairs { λ r. ⌜ (r .refusal .number ≡ 0 → r .pairs ≡ pairCount (codeOf (ofDegree degree (now (leaves .entry))) (now (words .entry)))) ⌝ }
-{
-    let found = search(degree, base, alphabet, inputs, leaves, words);
-    let pair = found.pair;
-    if pair.upper < leaves::leaf_count(degree, leaves) {
-        return Verdict {
-            refusal: Refusal {
-                number: 14,
-                place: pair.upper,
-            },
-            pairs: 0,
-        };
-    }
-    Verdict {
-        refusal: Refusal {
-            number: 0,
-            place: 0,
-        },
-        pairs: found.pairs,
-    }
 }

@@ -1,12 +1,14 @@
 // The check of a table.
 ghost use mathlib.Core.Path.{_≡_};
+ghost use Prim.Native.Nat.{_≤_};
+ghost use Rattle.leaf_rules.specs.Leaf.{leafCount};
 ghost use Rattle.numeration.specs.PairCount.{pairCount};
-ghost use Rattle.reader_rules.specs.Table.{leavesIn};
+ghost use Rattle.reader_rules.specs.Table.{leafPart, leavesIn};
 ghost use Rattle.reader_rules.specs.Check.{tableCheck};
-ghost use Rattle.table_rules.specs.Check.{pairCheckOf, checkOutcome};
+ghost use Rattle.table_rules.specs.Check.{badPairOf, checkOutcome};
 ghost use Rattle.table.specs.Answer.{outcomeOf};
 use faults::Fault;
-use pairs::Verdict;
+use pairs::Scan;
 use reader_rules::Reading;
 use table_rules::Facts;
 
@@ -15,14 +17,14 @@ pub enum Checked {
     Refused(Fault),
 }
 
-// Rule 14 of a file that passes 1 to 13, and the number of fitting pairs where it isn't broken.
-fn file_pairs(file: &[u8]) -> Verdict
+// The search of rule 14 in a file that passes 1 to 13: the failing pair, or the leaf count twice and the number of fitting pairs.
+pub fn search(file: &[u8]) -> Scan
     requires { ⌜ tableCheck (now file) .number ≡ 0 ⌝ }
-    ensures refusal { λ r. ⌜ r .refusal ≡ pairCheckOf (now (file .entry)) ⌝ }
-    ensures pairs { λ r. ⌜ (r .refusal .number ≡ 0 → r .pairs ≡ pairCount (leavesIn (now (file .entry)))) ⌝ }
+    ensures pairs { λ r. ⌜ (leafCount (leafPart (now (file .entry))) ≤ r .pair .upper → r .pairs ≡ pairCount (leavesIn (now (file .entry)))) ⌝ }
+    ensures pair { λ r. ⌜ r .pair ≡ badPairOf (now (file .entry)) ⌝ }
 {
     let degree = layout::degree_in(file);
-    pairs::pairs(
+    pairs::search(
         degree,
         reader::section(file, 0),
         reader::section(file, 1),
@@ -40,15 +42,15 @@ pub fn check(file: &[u8]) -> Checked
     match answer {
         Reading::Refused(fault) => Checked::Refused(fault),
         Reading::Facts(table) => {
-            let found = file_pairs(file);
-            let refusal = found.refusal;
-            if refusal.number != 0 {
+            let found = search(file);
+            let pair = found.pair;
+            let leaves = table.leaves;
+            if pair.upper < leaves.count {
                 return Checked::Refused(Fault::Author {
-                    number: refusal.number,
-                    place: refusal.place,
+                    number: 14,
+                    place: pair.upper,
                 });
             }
-            let leaves = table.leaves;
             let alphabet = table.alphabet;
             Checked::Accepted(Facts {
                 depth: table.depth,

@@ -18,7 +18,8 @@ use Rattle.faults.specs.Check.{refusal, none}
 use Rattle.faults.proofs.Check.{judge-broken, judge-kept}
 use Rattle.table_rules.specs.declared.Pair.{Pair}
 use Rattle.table_rules.specs.Pairs.{inAlphabet, badLower, badUpper, badPair, pairCheck}
-use Rattle.reader_rules.specs.Table.{system}
+use Rattle.reader_rules.specs.Table.{basePart, alphabetPart, inputPart, leafPart, wordPart, system}
+use Rattle.table_rules.specs.Check.{pairCheckOf, badPairOf}
 
 module _ (base alphabet inputs leaves : Section) (words : List ℕ) where
   abbrev N : ℕ
@@ -73,14 +74,24 @@ module _ (base alphabet inputs leaves : Section) (words : List ℕ) where
         | no h ↦ ap (λ (p : Pair). p .upper) (not-picked (omega arith)) ∙ le-antisymm (omega arith) (omega (arith, scan-high upper 0 N))
       ]
 
-  pub pairs-broken : (p : Pair) → p ≡ badPair base alphabet inputs leaves words → p .upper < N → refusal 14 (p .upper) ≡ pairCheck base alphabet inputs leaves words
+  pairs-broken : (p : Pair) → p ≡ badPair base alphabet inputs leaves words → p .upper < N → refusal 14 (p .upper) ≡ pairCheck base alphabet inputs leaves words
   unfolding pairCheck badUpper
   pairs-broken p e h =
       let at = ap (λ (q : Pair). q .upper) e ∙ upper-is in
       sym (judge-broken 14 (λ k. k) upper N (p .upper) at h)
 
-  pub pairs-kept : (p : Pair) → p ≡ badPair base alphabet inputs leaves words → N ≤ p .upper → none ≡ pairCheck base alphabet inputs leaves words
+  pairs-kept : (p : Pair) → p ≡ badPair base alphabet inputs leaves words → N ≤ p .upper → none ≡ pairCheck base alphabet inputs leaves words
   unfolding pairCheck badUpper
   pairs-kept p e h =
       let at = ap (λ (q : Pair). q .upper) e ∙ upper-is in
       sym (judge-kept 14 (λ k. k) upper N (p .upper) at h)
+
+-- ---- of a file
+
+pub file-broken : (file : List ℕ) (p : Pair) → p ≡ badPairOf file → p .upper < leafCount (leafPart file) → refusal 14 (p .upper) ≡ pairCheckOf file
+unfolding pairCheckOf
+file-broken file = pairs-broken (basePart file) (alphabetPart file) (inputPart file) (leafPart file) (wordPart file)
+
+pub file-kept : (file : List ℕ) (p : Pair) → p ≡ badPairOf file → leafCount (leafPart file) ≤ p .upper → none ≡ pairCheckOf file
+unfolding pairCheckOf
+file-kept file = pairs-kept (basePart file) (alphabetPart file) (inputPart file) (leafPart file) (wordPart file)

@@ -10,11 +10,16 @@ use Rattle.reader_rules.specs.Table.{basePart, alphabetPart, inputPart, leafPar
 use Rattle.reader_rules.specs.TableFacts.{tableFacts}
 use Rattle.reader_rules.specs.Check.{tableCheck}
 use Rattle.table_rules.specs.declared.Facts.{Facts}
-use Rattle.table_rules.specs.Pairs.{pairCheck}
+use Rattle.table_rules.specs.declared.Pair.{Pair}
+use Rattle.table_rules.specs.Pairs.{pairCheck, badPair}
 
 -- rule 14 of a file
 unfoldable pub pairCheckOf : List ℕ → Refusal
 pairCheckOf file = pairCheck (basePart file) (alphabetPart file) (inputPart file) (leafPart file) (wordPart file)
+
+-- the failing pair of a file; the leaf count twice where none fails
+abbrev pub badPairOf : List ℕ → Pair
+badPairOf file = badPair (basePart file) (alphabetPart file) (inputPart file) (leafPart file) (wordPart file)
 
 -- h, leaf count, alphabet size and the number of fitting leaf pairs
 unfoldable pub checkFacts : List ℕ → Facts
