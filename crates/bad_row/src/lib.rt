@@ -1,15 +1,119 @@
 // A bad row to show: the two leaves that rule 14 names, the digit that they give, and a string of input digits that gives it in every row.
 ghost use mathlib.Core.Path.{_≡_};
-ghost use Rattle.bad_row_rules.specs.BadRow.{badRowOutcome, badRowIn};
+ghost use Prim.Native.Nat.{_<_, _≤_};
+ghost use lib.ListN.{length};
+ghost use Rattle.lists.specs.Overwrite.{overwrite};
+ghost use Rattle.faults.specs.Outcome.{facts};
+ghost use Rattle.midpoint.specs.Midpoint.{parts};
+ghost use Rattle.digit_rules.specs.Record.{recordAt};
+ghost use Rattle.leaf_rules.specs.Leaf.{leafCount};
+ghost use Rattle.numeration.specs.Pairs.{pairDigit};
+ghost use Rattle.reader_rules.specs.Table.{inputPart, leafPart, operationsOf, leavesIn};
+ghost use Rattle.reader_rules.specs.Check.{tableCheck};
+ghost use Rattle.bad_row_rules.specs.BadRow.{pairIn, stringOf, shows, badRowOutcome, written, badRowIn};
 ghost use Rattle.bad_row.specs.Answer.{shownAs};
+ghost use Rattle.bad_row.specs.Words.{wordString};
 use bad_row_rules::BadRow;
 use bad_row_rules::Shown;
 use faults::Fault;
+use midpoint::Element;
 use reader_rules::Reading;
+use table_rules::Pair;
 
+// The failing pair of a table that passes 1 to 13, or the leaf count twice: the search of the check.
+fn failing_pair(table: &[u8]) -> Pair
+    requires { ⌜ tableCheck (now table) .number ≡ 0 ⌝ }
+    ensures { λ r. ⌜ r ≡ pairIn (now (table .entry)) ⌝ }
+{
+    let degree = layout::degree_in(table);
+    let found = pairs::search(
+        degree,
+        reader::section(table, 0),
+        reader::section(table, 1),
+        reader::section(table, 2),
+        reader::section(table, 3),
+        reader::section(table, 4),
+    );
+    found.pair
+}
+
+// The digit that two leaves of such a table give: the upper word's first digit, plus the lower weight, minus the base times the upper one.
+fn digit_of(table: &[u8], pair: Pair) -> Element
+    requires table { ⌜ tableCheck (now table) .number ≡ 0 ⌝ }
+    requires leaves { ⌜ (pair .upper < leafCount (leafPart (now table))) × (pair .lower < leafCount (leafPart (now table))) ⌝ }
+    ensures { λ r. ⌜ parts r ≡ pairDigit (operationsOf (now (table .entry))) (recordAt (inputPart (now (table .entry))))
+        (leavesIn (now (table .entry))) (pair .upper) (pair .lower) ⌝ }
+{
+    let degree = layout::degree_in(table);
+    let leaves = reader::section(table, 3);
+    let word = leaves::word(degree, leaves, reader::section(table, 4), pair.upper);
+    let first = octets::wide(octets::byte_at(word, 0));
+    midpoint::shown(converted_digit::out_digit(
+        degree,
+        digits::base_of(degree, reader::section(table, 0)),
+        digits::record_at(degree, reader::section(table, 2), first),
+        leaves::weight(degree, leaves, pair.lower),
+        leaves::weight(degree, leaves, pair.upper),
+    ))
+}
+
+// Writes the string of two words, top digit first: the upper word's first digit, then the longer of its tail and the lower word. The count of
+// its bytes.
+fn put_string(upper: &[u8], lower: &[u8], string: &mut [u8; 9]) -> usize
+    requires { ⌜ (0 < length (now upper)) × (length (now upper) ≤ 8) × (length (now lower) ≤ 8) ⌝ }
+    ensures bytes { λ r. ⌜ r ≡ length (wordString (now (upper .entry)) (now (lower .entry))) ⌝ }
+    ensures string { λ r. ⌜ now (string .exit) ≡ overwrite (now (string .entry)) 0 (wordString (now (upper .entry)) (now (lower .entry))) ⌝ }
+{
+    if lower.len() + 1 < upper.len() {
+        return octets::put(string, 0, upper);
+    }
+    let behind = octets::put(string, 0, &upper[..1]);
+    octets::put(string, behind, lower)
+}
+
+// Of a table that passes 1 to 13.
+fn show(table: &[u8], string: &mut [u8; 9]) -> Shown
+    requires { ⌜ tableCheck (now table) .number ≡ 0 ⌝ }
+    ensures answer { λ r. ⌜ shownAs r ≡ facts (shows (now (table .entry))) ⌝ }
+    ensures string { λ r. ⌜ now (string .exit)
+        ≡ written (shows (now (table .entry))) (stringOf (now (table .entry)) (pairIn (now (table .entry)))) (now (string .entry)) ⌝ }
+{
+    let degree = layout::degree_in(table);
+    let leaves = reader::section(table, 3);
+    let words = reader::section(table, 4);
+    let pair = failing_pair(table);
+    if leaves::leaf_count(degree, leaves) <= pair.upper {
+        return Shown::Nothing;
+    }
+    let bytes = put_string(
+        leaves::word(degree, leaves, words, pair.upper),
+        leaves::word(degree, leaves, words, pair.lower),
+        string,
+    );
+    Shown::Row(BadRow {
+        upper: pair.upper,
+        lower: pair.lower,
+        digit: digit_of(table, pair),
+        bytes,
+    })
+}
+
+// The bad row of a table that rule 14 refuses, or nothing where the check accepts it, or the author's fault of 1 to 13. The string, of input
+// indexes from the top, goes into the first bytes that are lent; the others keep their contents, and all do where no row is shown.
 pub fn bad_row(table: &[u8], string: &mut [u8; 9]) -> Shown
     ensures answer { λ r. ⌜ shownAs r ≡ badRowOutcome (now (table .entry)) ⌝ }
     ensures string { λ r. ⌜ now (string .exit) ≡ badRowIn (now (table .entry)) (now (string .entry)) ⌝ }
 {
-    Shown::Nothing
+    let answer = reader::read(table);
+    let Reading::Facts(facts) = answer else {
+        // the table's fault is passed on
+        let Reading::Refused(fault) = answer else {
+            return Shown::Refused(Fault::Author {
+                number: 0,
+                place: 0,
+            });
+        };
+        return Shown::Refused(fault);
+    };
+    show(table, string)
 }

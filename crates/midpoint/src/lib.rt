@@ -2,6 +2,7 @@
 ghost use mathlib.Core.Path.{_≡_};
 ghost use Prim.Native.Nat.{_≤_, _^_};
 ghost use lib.IntN.{natAbs, _+ℤ_};
+ghost use Rattle.ring.specs.Tests.{Within};
 ghost use Rattle.midpoint.specs.Halved.{halved};
 ghost use Rattle.midpoint.specs.Midpoint.{parts, midpointOf};
 
@@ -11,6 +12,19 @@ pub struct Element {
     pub b: i32,
     pub c: i32,
     pub d: i32,
+}
+
+// An element of parts that fit 32 bits, as callers see it.
+pub fn shown(x: [i64; 4]) -> Element
+    requires { ⌜ Within 2147483647 x ⌝ }
+    ensures { λ r. ⌜ parts r ≡ x ⌝ }
+{
+    Element {
+        a: x[0] as i32,
+        b: x[1] as i32,
+        c: x[2] as i32,
+        d: x[3] as i32,
+    }
 }
 
 // Half, to the even neighbour: two quarters rounded down make it without a branch.

@@ -5,6 +5,7 @@ pub mod Sums
 pub mod Ends
 pub mod Reach
 pub mod Pairs
+pub mod Shown
 pub mod Runs
 pub mod PairCount
 pub mod Changes

@@ -9,19 +9,27 @@ use native.Mathlib.Nat.{zero-add}
 use lib.Dec.{leb}
 use lib.ListN.{length, getD}
 use borrow.Author.Tests.{leb-true, leb-false}
+use Rattle.lists.specs.Span.{span}
 use Rattle.lists.proofs.Span.{length-span, getD-span}
 use Rattle.lists.proofs.Scan.{scan-passed, scan-all, every-sound, every-complete}
 use Rattle.numeration.specs.Group.{Operations}
 use Rattle.numeration.specs.Code.{Code, Begins, Inputs}
-use Rattle.numeration.specs.LeafOf.{leafOf}
 use Rattle.numeration.specs.Prefix.{PrefixCode}
-use Rattle.numeration.specs.Conversion.{window, weightAt, convert}
+use Rattle.numeration.specs.Conversion.{window, leafInto, weightAt, convert}
 use Rattle.numeration.specs.Pairs.{tail, Fits, pairDigit, RowsConvert}
 use Rattle.numeration.specs.Laws.{PairsConvert}
 use Rattle.numeration.specs.PairTests.{pairDigitAt, pairBottom, pairString, pairRow, Holds, fits, pairPasses, upperPasses, lowestBadUpper}
 use Rattle.numeration.proofs.Agreement.{agree-sound, agree-complete}
 use Rattle.numeration.proofs.Leaves.{leafOf-begins}
 use Rattle.numeration.proofs.Windows.{window-by-place, window-below, weightInto-leaf}
+
+-- the digits f, top first, as a row: read down from its top place they are f again
+pub row-read : (f : ℕ → ℕ) (n k : ℕ) → k ≤ n → window (span (λ i. f (n - i)) 0 (suc n)) (suc n) k ≡ f k
+row-read f n k top =
+    window-by-place (λ d e. d ≡ f k) row row (suc n) k (λ low. absurd (omega arith)) (λ i e. getD-span (λ i. f (n - i)) 0 (suc n) i 0 (omega arith) ∙ ap f (omega arith))
+  where
+    row : List ℕ
+    row = span (λ i. f (n - i)) 0 (suc n)
 
 module _ {A : Type 0} (c : Code A) where
   -- the leaves of neighbouring windows fit, since the windows overlap
@@ -38,32 +46,32 @@ module _ {A : Type 0} (c : Code A) where
       go true e = rw (e, pairDigitAt) (lower (leb-true _ _ e))
       go false e = rw (e, pairDigitAt) (upper (leb-false _ _ e))
 
-  length-pairString : (u l : ℕ) → length (pairString c u l) ≡ suc (pairBottom c u l)
+  pub length-pairString : (u l : ℕ) → length (pairString c u l) ≡ suc (pairBottom c u l)
   unfolding pairString
   length-pairString u l = length-span (pairDigitAt c u l) 0 _
 
-  pairString-at : (u l i : ℕ) → i ≤ pairBottom c u l → getD (pairString c u l) i 0 ≡ pairDigitAt c u l i
+  pub pairString-at : (u l i : ℕ) → i ≤ pairBottom c u l → getD (pairString c u l) i 0 ≡ pairDigitAt c u l i
   unfolding pairString
   pairString-at u l i h = getD-span _ 0 (suc (pairBottom c u l)) i 0 (omega arith) ∙ ap (pairDigitAt c u l) (zero-add i)
 
   module _ (u l : ℕ) (fit : Fits c u l) where
     -- the upper leaf begins the string, the lower one the string without its top
-    pair-upper : Begins c u (pairDigitAt c u l)
+    pub pair-upper : Begins c u (pairDigitAt c u l)
     unfolding pairDigitAt tail
     pair-upper zero h = refl
     pair-upper (suc i) h = longer (λ d. c .digit u (suc i) ≡ d) u l i (λ le. fit i (omega arith)) (λ lt. refl)
 
-    pair-lower : Begins c l (λ i. pairDigitAt c u l (suc i))
+    pub pair-lower : Begins c l (λ i. pairDigitAt c u l (suc i))
     pair-lower i h = longer (λ d. c .digit l i ≡ d) u l i (λ le. refl) (λ lt. sym (fit i (omega arith)))
 
     module _ (row : List ℕ) (j : ℕ) (holds : Holds row j (pairString c u l)) where
       read : (i : ℕ) → i ≤ pairBottom c u l → window row (suc j) i ≡ pairDigitAt c u l i
       read i h = holds i (omega (arith, length-pairString u l)) ∙ pairString-at u l i h
 
-      holds-upper : Begins c u (window row (suc j))
+      pub holds-upper : Begins c u (window row (suc j))
       holds-upper i h = pair-upper i h ∙ sym (read i (omega arith))
 
-      holds-lower : Begins c l (window row j)
+      pub holds-lower : Begins c l (window row j)
       unfolding window
       holds-lower i h = pair-lower i h ∙ sym (read (suc i) (omega arith))
 
@@ -71,17 +79,8 @@ module _ {A : Type 0} (c : Code A) where
   pub pairRow-holds : (u l : ℕ) → Holds (pairRow c u l) (pairBottom c u l) (pairString c u l)
   unfolding pairRow
   pairRow-holds u l k h =
-      let n : ℕ = pairBottom c u l in
-      let top : k ≤ n = omega (arith, length-pairString u l) in
-      rw (pairString-at u l k top)
-      (window-by-place (λ d e. d ≡ pairDigitAt c u l k) (pairRow c u l) (pairRow c u l) (suc n) k (λ low. absurd (none n top low))
-      (λ i e. getD-span _ 0 (suc n) i 0 (omega arith) ∙ ap (pairDigitAt c u l) (place n i e)))
-    where
-      none : (n : ℕ) → k ≤ n → suc n ≤ k → ⊥
-      none n h l = omega arith
-
-      place : (n i : ℕ) → i + suc k ≡ suc n → n - (0 + i) ≡ k
-      place n i e = omega arith
+      let top : k ≤ pairBottom c u l = omega (arith, length-pairString u l) in
+      row-read (pairDigitAt c u l) (pairBottom c u l) k top ∙ sym (pairString-at u l k top)
 
   pub pairRow-inputs : (m u l : ℕ) → PrefixCode c m → u < c .leaves → l < c .leaves → Inputs m (pairRow c u l)
   unfolding pairRow
@@ -92,6 +91,10 @@ module _ {A : Type 0} (c : Code A) where
       digit : (i : ℕ) → i ≤ pairBottom c u l → pairDigitAt c u l i < m
       digit zero h = unfold pairDigitAt in p .indexes u 0 hu (p .nonempty u hu)
       digit (suc i) h = longer (λ d. d < m) u l i (λ le. p .indexes l i hl (omega arith)) (λ lt. unfold tail in p .indexes u (suc i) hu (omega arith))
+
+  -- in a row of input digits the leaf that is looked up begins its window
+  pub into-begins : (m : ℕ) → PrefixCode c m → (row : List ℕ) → Inputs m row → (j : ℕ) → (leafInto c row j < c .leaves) × Begins c (leafInto c row j) (window row j)
+  into-begins m p row inputs j = leafOf-begins c (window row j) (p .complete (window row j) (window-below m row (p .some-input) inputs j))
 
 module _ {A : Type 0} (o : Operations A) (input : ℕ → A) (c : Code A) (m : ℕ) (p : PrefixCode c m) where
   -- the digit at a place is that of the pair of leaves that begin the windows there and below
@@ -110,12 +113,9 @@ module _ {A : Type 0} (o : Operations A) (input : ℕ → A) (c : Code A) (m : �
     where
       rows : PairsConvert o input c Alphabet → RowsConvert o input c Alphabet m
       rows all row inputs j =
-          let (hu, b) = leaf (suc j) in
-          let (hl, d) = leaf j in
+          let (hu, b) = into-begins c m p row inputs (suc j) in
+          let (hl, d) = into-begins c m p row inputs j in
           rw (convert-pair row j _ _ hu hl b d) (all _ _ hu hl (neighbours-fit c row j _ _ b d))
-        where
-          leaf : (j : ℕ) → (leafOf c (window row j) < c .leaves) × Begins c (leafOf c (window row j)) (window row j)
-          leaf j = leafOf-begins c (window row j) (p .complete (window row j) (window-below m row (p .some-input) inputs j))
 
       pairs : RowsConvert o input c Alphabet m → PairsConvert o input c Alphabet
       pairs all u l hu hl fit =

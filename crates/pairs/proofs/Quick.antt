@@ -1,18 +1,16 @@
--- Upper leaves whose pairs all pass, and rule 14 where these are all.
+-- Upper leaves whose pairs all pass, and the failing pair where these are all.
 use mathlib.Core.Path.{_≡_}
 use mathlib.Core.List.{List}
 use Prim.Native.Nat.{ℕ, _≤_}
-use native.Mathlib.Nat.{le-refl}
 use native.Mathlib.Omega.{arith}
 use Rattle.ring.specs.declared.Degree.{Degree}
 use Rattle.layout_rules.specs.Section.{Section, ofDegree}
 use Rattle.lists.proofs.Scan.{every-complete}
-use Rattle.faults.specs.Check.{none}
 use Rattle.digit_rules.specs.BaseMatrix.{baseMatrix}
 use Rattle.numeration.specs.PairTests.{upperPasses}
 use Rattle.leaf_rules.specs.Leaf.{leafCount}
-use Rattle.table_rules.specs.Pairs.{pairCheck}
-use Rattle.table_rules.proofs.Bad.{UppersPass, pair-none, pairs-kept}
+use Rattle.table_rules.specs.Pairs.{badPair}
+use Rattle.table_rules.proofs.Bad.{UppersPass, pair-none}
 use Rattle.pair_sets.specs.Runs.{AllPass}
 
 -- sections of one degree
@@ -27,7 +25,5 @@ module _ (d : Degree) (base₀ leaves₀ : List ℕ) (alphabet inputs : Section)
   unfolding upperPasses
   uppers u h = every-complete _ 0 (leafCount leaves) (λ l low high. all u h l (omega arith))
 
-  pub all-kept : leafCount leaves ≤ n → none ≡ pairCheck base alphabet inputs leaves words
-  all-kept h =
-      pairs-kept base alphabet inputs leaves words (record { upper = leafCount leaves; lower = leafCount leaves })
-      (pair-none base alphabet inputs leaves words n h uppers) (le-refl (leafCount leaves))
+  pub none-fails : leafCount leaves ≤ n → record { upper = leafCount leaves; lower = leafCount leaves } ≡ badPair base alphabet inputs leaves words
+  none-fails h = pair-none base alphabet inputs leaves words n h uppers

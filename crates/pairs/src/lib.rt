@@ -139,7 +139,7 @@ fn bad_lower(
 
 // The lowest upper leaf that fails with some lower leaf, and the lowest such lower leaf; the leaf count twice and the number of fitting pairs
 // where none fails. Those that have `passed` are known not to.
-pub fn bad_pair(
+fn bad_pair(
     degree: Degree,
     base: &[u8],
     alphabet: &[u8],
@@ -197,7 +197,38 @@ pub fn bad_pair(
     }
 }
 
-// Rule 14. The scan that names the leaves is only made where the quick look leaves some out, from the first of them on.
+// The same with no leaf known: the scan is only made where the quick look leaves some out, from the first of them on.
+pub fn search(
+    degree: Degree,
+    base: &[u8],
+    alphabet: &[u8],
+    inputs: &[u8],
+    leaves: &[u8],
+    words: &[u8],
+) -> Scan
+    requires table { ⌜ BasePart (ofDegree degree (now base)) × (0 < elementCount (ofDegree degree (now inputs)))
+        × (leafCheck (ofDegree degree (now leaves)) (now words) (elementCount (ofDegree degree (now inputs))) .number ≡ 0) ⌝ }
+    requires count { ⌜ leafCount (ofDegree degree (now leaves)) ≤ 4096 ⌝ }
+    ensures pairs { λ r. ⌜ (leafCount (ofDegree degree (now (leaves .entry))) ≤ r .pair .upper
+        → r .pairs ≡ pairCount (codeOf (ofDegree degree (now (leaves .entry))) (now (words .entry)))) ⌝ }
+    ensures pair { λ r. ⌜ r .pair ≡ badPair (ofDegree degree (now (base .entry))) (ofDegree degree (now (alphabet .entry)))
+        (ofDegree degree (now (inputs .entry))) (ofDegree degree (now (leaves .entry))) (now (words .entry)) ⌝ }
+{
+    let count = leaves::leaf_count(degree, leaves);
+    let passed = pair_sets::passed(degree, base, alphabet, inputs, leaves, words);
+    if count <= passed.uppers {
+        return Scan {
+            pair: Pair {
+                upper: count,
+                lower: count,
+            },
+            pairs: passed.pairs,
+        };
+    }
+    bad_pair(degree, base, alphabet, inputs, leaves, words, passed)
+}
+
+// Rule 14, at the upper leaf of the failing pair.
 pub fn pairs(
     degree: Degree,
     base: &[u8],
@@ -209,23 +240,13 @@ pub fn pairs(
     requires table { ⌜ BasePart (ofDegree degree (now base)) × (0 < elementCount (ofDegree degree (now inputs)))
         × (leafCheck (ofDegree degree (now leaves)) (now words) (elementCount (ofDegree degree (now inputs))) .number ≡ 0) ⌝ }
     requires count { ⌜ leafCount (ofDegree degree (now leaves)) ≤ 4096 ⌝ }
-    ensures refusal { λ r. ⌜ r .refusal ≡ pairCheck (ofDegree degree (now (base .entry))) (ofDegree degree (now (alphabet .entry))) (ofDegree degree (now (inputs .entry))) (ofDegree degree (now (leaves .entry))) (now (words .entry)) ⌝ }
+    ensures refusal { λ r. ⌜ r .refusal ≡ pairCheck (ofDegree degree (now (base .entry))) (ofDegree degree (now (alphabet .entry)))
+        (ofDegree degree (now (inputs .entry))) (ofDegree degree (now (leaves .entry))) (now (words .entry)) ⌝ }
     ensures pairs { λ r. ⌜ (r .refusal .number ≡ 0 → r .pairs ≡ pairCount (codeOf (ofDegree degree (now (leaves .entry))) (now (words .entry)))) ⌝ }
 {
-    let count = leaves::leaf_count(degree, leaves);
-    let passed = pair_sets::passed(degree, base, alphabet, inputs, leaves, words);
-    if count <= passed.uppers {
-        return Verdict {
-            refusal: Refusal {
-                number: 0,
-                place: 0,
-            },
-            pairs: passed.pairs,
-        };
-    }
-    let found = bad_pair(degree, base, alphabet, inputs, leaves, words, passed);
+    let found = search(degree, base, alphabet, inputs, leaves, words);
     let pair = found.pair;
-    if pair.upper < count {
+    if pair.upper < leaves::leaf_count(degree, leaves) {
         return Verdict {
             refusal: Refusal {
                 number: 14,

@@ -8,8 +8,10 @@ use native.Mathlib.Decide.{decLt}
 use lib.Dec.{lit≤}
 use lib.ListN.{length, getD, take, length-take, List·getD-map, List·getD-eq-default}
 use lib.Seq.{length-take-le, take-take, getD-take}
-use lib.IntN.{ℤ, pos, natAbs}
+use lib.IntN.{ℤ, pos, natAbs, _*ℤ_}
 use Rattle.lists.specs.Span.{span}
+use Rattle.lists.specs.Count.{total}
+use Rattle.integers.proofs.Size.{natAbs-+, natAbs-*≤}
 use Rattle.lists.proofs.Each.{each}
 use Rattle.lists.proofs.Span.{getD-span, span-ext}
 use Rattle.ring.specs.declared.Degree.{Degree}
@@ -17,13 +19,14 @@ use Rattle.ring.specs.declared.Degree.the-variants.{Two, Three, Four}
 use Rattle.ring.specs.Degree.{partCount, baseLimit}
 use Rattle.ring.specs.Element.{part, plus}
 use Rattle.ring.specs.Product.{scale, timesOmega, columns, matrixOf}
-use Rattle.ring.specs.Padded.{width, padded, paddedRows, paddedMatrix}
+use Rattle.ring.specs.Matrix.{dot, times}
+use Rattle.ring.specs.Padded.{width, padded, paddedRows, corner, paddedTimes, paddedMatrix}
 use Rattle.ring.specs.Tests.{Within, RowsWithin, LimitedBy, columnLimits, BaseSizes, ColumnsWithin, rowLimits, RowsLimited}
 use Rattle.ring.proofs.Element.{take-plus, take-scale, within-plus, within-scale, within-le}
 use Rattle.ring.proofs.Product.{length-omega}
-use Rattle.ring.proofs.Matrix.{length-matrix, length-columns}
+use Rattle.ring.proofs.Matrix.{length-matrix, length-columns, dot-next}
 use Rattle.ring.proofs.Parts.{within-part, four-parts}
-use Rattle.ring.proofs.Padded.{padded-is, within-none, length-padded, part-padded, row-padded, take-padded, within-take, within-padded, padded-entry}
+use Rattle.ring.proofs.Padded.{padded-is, within-none, length-padded, part-padded, row-padded, take-padded, taken, within-take, row-corner, within-padded, padded-entry}
 
 -- ---- ω times an element
 
@@ -251,3 +254,30 @@ limited-within x h k = le-trans (h k) (below k)
 pub columns-rows : (degree : Degree) (m : List (List ℤ)) → ColumnsWithin degree m → RowsWithin (2 ^ 21) m
 unfolding RowsLimited RowsWithin
 columns-rows degree m h i = limited-within (getD m i []) (columns-limited degree m h i)
+
+-- ---- base times element, each column within its limit
+
+-- what d entries of a row, each of its limit, give with an element of size n
+abbrev pub productLimit : List ℕ → ℕ → ℕ → ℕ
+productLimit limits n d = total (λ k. getD limits k 0 * n) d
+
+dot-limited : (limits : List ℕ) (n : ℕ) (row x : List ℤ) → LimitedBy limits row → Within n x → (d : ℕ) → natAbs (dot (take d row) x) ≤ productLimit limits n d
+unfolding total LimitedBy Within dot
+dot-limited limits n row x h w zero = zero-le
+dot-limited limits n row x h w (suc d) =
+    rw (dot-next d row x)
+    (omega (arith, natAbs-+ (dot (take d row) x) (part row d *ℤ part x d), dot-limited limits n row x h w d, natAbs-*≤ (part row d) (part x d) (getD limits d 0) n (h d) (w d)))
+
+pub times-limited : (degree : Degree) (n : ℕ) (m : List (List ℤ)) (x : List ℤ) → ColumnsWithin degree m → Within n x → Within (productLimit (columnLimits degree) n (partCount degree)) (paddedTimes (partCount degree) m x)
+unfolding paddedTimes times ColumnsWithin Within LimitedBy dot
+times-limited degree n m x h w =
+    within-padded most (times (corner d m) x) (λ i. rw (List·getD-map (λ row. dot row x) (corner d m) i [], row-corner d m i) (row i))
+  where
+    d : ℕ
+    d = partCount degree
+
+    most : ℕ
+    most = productLimit (columnLimits degree) n d
+
+    row : (i : ℕ) → natAbs (dot (take d (getD (take d m) i [])) x) ≤ most
+    row i = dot-limited (columnLimits degree) n (getD (take d m) i []) x (taken (LimitedBy (columnLimits degree)) [] (λ k. zero-le) d m h i) w d

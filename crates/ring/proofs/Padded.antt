@@ -124,7 +124,7 @@ padded-product r β x positive fits h k =
 -- ---- sizes
 
 -- what holds of all entries and of what stands for a missing one holds of the first d
-taken : {A : Type 0} (P : A → Type 0) (z : A) → P z → (d : ℕ) (l : List A) → ((i : ℕ) → P (getD l i z)) → (i : ℕ) → P (getD (take d l) i z)
+pub taken : {A : Type 0} (P : A → Type 0) (z : A) → P z → (d : ℕ) (l : List A) → ((i : ℕ) → P (getD l i z)) → (i : ℕ) → P (getD (take d l) i z)
 taken P z h zero l all i = h
 taken P z h (suc d) [] all i = h
 taken P z h (suc d) (a ∷ l) all zero = all 0

@@ -9,7 +9,6 @@ ghost use Rattle.ring.specs.Element.{zeros};
 ghost use Rattle.ring.specs.Tests.{Within, RowsWithin};
 ghost use Rattle.ring.specs.declared.Degree.the-variants.{Two};
 ghost use Rattle.layout_rules.specs.Section.{ofDegree};
-ghost use Rattle.midpoint.specs.Midpoint.{parts};
 ghost use Rattle.row_rules.specs.Fit.{Indexes};
 ghost use Rattle.digit_rules.specs.Record.{elementCount};
 ghost use Rattle.row_value_rules.specs.Total.{totalLimit, limited, placeDigit, worthOf};
@@ -48,19 +47,6 @@ fn digit_at(degree: Degree, alphabet: &[u8], row: &[u8], place: usize) -> [i64; 
     digits::record_at(degree, alphabet, row[place] as usize)
 }
 
-// An element as callers see it.
-fn shown(x: [i64; 4]) -> Element
-    requires { ⌜ Within totalLimit x ⌝ }
-    ensures { λ r. ⌜ parts r ≡ x ⌝ }
-{
-    Element {
-        a: x[0] as i32,
-        b: x[1] as i32,
-        c: x[2] as i32,
-        d: x[3] as i32,
-    }
-}
-
 // The count of places without the zeros at the top, where index 0 is the digit zero.
 fn counted_places(degree: Degree, alphabet: &[u8], row: &[u8]) -> usize
     ensures within { λ r. ⌜ r ≤ length (now (row .entry)) ⌝ }
@@ -93,7 +79,7 @@ fn row_value(degree: Degree, base: [[i64; 4]; 4], alphabet: &[u8], row: &[u8]) -
         total = next;
         left = place;
     }
-    Worth::Whole(shown(total))
+    Worth::Whole(midpoint::shown(total))
 }
 
 // The same with the degree as a constant where it is two, so that sizes and parts are chosen once and not at each place.

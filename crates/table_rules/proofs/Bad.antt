@@ -45,7 +45,7 @@ module _ (base alphabet inputs leaves : Section) (words : List ℕ) where
   abbrev bad : ℕ
   bad = badUpper base alphabet inputs leaves words
 
-  picked : bad < N → badPair base alphabet inputs leaves words ≡ record { upper = bad; lower = lower bad }
+  pub picked : bad < N → badPair base alphabet inputs leaves words ≡ record { upper = bad; lower = lower bad }
   unfolding badPair
   picked h = rw (lt-ltb bad N h, badPair)
 
@@ -65,7 +65,7 @@ module _ (base alphabet inputs leaves : Section) (words : List ℕ) where
       let at : bad ≡ 0 + N = scan-all upper 0 N (λ j z lt. passed j (omega arith)) in
       sym (not-picked (omega arith))
 
-  upper-is : badPair base alphabet inputs leaves words .upper ≡ bad
+  pub upper-is : badPair base alphabet inputs leaves words .upper ≡ bad
   unfolding badUpper
   upper-is =
       elim (decLt bad N) [

@@ -66,7 +66,7 @@ module _ (base alphabet inputs leaves : Section) (words : List ℕ) where
   unfolding pairPasses
   let-through u l e = rw (e, pairPasses)
 
-  pair-fails : (u l : ℕ) → passes u l ≡ false → Fits (codeOf leaves words) u l × ¬ (Listed alphabet (digit u l))
+  pub pair-fails : (u l : ℕ) → passes u l ≡ false → Fits (codeOf leaves words) u l × ¬ (Listed alphabet (digit u l))
   unfolding fits
   pair-fails u l e = go (fits (codeOf leaves words) u l) refl
     where
@@ -74,7 +74,7 @@ module _ (base alphabet inputs leaves : Section) (words : List ℕ) where
       go true t = (agree-sound _ _ _ t, λ w. clash (listed-test alphabet (digit u l) .1 w) (sym (judged u l t) ∙ e))
       go false t = clash (let-through u l t) e
 
-  pair-passes : (u l : ℕ) → passes u l ≡ true → Fits (codeOf leaves words) u l → Listed alphabet (digit u l)
+  pub pair-passes : (u l : ℕ) → passes u l ≡ true → Fits (codeOf leaves words) u l → Listed alphabet (digit u l)
   unfolding fits
   pair-passes u l e fit = listed-test alphabet (digit u l) .0 (sym (judged u l (agree-complete _ _ _ fit)) ∙ e)
 

@@ -1,4 +1,5 @@
 pub mod Fitting
 pub mod Bad
 pub mod Demand
+pub mod Failing
 pub mod FactsOf
