@@ -9,6 +9,8 @@ ghost use Rattle.layout_rules.specs.Section.{ofDegree};
 ghost use Rattle.digit_rules.specs.Record.{elementCount};
 ghost use Rattle.ring.specs.Tests.{Within};
 use bad_row_rules::BadRow;
+use bad_row_rules::Shown;
+use faults::Fault;
 use midpoint::Element;
 use ring::Degree;
 use ring::Operation;
@@ -54,6 +56,17 @@ fn size(n: usize) {
     shown_parts::written(&out, end);
 }
 
+// Where a section has to start: past the directory, or where the one before it ends.
+fn due_start(file: &[u8], section: usize) -> usize
+    requires { ⌜ (section < 5) × (20 ≤ length (now file)) ⌝ }
+{
+    if section == 0 {
+        20
+    } else {
+        layout::section_end(file, section - 1)
+    }
+}
+
 // Rule 2: a pair of the directory, and where it has to start.
 fn pair(file: &[u8], place: usize) {
     if file.len() < 20 || 4 < place {
@@ -66,12 +79,7 @@ fn pair(file: &[u8], place: usize) {
         start,
         layout::section_length(file, place),
     );
-    let before = if place == 0 {
-        20
-    } else {
-        layout::section_end(file, place - 1)
-    };
-    due(before, b", and the file has ", file.len());
+    due(due_start(file, place), b", and the file has ", file.len());
 }
 
 // Rule 3.
@@ -276,15 +284,14 @@ fn refused(file: &[u8], broken: usize, place: usize) {
 fn sum(degree: Degree, base: &[u8], first: [i64; 4], lower: [i64; 4], upper: [i64; 4])
     requires { ⌜ Within 32768 first × Within 32768 lower × Within 32768 upper ⌝ }
 {
-    if !listing::is_limited(degree, base) {
-        return;
+    if listing::is_limited(degree, base) {
+        let mut out = [0u8; 480];
+        let end = why_lines::sum_line(first, lower, digit_at(degree, base, 1), upper, &mut out);
+        shown_parts::written(&out, end);
+        let product = elements::times_base(degree, digits::base_of(degree, base), upper);
+        let product_end = why_lines::product_line(first, lower, product, &mut out);
+        shown_parts::written(&out, product_end);
     }
-    let mut out = [0u8; 480];
-    let end = why_lines::sum_line(first, lower, digit_at(degree, base, 1), upper, &mut out);
-    shown_parts::written(&out, end);
-    let product = elements::times_base(degree, digits::base_of(degree, base), upper);
-    let product_end = why_lines::product_line(first, lower, product, &mut out);
-    shown_parts::written(&out, product_end);
 }
 
 // A part of the digit in 64 bits.
@@ -316,12 +323,8 @@ fn string_shown(degree: Degree, inputs: &[u8], string: &[u8], bytes: usize)
 
 // Rule 14: the two leaves, a row that holds them, and the digit there.
 fn row(file: &[u8], shown: BadRow, string: &[u8])
-    requires { ⌜ length (now string) ≤ 9 ⌝ }
+    requires { ⌜ (directoryCheck (now file) .number ≡ 0) × (length (now string) ≤ 9) ⌝ }
 {
-    rule(14);
-    if directory::directory(file).number != 0 {
-        return;
-    }
     let base = reader::section(file, 0);
     let degree = layout::degree_of(base.len());
     let inputs = reader::section(file, INPUTS);
@@ -343,26 +346,32 @@ fn row(file: &[u8], shown: BadRow, string: &[u8])
     outside(degree, reader::section(file, ALPHABET), shown.digit);
 }
 
+// What is shown of a table that rule 14 refuses; its directory is as it should be.
+fn bad(file: &[u8], shown: BadRow, string: &[u8; 9]) {
+    rule(14);
+    if directory::directory(file).number != 0 {
+        return;
+    }
+    row(file, shown, string);
+}
+
+fn why(file: &[u8]) {
+    shown_parts::verdict(file);
+    let mut string = [0u8; 9];
+    match bad_row::bad_row(file, &mut string) {
+        Shown::Row(shown) => bad(file, shown, &string),
+        Shown::Nothing => rule(0),
+        Shown::Refused(fault) => match fault {
+            Fault::Author { number, place } => refused(file, number, place),
+            Fault::Rows { number, place } => refused(file, number, place),
+            Fault::Editor { number, place } => refused(file, number, place),
+        },
+    }
+}
+
 fn main() {
     // one byte more than a file may have: a longer input is refused by its size
     let mut file = io::large_buffer();
     let n = io::read_full(libc::STDIN_FILENO, &mut file);
-    shown_parts::verdict(&file[..n]);
-    let found = reader::rules(&file[..n]);
-    refused(&file[..n], found.number, found.place);
-    row(
-        &file[..n],
-        BadRow {
-            upper: 2,
-            lower: 3,
-            digit: Element {
-                a: 3,
-                b: 0,
-                c: 0,
-                d: 0,
-            },
-            bytes: 2,
-        },
-        &[2, 3, 0, 0, 0, 0, 0, 0, 0],
-    );
+    why(&file[..n]);
 }

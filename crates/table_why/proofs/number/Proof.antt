@@ -1,10 +1,16 @@
+-- A number of 16 bits and three zeros.
+use Rattle.ring.proofs.Parts.{within-four}
+use Rattle.ring.specs.Tests.{Within}
+use mathlib.Core.Path.{subst}
+use mir.ValLaws.{toZ-ofZ}
+use mir.Syntax.{w64}
+use lib.IntN.{pos}
+use mathlib.Core.List.{[], _∷_}
+use mathlib.Core.Path.{sym, ap}
+use Prim.Native.Nat.{zero-le}
 use borrow.Author.Needs.{needs}
 use Rattle.table_why.proofs.number.Statement.{statement}
 use Rattle.table_why.proofs.number.Tie as tie
-use Rattle.table_why.proofs.number.Reads as reads
-use Rattle.table_why.proofs.number.Lts as lts
-use Rattle.layout.proofs.signed.Reads as signed-reads
-use Rattle.table_why.proofs.element.Reads as element-reads
 
 -- src/main.rt:102:9
 returns : tie.Need-returns
@@ -28,7 +34,9 @@ signed-requires c κs = search needs
 
 -- src/main.rt:107:5
 element-requires : tie.Need-element-requires
-element-requires c κs = ?
+element-requires c κs =
+    let read = ap (λ z. z ∷ pos 0 ∷ pos 0 ∷ pos 0 ∷ []) (toZ-ofZ w64 (c .signed .result) (search needs)) in
+    (search needs, subst (Within 32768) (sym read) (within-four 32768 (c .signed .result) (pos 0) (pos 0) (pos 0) (c .signed .ensures .1) zero-le zero-le zero-le))
 
 -- src/main.rt:100:1
 returns-3 : tie.Need-returns-3

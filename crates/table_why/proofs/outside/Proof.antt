@@ -1,12 +1,16 @@
+-- Parts of 32 bits.
+use Rattle.ring.proofs.Element.{within-le}
+use Rattle.ring.proofs.Parts.{within-four}
+use Rattle.ring.specs.Tests.{Within}
+use Rattle.lists.proofs.Cons.{cons≡}
+use mir.ValLaws.{toZ-ofZ}
+use mir.Syntax.{w64}
+use mathlib.Core.Path.{refl, sym, subst}
+use lib.Dec.{lit≤}
+use Prim.Native.Nat.{_^_}
 use borrow.Author.Needs.{needs}
 use Rattle.table_why.proofs.outside.Statement.{statement}
 use Rattle.table_why.proofs.outside.Tie as tie
-use Rattle.table_why.proofs.outside.Reads as reads
-use Rattle.table_why.proofs.outside.Lts as lts
-use Rattle.shown_parts.proofs.digits.Reads as digits-reads
-use Rattle.shown_parts.proofs.written.Reads as written-reads
-use Rattle.table_why.proofs.wide.Reads as wide-reads
-use Rattle.why_lines.proofs.digit_lines.Reads as digit-lines-reads
 
 -- src/main.rt:300:18
 wide-requires : tie.Need-wide-requires
@@ -30,7 +34,10 @@ slice-aggregate-digit-lines c = search needs
 
 -- src/main.rt:301:9
 digit-lines-requires : tie.Need-digit-lines-requires
-digit-lines-requires c κs = ?
+digit-lines-requires c κs =
+    let read = cons≡ (toZ-ofZ w64 (c .before .before .before .before .before .before .before .wide .result) (search needs)) (cons≡ (toZ-ofZ w64 (c .before .before .before .before .before .wide2 .result) (search needs)) (cons≡ (toZ-ofZ w64 (c .before .before .before .wide3 .result) (search needs)) (cons≡ (toZ-ofZ w64 (c .before .wide4 .result) (search needs)) refl))) in
+    let parts = within-four (2 ^ 31) _ _ _ _ (c .before .before .before .before .before .before .before .wide .ensures) (c .before .before .before .before .before .wide2 .ensures) (c .before .before .before .wide3 .ensures) (c .before .wide4 .ensures) in
+    (search needs, subst (Within (2 ^ 32)) (sym read) (within-le (2 ^ 31) (2 ^ 32) _ (lit≤ tt) parts))
 
 -- src/main.rt:302:26
 slice-aggregate-written : tie.Need-slice-aggregate-written

@@ -1,14 +1,14 @@
+-- A part of a string of nine at the most.
+use lib.Seq.{length-take-le}
+use native.Mathlib.Omega.{arith}
+use mathlib.Core.Path.{sym}
 use borrow.Author.Needs.{needs}
 use Rattle.table_why.proofs.string_shown.Statement.{statement}
 use Rattle.table_why.proofs.string_shown.Tie as tie
-use Rattle.table_why.proofs.string_shown.Reads as reads
-use Rattle.table_why.proofs.string_shown.Lts as lts
-use Rattle.shown_parts.proofs.written.Reads as written-reads
-use Rattle.why_lines.proofs.row_line.Reads as row-line-reads
 
 -- src/main.rt:309:55
 slice-aggregate-row-line : tie.Need-slice-aggregate-row-line
-slice-aggregate-row-line c = ?
+slice-aggregate-row-line c = sym (length-take-le (c .before .before .before .before .args .bytes) _ (c .before .if1 .taken))
 
 -- src/main.rt:309:73
 slice-aggregate-row-line-2 : tie.Need-slice-aggregate-row-line-2
@@ -16,7 +16,7 @@ slice-aggregate-row-line-2 c = search needs
 
 -- src/main.rt:309:13
 row-line-requires : tie.Need-row-line-requires
-row-line-requires c κs = ?
+row-line-requires c κs = (omega (arith, length-take-le (c .before .before .before .before .before .args .bytes) (c .before .before .before .before .before .args .string .now) (c .before .before .if1 .taken), c .before .before .if1 .taken, c .before .before .before .before .before .pre), search needs)
 
 -- src/main.rt:310:30
 slice-aggregate-written : tie.Need-slice-aggregate-written
