@@ -38,14 +38,14 @@ fn file_rule(number: usize, out: &mut [u8]) -> usize
         return octets::put(
             out,
             0,
-            b"rule 3: section 0 has 4d bytes, where the degree d is 2, 3 or 4; sections 1, 2 and 3 have 2 to 16 records of 2d bytes, 1 to 136 of 2d and 1 to 4000 of 4 + 2d; section 4 has 1 to 32000 bytes\n",
+            b"rule 3: the lengths of sections 0 to 4 are 4d, 2 to 16 times 2d, 1 to 136 times 2d, 1 to 4000 times 4 + 2d, 1 to 32000; d is 2, 3 or 4\n",
         );
     }
     if number == 4 {
         return octets::put(
             out,
             0,
-            b"rule 4: the numbers of the base are -64 to 64 (at degree four -32 to 32), those of the alphabet -64 to 64, of the input digits -128 to 128, of the weights -1024 to 1024\n",
+            b"rule 4: numbers are -64 to 64, those of a base of degree four -32 to 32, of input digits -128 to 128, of weights -1024 to 1024\n",
         );
     }
     0
@@ -83,7 +83,7 @@ fn digit_rule(number: usize, out: &mut [u8]) -> usize
         return octets::put(
             out,
             0,
-            b"rule 8: record 0 of the input digits is 0, no record is the same as an earlier one, and all sums of two alphabet digits are there\n",
+            b"rule 8: record 0 of the input digits is 0, none is the same as an earlier one, and all sums of two alphabet digits are there\n",
         );
     }
     0
@@ -100,7 +100,7 @@ fn leaf_rule(number: usize, out: &mut [u8]) -> usize
         return octets::put(
             out,
             0,
-            b"rule 9: a word has 1 to 8 bytes, the first starts at 0 in section 4, each other where the one before it ends, and the last ends the section\n",
+            b"rule 9: a word has 1 to 8 bytes; the first starts at 0 in section 4, each other where one ends, and the last ends the section\n",
         );
     }
     if number == 10 {
@@ -114,7 +114,7 @@ fn leaf_rule(number: usize, out: &mut [u8]) -> usize
         return octets::put(
             out,
             0,
-            b"rule 11: each word comes after the one before it, by the numbers of their first different digits, and no word begins another\n",
+            b"rule 11: each word comes after the one before it, by number where they first differ, and neither begins the other\n",
         );
     }
     if number == 12 {
@@ -135,7 +135,7 @@ fn leaf_rule(number: usize, out: &mut [u8]) -> usize
         return octets::put(
             out,
             0,
-            b"rule 14: where leaf U is used at a place and leaf L at the place below it, U's first digit + L's weight - base * U's weight is in the alphabet\n",
+            b"rule 14: where leaf U is used at a place and leaf L at the place below it, the digit that comes out is in the alphabet\n",
         );
     }
     0
@@ -278,7 +278,7 @@ pub fn row_line(degree: Degree, inputs: &[u8], string: &[u8], out: &mut [u8]) ->
     octets::put(
         out,
         end,
-        b"\n  U's word begins the row, L's word begins it one place below\n",
+        b"\n  U's word starts at its top place, L's word one place below\n",
     )
 }
 

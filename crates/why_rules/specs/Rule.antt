@@ -16,9 +16,9 @@ fileRule n =
         | false ↦ elim (eqb n 2) [
           | true ↦ bytesOf "rule 2: section 0 starts at byte 20, each other where the one before it ends, and section 4 ends the file\n"
           | false ↦ elim (eqb n 3) [
-            | true ↦ bytesOf "rule 3: section 0 has 4d bytes, where the degree d is 2, 3 or 4; sections 1, 2 and 3 have 2 to 16 records of 2d bytes, 1 to 136 of 2d and 1 to 4000 of 4 + 2d; section 4 has 1 to 32000 bytes\n"
+            | true ↦ bytesOf "rule 3: the lengths of sections 0 to 4 are 4d, 2 to 16 times 2d, 1 to 136 times 2d, 1 to 4000 times 4 + 2d, 1 to 32000; d is 2, 3 or 4\n"
             | false ↦ elim (eqb n 4) [
-              | true ↦ bytesOf "rule 4: the numbers of the base are -64 to 64 (at degree four -32 to 32), those of the alphabet -64 to 64, of the input digits -128 to 128, of the weights -1024 to 1024\n"
+              | true ↦ bytesOf "rule 4: numbers are -64 to 64, those of a base of degree four -32 to 32, of input digits -128 to 128, of weights -1024 to 1024\n"
               | false ↦ []
             ]
           ]
@@ -36,7 +36,7 @@ digitRule n =
         | false ↦ elim (eqb n 7) [
           | true ↦ bytesOf "rule 7: record 0 of the alphabet is 0, and no record is the same as an earlier one\n"
           | false ↦ elim (eqb n 8) [
-            | true ↦ bytesOf "rule 8: record 0 of the input digits is 0, no record is the same as an earlier one, and all sums of two alphabet digits are there\n"
+            | true ↦ bytesOf "rule 8: record 0 of the input digits is 0, none is the same as an earlier one, and all sums of two alphabet digits are there\n"
             | false ↦ []
           ]
         ]
@@ -47,17 +47,17 @@ digitRule n =
 unfoldable pub leafRule : ℕ → List ℕ
 leafRule n =
     elim (eqb n 9) [
-      | true ↦ bytesOf "rule 9: a word has 1 to 8 bytes, the first starts at 0 in section 4, each other where the one before it ends, and the last ends the section\n"
+      | true ↦ bytesOf "rule 9: a word has 1 to 8 bytes; the first starts at 0 in section 4, each other where one ends, and the last ends the section\n"
       | false ↦ elim (eqb n 10) [
         | true ↦ bytesOf "rule 10: each byte of a word is the number of an input digit, counted from 0\n"
         | false ↦ elim (eqb n 11) [
-          | true ↦ bytesOf "rule 11: each word comes after the one before it, by the numbers of their first different digits, and no word begins another\n"
+          | true ↦ bytesOf "rule 11: each word comes after the one before it, by number where they first differ, and neither begins the other\n"
           | false ↦ elim (eqb n 12) [
             | true ↦ bytesOf "rule 12: every string of eight input digits begins with the word of a leaf; here some string doesn't\n"
             | false ↦ elim (eqb n 13) [
               | true ↦ bytesOf "rule 13: leaf 0 has the weight 0, so that zeros stay zeros\n"
               | false ↦ elim (eqb n 14) [
-                | true ↦ bytesOf "rule 14: where leaf U is used at a place and leaf L at the place below it, U's first digit + L's weight - base * U's weight is in the alphabet\n"
+                | true ↦ bytesOf "rule 14: where leaf U is used at a place and leaf L at the place below it, the digit that comes out is in the alphabet\n"
                 | false ↦ []
               ]
             ]

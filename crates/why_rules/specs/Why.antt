@@ -50,7 +50,7 @@ whyLeaf name leaf inputs word weight =
 -- the string that shows the two leaves of rule 14, and where each of them stands in it
 unfoldable pub rowLine : Section → List ℕ → List ℕ
 rowLine inputs string =
-    bytesOf "  row, from the top:" ++ (wordText 0 inputs string (length string) ++ bytesOf "\n  U's word begins the row, L's word begins it one place below\n")
+    bytesOf "  row, from the top:" ++ (wordText 0 inputs string (length string) ++ bytesOf "\n  U's word starts at its top place, L's word one place below\n")
 
 -- an element in brackets behind a word
 unfoldable pub bracketed : List ℕ → List ℤ → List ℕ

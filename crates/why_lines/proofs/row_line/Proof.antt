@@ -49,7 +49,7 @@ returns : tie.Need-returns
 unfolding bytesOf rowLine
 returns c =
     let e = c .before .before .before .before .before .before .before .before .before .before .before .before .before .before .before .before in
-    let last-line = bytesOf "\n  U's word begins the row, L's word begins it one place below\n" in
+    let last-line = bytesOf "\n  U's word starts at its top place, L's word one place below\n" in
     let total = length-append (word e) last-line in
     let pieces = next (c .before .before .before .before .before .before .before .before .before .before .before .before .before .before .before .before .before .args .out .now) _ _ (bytesOf "  row, from the top:") _ 0 _ _ (c .before .before .before .before .before .before .before .before .before .before .before .put .ensures) (next _ _ _ (word e) last-line _ _ _ (c .before .before .before .before .before .before .before .put-word .ensures) (last _ _ _ _ _ (c .before .before .put2 .ensures))) in
     let all = put-all pieces (omega (arith, word-room e, total, c .before .before .before .before .before .before .before .before .before .before .before .before .before .before .before .before .before .pre .1)) in
