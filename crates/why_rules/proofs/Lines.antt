@@ -8,9 +8,17 @@ use lib.ListN.{length, length-append}
 use borrow.Author.Tests.{lt-ltb, le-ltb, ne-eqb}
 use Rattle.text_rules.specs.Bytes.{bytesOf}
 use Rattle.text_rules.specs.Decimal.{decimalWithin, decimal}
-use Rattle.listing_rules.specs.Element.{elementText, partsText, partText, signText, factorText, powerText}
+use Rattle.lists.specs.Span.{span}
+use Rattle.ring.specs.declared.Degree.the-variants.{Two}
+use Rattle.ring.specs.Padded.{padded}
+use Rattle.layout_rules.specs.Number.{unsignedAt, toSigned}
+use Rattle.layout_rules.specs.Section.{Section, ofDegree}
+use Rattle.digit_rules.specs.Record.{partsAt, elementAt}
+use Rattle.listing_rules.specs.Listing.{inputText, digitText, columnText, wordText}
+use Rattle.listing_rules.specs.Element.{right, elementText, partsText, partText, signText, factorText, powerText}
 use Rattle.why_rules.specs.Rule.{fileRule, digitRule, leafRule, ruleLine}
-use Rattle.why_rules.specs.Why.{numbered, fileLine, extentLine, dueLine, byteLine, elementLine, bracketed, sumLine, productLine, digitLines}
+use Rattle.why_rules.specs.Why.{numbered, fileLine, extentLine, dueLine, byteLine, elementLine, weightText, whyLeaf, rowLine}
+use Rattle.why_rules.specs.Why.{bracketed, sumLine, productLine, digitLines}
 
 -- ---- as a reader sees them
 
@@ -53,6 +61,23 @@ product-line = refl
 pub digit-lines : digitLines (element (pos 6) (pos 1)) ≡ bytesOf "    = 6+w\n  6+w isn't in the alphabet:"
 unfolding bytesOf digitLines decimal decimalWithin elementText partsText partText signText factorText powerText
 digit-lines = refl
+
+-- a rule of the file, one of base and digits, one of leaves, and a table that breaks none
+pub rule-texts : (ruleLine 1 ≡ bytesOf "rule 1: a table file has 20 to 65535 bytes\n") × (ruleLine 5 ≡ bytesOf "rule 5: omega^2 = t + sw, and s^2 + 4t isn't the square of a whole number\n") × (ruleLine 13 ≡ bytesOf "rule 13: leaf 0 has the weight 0, so that zeros stay zeros\n") × (ruleLine 0 ≡ bytesOf "nothing to show: every row of input digits is converted into alphabet digits\n")
+unfolding bytesOf ruleLine fileRule digitRule leafRule
+rule-texts = (refl, refl, refl, refl)
+
+-- the input digits 0, 1 and -1 at degree two, and two of them
+abbrev digits : Section
+digits = ofDegree Two (0 ∷ 0 ∷ 0 ∷ 0 ∷ 1 ∷ 0 ∷ 0 ∷ 0 ∷ 255 ∷ 255 ∷ 0 ∷ 0 ∷ [])
+
+pub leaf-line : whyLeaf (bytesOf "  U is leaf ") 3 digits (1 ∷ 2 ∷ []) (element (pos 1) (pos 2)) ≡ bytesOf "  U is leaf 3: word 1 -1, weight 1+2w\n"
+unfolding bytesOf whyLeaf weightText wordText columnText right digitText inputText elementAt partsAt padded span toSigned unsignedAt decimal decimalWithin elementText partsText partText signText factorText powerText
+leaf-line = refl
+
+pub row-line : rowLine digits (2 ∷ 1 ∷ 0 ∷ []) ≡ bytesOf "  row, from the top: -1 1 0\n  U's word starts at its top place, L's word one place below\n"
+unfolding bytesOf rowLine wordText columnText right digitText inputText elementAt partsAt padded span toSigned unsignedAt decimal decimalWithin elementText partsText partText signText factorText powerText
+row-line = refl
 
 -- ---- the cases of a line
 

@@ -7,8 +7,8 @@ use Rattle.ring.proofs.Element.{within-le}
 use Rattle.lists.proofs.Pieces.{last, next, put-all, put-line, put-more}
 use lib.ListN.{length, length-append}
 use lib.Dec.{lit≤}
-use Prim.Native.Nat.{ℕ, _≤_, _^_}
-use mathlib.Core.List.{List, _++_}
+use Prim.Native.Nat.{_≤_, _^_}
+use mathlib.Core.List.{_++_}
 use mathlib.Core.Path.{refl}
 use native.Mathlib.Omega.{arith}
 use borrow.Author.Needs.{needs}

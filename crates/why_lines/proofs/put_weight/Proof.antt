@@ -7,7 +7,6 @@ use Rattle.ring.proofs.Element.{within-le}
 use Rattle.lists.proofs.Pieces.{last, next, put-all}
 use lib.ListN.{length-append}
 use Prim.Native.Nat.{_^_}
-use mathlib.Core.List.{_++_}
 use native.Mathlib.Omega.{arith}
 use borrow.Author.Needs.{needs}
 use Rattle.why_lines.proofs.put_weight.Statement.{statement}

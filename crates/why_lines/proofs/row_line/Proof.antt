@@ -7,7 +7,7 @@ use Rattle.layout_rules.specs.Section.{ofDegree}
 use Rattle.lists.proofs.Pieces.{last, next, put-all, put-line}
 use lib.ListN.{length, length-append}
 use Prim.Native.Nat.{ℕ, _≤_}
-use mathlib.Core.List.{List, _++_}
+use mathlib.Core.List.{List}
 use mathlib.Core.Path.{refl}
 use native.Mathlib.Omega.{arith}
 use borrow.Author.Needs.{needs}

@@ -4,10 +4,8 @@ use Rattle.why_rules.specs.Why.{bracketed, sumLine}
 use Rattle.listing_rules.proofs.Element.{element-short}
 use Rattle.text_rules.specs.Bytes.{bytesOf}
 use Rattle.ring.proofs.Element.{within-le}
-use Rattle.ring.specs.Tests.{Within}
 use Rattle.lists.proofs.Pieces.{last, next, put-all, put-line}
 use lib.ListN.{length, length-append}
-use lib.IntN.{ℤ}
 use Prim.Native.Nat.{ℕ, _+_, _≤_, _^_}
 use mathlib.Core.List.{List, _++_}
 use mathlib.Core.Path.{refl}
