@@ -4,6 +4,8 @@
 set -u
 here=${self%/*}
 name=${self##*/}
+# What the command runs, target/bin/table_$program: a command that has another sets it.
+program=$name
 
 say() {
     printf 'bin/%s: %s\n' "$name" "$1" >&2
@@ -38,7 +40,7 @@ esac
 
 # Builds the command's program where that is due. Standard input is the table's and standard output the answer's, so it gets neither.
 ready() {
-    "$here/build" "$name" </dev/null >/dev/null || exit 2
+    "$here/build" "$program" </dev/null >/dev/null || exit 2
 }
 
 shown() { # FILE
@@ -54,7 +56,7 @@ shown() { # FILE
 answer() { # FILE LABEL
     # The program takes an error of reading for the table's end. So another reads the file for it and says whether it could; one byte more
     # than a table may have is as much as the program takes.
-    said=$({ { head -c 65536 -- "$1" 2>/dev/null || echo unread >&3; } | "$here/../target/bin/table_$name"; } 3>&1)
+    said=$({ { head -c 65536 -- "$1" 2>/dev/null || echo unread >&3; } | "$here/../target/bin/table_$program"; } 3>&1)
     ended=$?
     case $ended:$said in
     0:accepted\ *) status=0 ;;

@@ -68,7 +68,7 @@ fn put_column(
 }
 
 // Writes the columns of a word from a place on; the next place.
-fn put_word(
+pub fn put_word(
     degree: Degree,
     inputs: &[u8],
     word: &[u8],

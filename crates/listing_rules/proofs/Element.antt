@@ -2,7 +2,7 @@
 use mathlib.Core.Path.{_≡_, refl, sym, ap, ap₂, _∙_}
 use mathlib.Core.Bool.{Bool, true, false, _&&_, and-false}
 use mathlib.Core.List.{List, [], _∷_, _++_, append-nil}
-use Prim.Native.Nat.{ℕ, zero, suc, _+_, _-_, _^_, _≤_, _<_, max}
+use Prim.Native.Nat.{ℕ, zero, suc, _+_, _-_, _*_, _^_, _≤_, _<_, max}
 use native.Mathlib.Decide.{decLt}
 use native.Mathlib.Nat.{not-suc-le-zero}
 use native.Mathlib.Numerals.{add-one}
@@ -213,32 +213,39 @@ pub choice-short : (b : Bool) (s t : List ℕ) (n : ℕ) → length s ≤ n → 
 choice-short true s t n h k = h
 choice-short false s t n h k = k
 
-factor-short : (n k : ℕ) → n ≤ 32768 → length (factorText n k) ≤ 5
+factor-short : (m n k : ℕ) → n < 10 ^ suc m → length (factorText n k) ≤ suc m
 unfolding factorText
-factor-short n k h = choice-short (eqb n 1 && ltb 0 k) [] (decimal n) 5 (omega arith) (decimal-short 4 n (omega arith))
+factor-short m n k h = choice-short (eqb n 1 && ltb 0 k) [] (decimal n) (suc m) (omega arith) (decimal-short m n h)
 
 sign-short : (before : ℕ) (a : ℤ) → length (signText before a) ≤ 1
 unfolding signText bytesOf
 sign-short before a =
     choice-short (ltZ a (pos 0)) (bytesOf "-") (elim (eqb before 0) [ true ↦ [] | false ↦ bytesOf "+" ]) 1 (omega arith) (choice-short (eqb before 0) [] (bytesOf "+") 1 (omega arith) (omega arith))
 
-part-short : (before : ℕ) (a : ℤ) (k : ℕ) → natAbs a ≤ 32768 → length (partText before a k) ≤ 6 + length (powerText k)
-unfolding partText
-part-short before a k h =
-    let sign = signText before a in
-    let factor = factorText (natAbs a) k in
-    choice-short (eqb (natAbs a) 0) [] (sign ++ (factor ++ powerText k)) (6 + length (powerText k)) (omega arith) (omega (arith, length-append sign (factor ++ powerText k), length-append factor (powerText k), sign-short before a, factor-short (natAbs a) k h))
+-- a part of so many digits and one
+module _ (m : ℕ) where
+  part-short : (before : ℕ) (a : ℤ) (k : ℕ) → natAbs a < 10 ^ suc m → length (partText before a k) ≤ suc (suc m) + length (powerText k)
+  unfolding partText
+  part-short before a k h =
+      let sign = signText before a in
+      let factor = factorText (natAbs a) k in
+      choice-short (eqb (natAbs a) 0) [] (sign ++ (factor ++ powerText k)) (suc (suc m) + length (powerText k)) (omega arith) (omega (arith, length-append sign (factor ++ powerText k), length-append factor (powerText k), sign-short before a, factor-short m (natAbs a) k h))
 
-parts-short : (x : List ℤ) (k : ℕ) → Within 32768 x → length (partsText x (suc k)) ≤ length (partsText x k) + (6 + length (powerText k))
-unfolding partsText Within
-parts-short x k h =
-    omega (arith, length-append (partsText x k) (partText (length (partsText x k)) (part x k) k), part-short (length (partsText x k)) (part x k) k (h k))
+  module _ (x : List ℤ) (n : ℕ) (given : Within n x) (small : n < 10 ^ suc m) where
+    parts-short : (k : ℕ) → length (partsText x (suc k)) ≤ length (partsText x k) + (suc (suc m) + length (powerText k))
+    unfolding partsText Within
+    parts-short k =
+        omega (arith, length-append (partsText x k) (partText (length (partsText x k)) (part x k) k), part-short (length (partsText x k)) (part x k) k (omega (arith, given k, small)))
+
+    -- each part has a sign, and ω, ω² and ω³ take 1, 3 and 3 bytes
+    pub element-limit : length (elementText x) ≤ 4 * suc (suc m) + 7
+    unfolding elementText partsText powerText bytesOf decimal decimalWithin
+    element-limit =
+        choice-short (eqb (length (partsText x width)) 0) (bytesOf "0") (partsText x width) (4 * suc (suc m) + 7) (omega arith) (omega (arith, parts-short 0, parts-short 1, parts-short 2, parts-short 3))
 
 -- four parts of at most 6, 7, 9 and 9 bytes
 pub element-short : (x : List ℤ) → Within 32768 x → length (elementText x) ≤ 31
-unfolding elementText partsText powerText bytesOf decimal decimalWithin
-element-short x h =
-    choice-short (eqb (length (partsText x width)) 0) (bytesOf "0") (partsText x width) 31 (omega arith) (omega (arith, parts-short x 0 h, parts-short x 1 h, parts-short x 2 h, parts-short x 3 h))
+element-short x h = element-limit 4 x 32768 h (omega arith)
 
 -- ---- text at the right of a column
 

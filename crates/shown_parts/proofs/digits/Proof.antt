@@ -1,8 +1,8 @@
 -- Each record is one of the section's.
 use Prim.Native.Nat.{_-_, _≤_}
 use borrow.Author.Needs.{needs}
-use Rattle.table_show.proofs.digits.Statement.{statement}
-use Rattle.table_show.proofs.digits.Tie as tie
+use Rattle.shown_parts.proofs.digits.Statement.{statement}
+use Rattle.shown_parts.proofs.digits.Tie as tie
 
 abbrev Inv-loop : tie.InvT-loop
 Inv-loop degree name part count k₀ t8 k = k ≤ count

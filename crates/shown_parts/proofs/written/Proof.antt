@@ -2,8 +2,8 @@
 use lib.Seq.{length-take-le}
 use mathlib.Core.Path.{sym}
 use borrow.Author.Needs.{needs}
-use Rattle.table_show.proofs.written.Statement.{statement}
-use Rattle.table_show.proofs.written.Tie as tie
+use Rattle.shown_parts.proofs.written.Statement.{statement}
+use Rattle.shown_parts.proofs.written.Tie as tie
 
 slice-aggregate-write : tie.Need-slice-aggregate-write
 slice-aggregate-write c = sym (length-take-le (c .before .before .before .args .end) _ (c .before .if1 .taken))
