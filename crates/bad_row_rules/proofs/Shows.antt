@@ -3,14 +3,15 @@ use mathlib.Core.Path.{_≡_, sym, ap, subst, _∙_}
 use mathlib.Core.List.{List}
 use Prim.Native.Nat.{ℕ, _<_, _≤_}
 use borrow.Author.Tests.{lt-ltb, le-ltb}
-use Rattle.faults.specs.Outcome.{Group, Outcome, facts, refused, author, atExit}
+use Rattle.faults.specs.Outcome.{Group, facts, refused, author}
+use Rattle.faults.proofs.Exit.{exit-lent, exit-written}
 use Rattle.faults.proofs.Unless.{unless-none}
 use Rattle.leaf_rules.specs.Leaf.{leafCount}
 use Rattle.reader_rules.specs.Table.{basePart, alphabetPart, inputPart, leafPart, wordPart}
 use Rattle.reader_rules.specs.Check.{tableCheck}
 use Rattle.table_rules.specs.declared.Pair.{Pair}
 use Rattle.table_rules.proofs.Failing.{FirstFailing, failing-first}
-use Rattle.bad_row_rules.specs.Shows.{Shows, row, nothing}
+use Rattle.bad_row_rules.specs.Shows.{row, nothing}
 use Rattle.bad_row_rules.specs.BadRow.{pairIn, stringOf, rowFacts, shows, badRowOutcome, written, badRowIn}
 
 module _ (table : List ℕ) where
@@ -40,9 +41,9 @@ module _ (table : List ℕ) where
 
   -- the lent buffer: with a fault it keeps its contents
   pub lent-kept : (lent : List ℕ) (g : Group) (n p : ℕ) → badRowOutcome table ≡ refused g n p → lent ≡ badRowIn table lent
-  unfolding badRowIn atExit
-  lent-kept lent g n p e = ap (λ (o : Outcome Shows). atExit o lent (written (shows table) (stringOf table (pairIn table)) lent)) (sym e)
+  unfolding badRowIn
+  lent-kept lent g n p e = exit-lent (badRowOutcome table) g n p lent _ (sym e)
 
   pub lent-written : (lent : List ℕ) → badRowOutcome table ≡ facts (shows table) → written (shows table) (stringOf table (pairIn table)) lent ≡ badRowIn table lent
-  unfolding badRowIn atExit
-  lent-written lent e = ap (λ (o : Outcome Shows). atExit o lent (written (shows table) (stringOf table (pairIn table)) lent)) (sym e)
+  unfolding badRowIn
+  lent-written lent e = exit-written (badRowOutcome table) (shows table) lent _ (sym e)
