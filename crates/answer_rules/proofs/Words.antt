@@ -3,7 +3,6 @@ use mathlib.Core.Path.{_≡_, refl, ap}
 use mathlib.Core.Bool.{Bool, true, false}
 use mathlib.Core.List.{List, [], _∷_}
 use Prim.Native.Nat.{ℕ, zero, suc, _^_, _<_, _≤_}
-use native.Mathlib.Decide.{decLt}
 use native.Mathlib.Omega.{arith}
 use lib.IntN.{pos}
 use Rattle.lists.proofs.Cons.{cons≡}
@@ -18,6 +17,7 @@ use Rattle.table_rules.specs.declared.Facts.{Facts}
 use Rattle.table_rules.specs.Check.{checkFacts, checkOutcome}
 use Rattle.table_rules.proofs.Demand.{demand-1}
 use Rattle.adder_rules.specs.declared.AddedFacts.{AddedFacts}
+use Rattle.ring.specs.declared.Degree.{Degree}
 use Rattle.ring.specs.declared.Operation.{Operation}
 use Rattle.adder_rules.specs.Add.{resultOutcome}
 use Rattle.adder_rules.proofs.Demand.{demand-1 as add-demand-1}
@@ -27,13 +27,9 @@ use Rattle.forecast_rules.specs.declared.ForecastFacts.{ForecastFacts}
 use Rattle.forecast_rules.specs.Forecast.{forecastOutcome}
 use Rattle.forecast_rules.proofs.Facts.{most-pairs, most-bytes}
 use Rattle.forecast_rules.proofs.Other.{check-agrees}
-use Rattle.leaf_rules.specs.Leaf.{leafCount}
-use Rattle.numeration.proofs.Pairs.{length-pairString}
-use Rattle.reader_rules.specs.Table.{leafPart, leavesIn}
-use Rattle.ring.specs.declared.Degree.{Degree}
 use Rattle.bad_row_rules.specs.Shows.{RowFacts, row, nothing}
-use Rattle.bad_row_rules.specs.BadRow.{pairIn, rowFacts, shows, badRowOutcome}
-use Rattle.bad_row_rules.proofs.Shows.{shows-nothing, fails-first, shows-pair}
+use Rattle.bad_row_rules.specs.BadRow.{badRowOutcome}
+use Rattle.bad_row_rules.proofs.Row.{told-passes, bytes-few, row-of}
 use Rattle.edit_rules.specs.declared.EditedFacts.{EditedFacts}
 use Rattle.edit_rules.specs.Count.{tally, failing}
 use Rattle.edit_rules.specs.Edit.{count, editOutcome}
@@ -51,38 +47,14 @@ pub forecast-words : (table : List ℕ) (n : ℕ) (f : ForecastFacts) → foreca
 forecast-words table n f is =
     cons≡ (word-small _ (omega (arith, most-pairs table n f is))) (cons≡ (word-small _ (omega (arith, most-bytes table n f is))) refl)
 
--- of a row that is shown
-module _ (table : List ℕ) (f : RowFacts) (is : badRowOutcome table ≡ facts (row f)) where
-  passes : tableCheck table .number ≡ 0
-  unfolding badRowOutcome
-  passes = unless-given author (tableCheck table) (facts (shows table)) (row f) is .0
-
-  shows-it : shows table ≡ row f
-  unfolding badRowOutcome
-  shows-it = let e = unless-given author (tableCheck table) (facts (shows table)) (row f) is .1 in cc
-
-  fails : pairIn table .upper < leafCount (leafPart table)
-  fails =
-      elim (decLt (pairIn table .upper) (leafCount (leafPart table))) [
-        | yes h ↦ h
-        | no h ↦ let none = shows-nothing table (omega arith) in let it = shows-it in let z : _≡_ {A = ℕ} 0 1 = cc in omega arith
-      ]
-
-  facts-are : f ≡ rowFacts table (pairIn table)
-  facts-are = let e = shows-pair table (pairIn table) refl fails in let it = shows-it in cc
-
-  -- its words: the count of bytes, U and L are numbers below 2^63
-  pub bad-row-words : (d : Degree) → badRowWords d (row f) ≡ pos (f .bytes) ∷ pos (f .upper) ∷ pos (f .lower) ∷ elementWords d (f .digit)
-  bad-row-words d =
-      let r = ready-passed table passes in
-      let p = pairIn table in
-      let pair = fails-first table p refl fails in
-      let long = length-pairString (leavesIn table) (p .upper) (p .lower) in
-      let upper = r .none-deeper (p .upper) (pair .upper-there) in
-      let lower = r .none-deeper (p .lower) (pair .lower-there) in
-      cons≡ (word-small _ (omega (arith, ap (λ (g : RowFacts). g .bytes) facts-are, long, upper, lower, r .depth-high)))
-      (cons≡ (word-small _ (omega (arith, ap (λ (g : RowFacts). g .upper) facts-are, pair .upper-there, r .leaf-count .1)))
-      (cons≡ (word-small _ (omega (arith, ap (λ (g : RowFacts). g .lower) facts-are, pair .lower-there, r .leaf-count .1))) refl))
+-- how many bytes the string has, U and L, where a row is shown
+pub bad-row-words : (d : Degree) (table : List ℕ) (f : RowFacts) → badRowOutcome table ≡ facts (row f)
+    → badRowWords d (row f) ≡ pos (f .bytes) ∷ pos (f .upper) ∷ pos (f .lower) ∷ elementWords d (f .digit)
+bad-row-words d table f is =
+    let there = row-of table f is [] .fails .0 in
+    let few = ready-passed table (told-passes table (row f) is) .leaf-count .1 in
+    cons≡ (word-small _ (omega (arith, bytes-few table f is .1)))
+    (cons≡ (word-small _ (omega (arith, there .0, few))) (cons≡ (word-small _ (omega (arith, there .1, few))) refl))
 
 -- where there is nothing to show, the count 0 alone
 pub nothing-words : (d : Degree) → badRowWords d nothing ≡ pos 0 ∷ []
