@@ -1,5 +1,5 @@
 // The program `exercises`: M1 to M12 of document 01 and further cases through the public calls, a line for each. A digit is written
-// as the byte that it is in a row: its alphabet index, two hexadecimal digits.
+// as the byte that it is in a row: its alphabet index, two hexadecimal digits; in the string of a bad row it is the input index.
 use exercise_calls::additions;
 use exercise_calls::arithmetic;
 use exercise_calls::bad_rows;
