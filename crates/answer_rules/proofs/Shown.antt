@@ -15,7 +15,8 @@ use Rattle.lists.proofs.Overwrite.{length-overwrite}
 use Rattle.faults.specs.Outcome.{Outcome, facts, refused, atExit}
 use Rattle.ring.specs.declared.Degree.{Degree}
 use Rattle.bad_row_rules.specs.Shows.{Shows, row, nothing}
-use Rattle.bad_row_rules.specs.BadRow.{badRowOutcome, badRowIn, shows, stringOf, pairIn, written}
+use Rattle.table_rules.specs.Check.{badPairOf}
+use Rattle.bad_row_rules.specs.BadRow.{badRowOutcome, badRowIn, shows, stringOf, written}
 use Rattle.answer_rules.specs.Answer.{outcomeWords, outcomeStatus, ifRoom, returned, answered, badRowWords}
 use Rattle.answer_rules.proofs.Answer.{no-room, some-room, short, told}
 
@@ -107,7 +108,7 @@ module _ (d : Degree) (table string : List ℕ) (answer : List ℤ) where
       let is-front : lent ≡ take 9 string = copied ∙ whole zeros (take 9 string) (omega (arith, zeros-nine, length-take-le 9 string room)) in
       let is-nine : nine ≡ badRowIn table (take 9 string) = call .1 ∙ ap (badRowIn table) is-front in
       let long = sym (ap length is-nine) ∙ nine-nine in
-      let moved = left o (shows table) (stringOf table (pairIn table)) string 9 room long in
+      let moved = left o (shows table) (stringOf table (badPairOf table)) string 9 room long in
       let is-now : now ≡ badRowIn table string = put ∙ ap (overwrite string 0) is-nine ∙ moved in
       let shown = is-now ∙ some-room 8 words (badRowIn table string) string roomy in
       let done = some-room 9 bytes (ifRoom 8 words (badRowIn table string) string) string room in
