@@ -21,7 +21,8 @@ use midpoint::Element;
 use reader_rules::Reading;
 use table_rules::Pair;
 
-// The digit that two leaves of a table that passes 1 to 13 give: the upper word's first digit, plus the lower weight, minus the base times the upper one.
+// The digit that two leaves of a table that passes 1 to 13 give: the upper word's first digit, plus the lower weight, minus the base times the
+// upper one. Conversion's function for it has one caller, into whose loop it is made; with this one it would be called there.
 fn digit_of(table: &[u8], pair: Pair) -> Element
     requires table { ⌜ tableCheck (now table) .number ≡ 0 ⌝ }
     requires leaves { ⌜ (pair .upper < leafCount (leafPart (now table))) × (pair .lower < leafCount (leafPart (now table))) ⌝ }
@@ -32,13 +33,13 @@ fn digit_of(table: &[u8], pair: Pair) -> Element
     let leaves = reader::section(table, 3);
     let word = leaves::word(degree, leaves, reader::section(table, 4), pair.upper);
     let first = octets::wide(octets::byte_at(word, 0));
-    midpoint::shown(converted_digit::out_digit(
-        degree,
-        digits::base_of(degree, reader::section(table, 0)),
+    let sum = elements::sum(
         digits::record_at(degree, reader::section(table, 2), first),
         leaves::weight(degree, leaves, pair.lower),
-        leaves::weight(degree, leaves, pair.upper),
-    ))
+    );
+    let base = digits::base_of(degree, reader::section(table, 0));
+    let product = elements::times_base(degree, base, leaves::weight(degree, leaves, pair.upper));
+    midpoint::shown(elements::difference(sum, product))
 }
 
 // Writes the string of two words, top digit first: the upper word's first digit, then the longer of its tail and the lower word. The count of
