@@ -1,13 +1,10 @@
-// The tables TERN and BIN, carried as constant arrays and handed out as files: directory, base, alphabet and input digits, then
-// the leaves' records with their weights, then the words.
+// The tables TERN and BIN, carried as constant arrays and handed out as files. Directory and base are stored as they stand in the file; of
+// digits and leaves the non-negative half is: the digits from zero up, and the leaves whose words begin with one of these, each with its
+// length, its word, filled up with zeros to the longest, and its weight. The other half is formed by mirroring.
 ghost use mathlib.Core.Path.{_≡_};
-ghost use mathlib.Core.List.{_++_};
-ghost use Prim.Native.Nat.{_+_, _≤_};
-ghost use lib.ListN.{length};
-ghost use Rattle.lists.specs.Overwrite.{overwrite};
 ghost use Rattle.carried.specs.Tables.{ternFile, binFile};
 
-const TERN_HEAD: [u8; 84] = [
+const TERN_HEAD: [u8; 28] = [
     20,
     0,
     8,
@@ -36,142 +33,19 @@ const TERN_HEAD: [u8; 84] = [
     0,
     0,
     0,
-    0,
-    0,
-    0,
-    0,
-    1,
-    0,
-    0,
-    0,
-    2,
-    0,
-    0,
-    0,
-    255,
-    255,
-    0,
-    0,
-    254,
-    255,
-    0,
-    0,
-    0,
-    0,
-    0,
-    0,
-    1,
-    0,
-    0,
-    0,
-    2,
-    0,
-    0,
-    0,
-    3,
-    0,
-    0,
-    0,
-    4,
-    0,
-    0,
-    0,
-    255,
-    255,
-    0,
-    0,
-    254,
-    255,
-    0,
-    0,
-    253,
-    255,
-    0,
-    0,
-    252,
-    255,
-    0,
-    0,
 ];
 
-const TERN_WEIGHTS: [u8; 72] = [
-    0,
-    0,
-    1,
-    0,
-    0,
-    0,
-    0,
-    0,
-    1,
-    0,
-    1,
-    0,
-    0,
-    0,
-    0,
-    0,
-    2,
-    0,
-    1,
-    0,
-    1,
-    0,
-    0,
-    0,
-    3,
-    0,
-    1,
-    0,
-    1,
-    0,
-    0,
-    0,
-    4,
-    0,
-    1,
-    0,
-    1,
-    0,
-    0,
-    0,
-    5,
-    0,
-    1,
-    0,
-    0,
-    0,
-    0,
-    0,
-    6,
-    0,
-    1,
-    0,
-    255,
-    255,
-    0,
-    0,
-    7,
-    0,
-    1,
-    0,
-    255,
-    255,
-    0,
-    0,
-    8,
-    0,
-    1,
-    0,
-    255,
-    255,
-    0,
-    0,
-];
+const TERN_ALPHABET: [u8; 3] = [0, 1, 2];
 
-const TERN_WORDS: [u8; 9] = [0, 1, 2, 3, 4, 5, 6, 7, 8];
+const TERN_INPUTS: [u8; 5] = [0, 1, 2, 3, 4];
 
-const BIN_HEAD: [u8; 60] = [
+const TERN_LENGTHS: [u8; 5] = [1, 1, 1, 1, 1];
+
+const TERN_WORDS: [u8; 5] = [0, 1, 2, 3, 4];
+
+const TERN_WEIGHTS: [u8; 5] = [0, 0, 1, 1, 1];
+
+const BIN_HEAD: [u8; 28] = [
     20,
     0,
     8,
@@ -200,188 +74,32 @@ const BIN_HEAD: [u8; 60] = [
     0,
     0,
     0,
-    0,
-    0,
-    0,
-    0,
-    1,
-    0,
-    0,
-    0,
-    255,
-    255,
-    0,
-    0,
-    0,
-    0,
-    0,
-    0,
-    1,
-    0,
-    0,
-    0,
-    2,
-    0,
-    0,
-    0,
-    255,
-    255,
-    0,
-    0,
-    254,
-    255,
-    0,
-    0,
 ];
 
-const BIN_WEIGHTS: [u8; 104] = [
-    0,
-    0,
-    1,
-    0,
-    0,
-    0,
-    0,
-    0,
-    1,
-    0,
-    2,
-    0,
-    0,
-    0,
-    0,
-    0,
-    3,
-    0,
-    2,
-    0,
-    1,
-    0,
-    0,
-    0,
-    5,
-    0,
-    2,
-    0,
-    1,
-    0,
-    0,
-    0,
-    7,
-    0,
-    2,
-    0,
-    0,
-    0,
-    0,
-    0,
-    9,
-    0,
-    2,
-    0,
-    0,
-    0,
-    0,
-    0,
-    11,
-    0,
-    1,
-    0,
-    1,
-    0,
-    0,
-    0,
-    12,
-    0,
-    2,
-    0,
-    0,
-    0,
-    0,
-    0,
-    14,
-    0,
-    2,
-    0,
-    0,
-    0,
-    0,
-    0,
-    16,
-    0,
-    2,
-    0,
-    0,
-    0,
-    0,
-    0,
-    18,
-    0,
-    2,
-    0,
-    255,
-    255,
-    0,
-    0,
-    20,
-    0,
-    2,
-    0,
-    255,
-    255,
-    0,
-    0,
-    22,
-    0,
-    1,
-    0,
-    255,
-    255,
-    0,
-    0,
-];
+const BIN_ALPHABET: [u8; 2] = [0, 1];
 
-const BIN_WORDS: [u8; 23] = [
-    0,
-    1,
-    0,
-    1,
-    1,
-    1,
-    2,
-    1,
-    3,
-    1,
-    4,
-    2,
-    3,
-    0,
-    3,
-    1,
-    3,
-    2,
-    3,
-    3,
-    3,
-    4,
-    4,
-];
+const BIN_INPUTS: [u8; 3] = [0, 1, 2];
 
-// Writes the three parts of a file, one behind the other.
-fn put_parts(out: &mut [u8], head: &[u8], leaves: &[u8], words: &[u8])
-    requires { ⌜ length (now head) + length (now leaves) + length (now words) ≤ length (now out) ⌝ }
-    ensures { λ r. ⌜ now (out .exit) ≡ overwrite (now (out .entry)) 0 ((now (head .entry) ++ now (leaves .entry)) ++ now (words .entry)) ⌝ }
-{
-    let second = octets::put(out, 0, head);
-    let third = octets::put(out, second, leaves);
-    octets::put(out, third, words);
-}
+const BIN_LENGTHS: [u8; 7] = [1, 2, 2, 2, 2, 2, 1];
+
+const BIN_WORDS: [u8; 14] = [0, 0, 1, 0, 1, 1, 1, 2, 1, 3, 1, 4, 2, 0];
+
+const BIN_WEIGHTS: [u8; 7] = [0, 0, 1, 1, 0, 0, 1];
 
 pub fn tern() -> [u8; 165]
     ensures { λ r. ⌜ r ≡ ternFile ⌝ }
 {
     let mut file = [0u8; 165];
-    put_parts(&mut file, &TERN_HEAD, &TERN_WEIGHTS, &TERN_WORDS);
+    mirror::mirrored(
+        &mut file,
+        &TERN_HEAD,
+        &TERN_ALPHABET,
+        &TERN_INPUTS,
+        1,
+        &TERN_LENGTHS,
+        &TERN_WORDS,
+        &TERN_WEIGHTS,
+    );
     file
 }
 
@@ -389,6 +107,15 @@ pub fn bin() -> [u8; 187]
     ensures { λ r. ⌜ r ≡ binFile ⌝ }
 {
     let mut file = [0u8; 187];
-    put_parts(&mut file, &BIN_HEAD, &BIN_WEIGHTS, &BIN_WORDS);
+    mirror::mirrored(
+        &mut file,
+        &BIN_HEAD,
+        &BIN_ALPHABET,
+        &BIN_INPUTS,
+        2,
+        &BIN_LENGTHS,
+        &BIN_WORDS,
+        &BIN_WEIGHTS,
+    );
     file
 }

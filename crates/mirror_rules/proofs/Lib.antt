@@ -1,0 +1,4 @@
+pub mod Mirror
+pub mod Put
+pub mod Place
+pub mod Deeper

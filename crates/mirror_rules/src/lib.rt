@@ -1,0 +1,1 @@
+// No function: tables that are stored by half, in specs/ and proofs/.
