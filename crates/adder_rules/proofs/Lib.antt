@@ -9,3 +9,4 @@ pub mod Combined
 pub mod Reused
 pub mod Subtraction
 pub mod Reach
+pub mod Mirrored

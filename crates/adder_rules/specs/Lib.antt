@@ -5,3 +5,4 @@ pub mod Calls
 pub mod Broken
 pub mod Combined
 pub mod Reach
+pub mod Mirrored

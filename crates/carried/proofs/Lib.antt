@@ -1,3 +1,4 @@
 pub mod Accepted
 pub mod Listed
 pub mod Symmetric
+pub mod Mirrored

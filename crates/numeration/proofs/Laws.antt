@@ -10,13 +10,15 @@ use Rattle.ring.specs.Product.{product}
 use Rattle.ring.specs.Padded.{width, padded, paddedMatrix}
 use Rattle.ring.proofs.Padded.{padded-product}
 use Rattle.numeration.specs.Group.{Operations}
-use Rattle.numeration.specs.Laws.{AdditiveGroup, HasParts, convertRow, InGroup, PairsConvert, Elements}
+use Rattle.numeration.specs.Laws.{AdditiveGroup, Endomorphism, HasParts, convertRow, InGroup, PairsConvert, Elements}
 use Rattle.numeration.specs.Elements.{elements}
 use Rattle.numeration.proofs.Elements.{elements-group}
-use Rattle.numeration.specs.Code.{Code, Begins}
+use Rattle.numeration.specs.Code.{Code, Begins, Inputs}
 use Rattle.numeration.specs.LeafOf.{leafOf, depth}
 use Rattle.numeration.specs.Prefix.{Below, OrderedCode, PrefixCode}
-use Rattle.numeration.specs.Conversion.{weightInto, weightAt, convert}
+use Rattle.numeration.specs.Conversion.{leafInto, weightInto, weightAt, convert}
+use Rattle.numeration.specs.ReachOf.{reachOf}
+use Rattle.numeration.specs.Mirrored.{Mirrors, Mirrored}
 use Rattle.numeration.specs.Pairs.{Fits, pairDigit, RowsConvert}
 use Rattle.numeration.specs.Held.{Holds}
 use Rattle.numeration.specs.PairTests.{pairString}
@@ -28,6 +30,7 @@ use Rattle.numeration.proofs.Windows.{convert-ext, convert-set}
 use Rattle.numeration.proofs.Ends.{weight-below, weight-above, convert-above, convert-value}
 use Rattle.numeration.proofs.Sums.{value-topDown}
 use Rattle.numeration.proofs.Pairs.{convert-string, pairs-rows}
+use Rattle.numeration.proofs.Mirrored.{leaf-mirrored, convert-mirrored, reach-mirrored}
 use Rattle.numeration.proofs.Changes.{changeAll-right, rowChanges-local}
 
 -- 1. One leaf. With words of 1 to n input digits, each above the previous one at the first place where they differ and neither
@@ -81,3 +84,15 @@ pub elements-of-any-degree : (r β : List ℤ) → 1 ≤ length r → length r �
 unfolding elements
 elements-of-any-degree r β positive fits h =
     (elements-group (length r) (paddedMatrix r β), λ x k. padded-product r β x positive fits h k)
+
+-- 8. Mirrored tables. With each input digit once, and every leaf mirrored by a map f that keeps sums, differences and the base, as
+-- negation does: of a row that has f of another row's digit at every place, the leaf looked up at each place mirrors the other row's, each
+-- digit that comes out is f of the other's, and the reach is the same.
+pub mirrored-rows : {A : Type 0} (o : Operations A) (Element : A → Type 0) → AdditiveGroup o Element → (f : A → A) → Endomorphism o Element f → (input : ℕ → A) (c : Code A) (m : ℕ) → PrefixCode c m → InGroup o Element input c
+    → ((i j : ℕ) → i < m → j < m → input i ≡ input j → i ≡ j) → Mirrored f input c → (row other : List ℕ) → Inputs m row → Inputs m other → ((j : ℕ) → input (getD other j 0) ≡ f (input (getD row j 0)))
+    → ((j : ℕ) → Mirrors f input c (leafInto c row j) (leafInto c other j)) × ((j : ℕ) → convert o input c other j ≡ f (convert o input c row j)) × ((from count : ℕ) → reachOf c other from count ≡ reachOf c row from count)
+mirrored-rows o Element g f e input c m p i once is row other all also at = (
+  leaf-mirrored f input c m p once is row other all also at,
+  convert-mirrored f input c m p once is row other all also at o Element g i e,
+  reach-mirrored f input c m p once is row other all also at,
+)

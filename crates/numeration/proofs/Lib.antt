@@ -4,6 +4,7 @@ pub mod Windows
 pub mod Sums
 pub mod Ends
 pub mod Reach
+pub mod Mirrored
 pub mod Pairs
 pub mod Shown
 pub mod Runs

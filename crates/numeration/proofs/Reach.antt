@@ -78,16 +78,20 @@ module _ {A : Type 0} (c : Code A) where
   unfolding lengthAt
   length-ext r s j same = ap (c .size) (leafInto-ext c r s (suc j) (λ i low high. same i (omega arith) (omega arith)))
 
-  -- so the reach of rows that agree where the digits depend on them is the same
-  pub reach-ext : (r s : List ℕ) (p count : ℕ) → ((i : ℕ) → p ≤ i + depth c → i < p + count → getD r i 0 ≡ getD s i 0) → reachOf c r p count ≡ reachOf c s p count
+  -- rows whose words looked up at the named places have the same lengths have the same reach
+  pub reach-lengths : (r s : List ℕ) (p count : ℕ) → ((j : ℕ) → p ≤ suc j → j < p + count → lengthAt c r j ≡ lengthAt c s j) → reachOf c r p count ≡ reachOf c s p count
   unfolding reachOf
-  reach-ext r s p zero same = below p refl
+  reach-lengths r s p zero same = below p refl
     where
       below : (q : ℕ) → p ≡ q → reachOf c r p 0 ≡ reachOf c s p 0
       below zero e = nothing-reached r p 0 (omega arith) ∙ sym (nothing-reached s p 0 (omega arith))
-      below (suc j) e = sym (below-reach r p j e) ∙ length-ext r s j (λ i low high. same i (omega arith) (omega arith)) ∙ below-reach s p j e
-  reach-ext r s p (suc n) same =
-      (λ i. max (reach-ext r s p n (λ i low high. same i low (omega arith)) i) (length-ext r s (p + n) (λ i low high. same i (omega arith) (omega arith)) i))
+      below (suc j) e = sym (below-reach r p j e) ∙ same j (omega arith) (omega arith) ∙ below-reach s p j e
+  reach-lengths r s p (suc n) same =
+      (λ i. max (reach-lengths r s p n (λ j low high. same j low (omega arith)) i) (same (p + n) (omega arith) (omega arith) i))
+
+  -- so the reach of rows that agree where the digits depend on them is the same
+  pub reach-ext : (r s : List ℕ) (p count : ℕ) → ((i : ℕ) → p ≤ i + depth c → i < p + count → getD r i 0 ≡ getD s i 0) → reachOf c r p count ≡ reachOf c s p count
+  reach-ext r s p count same = reach-lengths r s p count (λ j low high. length-ext r s j (λ i l h. same i (omega arith) (omega arith)))
 
   module _ (m : ℕ) (p : PrefixCode c m) where
     -- a word that is looked up has 1 to h digits

@@ -9,7 +9,7 @@ use lib.ListN.{replicate, List·getD-eq-default}
 use Rattle.lists.specs.Span.{span}
 use Rattle.lists.proofs.Span.{length-span, getD-span, span-ext}
 use Rattle.numeration.specs.Group.{Operations}
-use Rattle.numeration.specs.Laws.{AdditiveGroup, Elements}
+use Rattle.numeration.specs.Laws.{AdditiveGroup, Endomorphism, Elements}
 use Rattle.numeration.specs.Conversion.{outDigit}
 use Rattle.numeration.specs.Value.{power, valueFrom, value, topDown}
 
@@ -175,3 +175,25 @@ module _ {A : Type 0} (o : Operations A) (Element : A → Type 0) (g : AdditiveG
   pub value-padded : (xs : List A) (n : ℕ) → value o (xs ++ replicate n (o .none)) ≡ value o xs
   unfolding value
   value-padded xs n = valueFrom-padded 0 xs n
+
+  -- a map that keeps sums and the base keeps the value
+  module _ (f : A → A) (e : Endomorphism o Element f) where
+    none-kept : f (o .none) ≡ o .none
+    none-kept =
+        let none : Element (o .none) = g .element-none in
+        sum-cancel (e .element none) none (e .element none) (sym (e .keeps-sum none none) ∙ ap f (g .unit none) ∙ sym (g .unit (e .element none)))
+
+    elements-mapped : (xs : List A) → Elements o Element xs → Elements o Element (map f xs)
+    elements-mapped [] h k = g .element-none
+    elements-mapped (x ∷ xs) h zero = e .element (h 0)
+    elements-mapped (x ∷ xs) h (suc k) = elements-mapped xs (λ i. h (suc i)) k
+
+    topDown-mapped : (xs : List A) → Elements o Element xs → topDown o (map f xs) ≡ f (topDown o xs)
+    unfolding topDown
+    topDown-mapped [] h = sym none-kept
+    topDown-mapped (x ∷ xs) h =
+        let t : Element (topDown o xs) = element-topDown xs (λ k. h (suc k)) in
+        ap (λ (y : A). o .sum (o .base y) (f x)) (topDown-mapped xs (λ k. h (suc k))) ∙ ap (λ (y : A). o .sum y (f x)) (sym (e .keeps-base t)) ∙ sym (e .keeps-sum (g .element-base t) (h 0))
+
+    pub value-mapped : (xs : List A) → Elements o Element xs → value o (map f xs) ≡ f (value o xs)
+    value-mapped xs h = value-topDown (map f xs) (elements-mapped xs h) ∙ topDown-mapped xs h ∙ ap f (sym (value-topDown xs h))

@@ -31,6 +31,13 @@ pub record AdditiveGroup {A : Type 0} (o : Operations A) (Element : A → Type 0
   pub cancel : {x y : A} → Element x → Element y → o .sum (o .difference x y) y ≡ x
   pub additive : {x y : A} → Element x → Element y → o .base (o .sum x y) ≡ o .sum (o .base x) (o .base y)
 
+-- a map of elements that keeps sum, difference and the base times an element, as negation does
+pub record Endomorphism {A : Type 0} (o : Operations A) (Element : A → Type 0) (f : A → A) : Type 0 where
+  pub element : {x : A} → Element x → Element (f x)
+  pub keeps-sum : {x y : A} → Element x → Element y → f (o .sum x y) ≡ o .sum (f x) (f y)
+  pub keeps-difference : {x y : A} → Element x → Element y → f (o .difference x y) ≡ o .difference (f x) (f y)
+  pub keeps-base : {x : A} → Element x → f (o .base x) ≡ o .base (f x)
+
 -- input digits and weights are elements; input index 0 and leaf 0's weight are zero
 pub record InGroup {A : Type 0} (o : Operations A) (Element : A → Type 0) (input : ℕ → A) (c : Code A) : Type 0 where
   pub element-input : (i : ℕ) → Element (input i)

@@ -15,3 +15,5 @@ pub mod Changes
 pub mod Renewal
 pub mod Elements
 pub mod Laws
+pub mod Mirrored
+pub mod MirrorTests

@@ -1,4 +1,5 @@
 pub mod Table
+pub mod Mirrored
 pub mod TableFacts
 pub mod Check
 pub mod Broken

@@ -140,6 +140,15 @@ negative-sum [] y = refl
 negative-sum (a ∷ x) [] = refl
 negative-sum (a ∷ x) (b ∷ y) = cons≡ (sym (negℤ-+ℤ a b)) (negative-sum x y)
 
+pub negative-difference : (x y : List ℤ) → minus (negative x) (negative y) ≡ negative (minus x y)
+unfolding minus
+negative-difference x y = negative-sum x (negative y)
+
+pub negative-zeros : (d : ℕ) → negative (zeros d) ≡ zeros d
+unfolding negative
+negative-zeros zero = refl
+negative-zeros (suc d) = cons≡ refl (negative-zeros d)
+
 negative-plus : (x : List ℤ) → plus (negative x) x ≡ zeros (length x)
 unfolding negative plus
 negative-plus [] = refl
@@ -151,7 +160,7 @@ unfolding minus
 minus-plus x y h =
     plus-assoc x (negative y) y ∙ ap (plus x) (negative-plus y) ∙ plus-comm x (zeros (length y)) ∙ zeros-plus x (length y) (omega arith)
 
-part-negative : (x : List ℤ) (k : ℕ) → part (negative x) k ≡ negℤ (part x k)
+pub part-negative : (x : List ℤ) (k : ℕ) → part (negative x) k ≡ negℤ (part x k)
 unfolding negative
 part-negative x k = List·getD-map negℤ x k (pos 0)
 

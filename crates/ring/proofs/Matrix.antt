@@ -1,17 +1,17 @@
--- Matrices: matrix times element is additive, and the matrix that belongs to β times x is the product β · x, for every degree.
+-- Matrices: matrix times element is additive and keeps negatives, and the matrix that belongs to β times x is the product β · x, for every degree.
 use mathlib.Core.Path.{_≡_, refl, sym, ap, _∙_}
 use mathlib.Core.List.{List, [], _∷_, map}
 use Prim.Native.Nat.{ℕ, zero, suc, _+_, _*_, _<_, _≤_, zero-le}
 use native.Mathlib.Omega.{arith}
 use native.Mathlib.Nat.{suc-mul, le-trans, mul-le-mul-right}
 use lib.ListN.{length, getD, take, drop, length-map}
-use lib.IntN.{ℤ, pos, natAbs, _+ℤ_, _*ℤ_, +ℤ-idl, +ℤ-idr, +ℤ-comm, +ℤ-assoc, *ℤ-comm, *ℤ-zero, zero-*ℤ}
+use lib.IntN.{ℤ, pos, natAbs, negℤ, _+ℤ_, _*ℤ_, +ℤ-idl, +ℤ-idr, +ℤ-comm, +ℤ-assoc, negℤ-+ℤ, *ℤ-comm, *ℤ-zero, zero-*ℤ}
 use Rattle.lists.specs.Span.{span}
 use Rattle.lists.proofs.Cons.{cons≡}
 use Rattle.lists.proofs.Span.{span-ext, span-getD, map-span, length-span, getD-span}
-use Rattle.integers.proofs.Laws.{*-distrib, +-cross}
+use Rattle.integers.proofs.Laws.{*-distrib, *-neg, +-cross}
 use Rattle.integers.proofs.Size.{natAbs-+, natAbs-*≤}
-use Rattle.ring.specs.Element.{part, zeros, plus}
+use Rattle.ring.specs.Element.{part, zeros, plus, negative}
 use Rattle.ring.specs.Product.{scale, timesOmega, product, columns, matrixOf}
 use Rattle.ring.specs.Tests.{Within, RowsWithin}
 use Rattle.ring.specs.Matrix.{dot, times}
@@ -32,6 +32,12 @@ dot-plus (a ∷ row) [] y = sym (+ℤ-idl (dot (a ∷ row) y))
 dot-plus (a ∷ row) (b ∷ x) [] = sym (+ℤ-idr (dot (a ∷ row) (b ∷ x)))
 dot-plus (a ∷ row) (b ∷ x) (c ∷ y) =
     rw (dot-plus row x y, *-distrib a b c) (+-cross (a *ℤ b) (a *ℤ c) (dot row x) (dot row y))
+
+dot-negative : (row x : List ℤ) → dot row (negative x) ≡ negℤ (dot row x)
+unfolding dot negative
+dot-negative [] x = refl
+dot-negative (a ∷ row) [] = refl
+dot-negative (a ∷ row) (b ∷ x) = rw (dot-negative row x, *-neg a b, negℤ-+ℤ (a *ℤ b) (dot row x))
 
 dot-step : (a : ℤ) (row x : List ℤ) → dot (a ∷ row) x ≡ a *ℤ part x 0 +ℤ dot row (drop 1 x)
 unfolding dot
@@ -62,6 +68,11 @@ pub times-plus : (m : List (List ℤ)) (x y : List ℤ) → times m (plus x y) �
 unfolding times plus
 times-plus [] x y = refl
 times-plus (row ∷ m) x y = cons≡ (dot-plus row x y) (times-plus m x y)
+
+pub times-negative : (m : List (List ℤ)) (x : List ℤ) → times m (negative x) ≡ negative (times m x)
+unfolding times negative
+times-negative [] x = refl
+times-negative (row ∷ m) x = cons≡ (dot-negative row x) (times-negative m x)
 
 -- an element for each row
 pub length-times : (m : List (List ℤ)) (x : List ℤ) → length (times m x) ≡ length m

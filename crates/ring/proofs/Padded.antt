@@ -1,4 +1,4 @@
--- Elements as four parts: padding keeps sums, differences, products by the base and sizes, and loses nothing up to degree four.
+-- Elements as four parts: padding keeps sums, differences, negatives, products by the base and sizes, and loses nothing up to degree four.
 use mathlib.Core.Path.{_≡_, refl, sym, ap, ap₂, subst, _∙_}
 use mathlib.Core.List.{List, [], _∷_, map}
 use Prim.Native.Nat.{ℕ, zero, suc, _+_, _-_, _*_, _<_, _≤_, zero-le}
@@ -7,17 +7,17 @@ use native.Mathlib.Nat.{zero-add}
 use native.Mathlib.Decide.{decLt}
 use lib.ListN.{length, getD, take, length-take, length-replicate, List·getD-map, List·getD-eq-default}
 use lib.Seq.{take-nil, ext-getD}
-use lib.IntN.{ℤ, pos, natAbs, _+ℤ_, _-ℤ_}
+use lib.IntN.{ℤ, pos, natAbs, negℤ, _+ℤ_, _-ℤ_}
 use Rattle.lists.specs.Span.{span}
 use Rattle.lists.proofs.Cons.{cons≡}
 use Rattle.lists.proofs.Span.{length-span, getD-span, span-ext, take-span, map-span, listed}
-use Rattle.ring.specs.Element.{part, zeros, plus, minus}
+use Rattle.ring.specs.Element.{part, zeros, plus, negative, minus}
 use Rattle.ring.specs.Matrix.{times}
 use Rattle.ring.specs.Product.{product, matrixOf}
 use Rattle.ring.specs.Tests.{Within, RowsWithin}
 use Rattle.ring.specs.Padded.{width, padded, paddedRows, corner, paddedTimes, paddedMatrix}
-use Rattle.ring.proofs.Element.{plus-parts, minus-parts, part-plus, part-minus, part-zeros}
-use Rattle.ring.proofs.Matrix.{dot-parts, times-plus, within-times, matrix-product, length-matrix, length-row}
+use Rattle.ring.proofs.Element.{plus-parts, minus-parts, length-negative, part-plus, part-negative, part-minus, part-zeros}
+use Rattle.ring.proofs.Matrix.{dot-parts, times-plus, times-negative, within-times, matrix-product, length-matrix, length-row}
 
 -- ---- four parts
 
@@ -44,6 +44,10 @@ padded-plus x y =
 pub padded-minus : (x y : List ℤ) → padded (minus x y) ≡ minus (padded x) (padded y)
 padded-minus x y =
     padded-is (minus x y) (minus (padded x) (padded y)) (minus-parts width (padded x) (padded y) (length-padded x) (length-padded y)) (λ k h. part-minus x y k ∙ sym (part-minus (padded x) (padded y) k ∙ ap₂ (λ a b. a -ℤ b) (part-padded x k h) (part-padded y k h)))
+
+pub padded-negative : (x : List ℤ) → padded (negative x) ≡ negative (padded x)
+padded-negative x =
+    padded-is (negative x) (negative (padded x)) (length-negative (padded x) ∙ length-padded x) (λ k h. part-negative x k ∙ sym (part-negative (padded x) k ∙ ap negℤ (part-padded x k h)))
 
 pub padded-zeros : (d : ℕ) → padded (zeros d) ≡ zeros width
 padded-zeros d =
@@ -101,6 +105,10 @@ pub padded-times-plus : (d : ℕ) (m : List (List ℤ)) (x y : List ℤ) → pad
 unfolding paddedTimes
 padded-times-plus d m x y =
     ap padded (times-plus (corner d m) x y) ∙ padded-plus (times (corner d m) x) (times (corner d m) y)
+
+pub padded-times-negative : (d : ℕ) (m : List (List ℤ)) (x : List ℤ) → paddedTimes d m (negative x) ≡ negative (paddedTimes d m x)
+unfolding paddedTimes
+padded-times-negative d m x = ap padded (times-negative (corner d m) x) ∙ padded-negative (times (corner d m) x)
 
 times-parts : (d : ℕ) (m : List (List ℤ)) (x y : List ℤ) → ((i : ℕ) → i < length m → length (getD m i []) ≤ d) → ((k : ℕ) → k < d → part x k ≡ part y k) → times m x ≡ times m y
 unfolding times
