@@ -72,6 +72,8 @@ fn main() -> ExitCode {
     );
     let (single, itself) = (pool.single_pairs.count(), pool.self_pairs.count());
     println!("tables with one refused pair: {single}, with a leaf and itself: {itself}");
+    let [two, three, four] = pool.mirrored.degrees.each_ref().map(Vec::len);
+    println!("mirrored tables of degree 2, 3 and 4: {two}, {three} and {four}");
     let good = match request.mode {
         Mode::Library => library_run(&pool, &request),
         Mode::Itself => run(&pool, &request, &model::Model),

@@ -12,7 +12,7 @@ use crate::search;
 /// Finer codes have no more leaves than this.
 const MOST_LEAVES: usize = 300;
 
-/// TERN and BIN, and so many of degree two and of each larger degree.
+/// So many of each degree, TERN and BIN among them.
 pub fn tables(wanted: usize, random: &mut Random) -> Vec<Parts> {
     let mut two = vec![carried::tern_parts(), carried::bin_parts()];
     while two.len() < wanted {

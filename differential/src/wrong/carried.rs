@@ -61,11 +61,16 @@ pub fn mistakes() -> Vec<Mistake> {
     let mut all: Vec<Mistake> = formed().map(|slip| Mistake::Carried("tern", slip)).to_vec();
     all.extend(formed().map(|slip| Mistake::Carried("bin", slip)));
     // TERN has no lower digits, and its mirrored leaves stand in the stored order; BIN has one mirrored alphabet digit.
-    all.retain(|mistake| match mistake {
-        Mistake::Carried("tern", Formed::LowerDigitsKept | Formed::LeavesInStoredOrder) => false,
-        Mistake::Carried("bin", Formed::AlphabetReversed) => false,
-        _ => true,
-    });
+    let without_effect = |mistake: &Mistake| {
+        matches!(
+            mistake,
+            Mistake::Carried(
+                "tern",
+                Formed::LowerDigitsKept | Formed::LeavesInStoredOrder
+            ) | Mistake::Carried("bin", Formed::AlphabetReversed)
+        )
+    };
+    all.retain(|mistake| !without_effect(mistake));
     for name in ["add", "subtract"] {
         let slips = [HighestLost, SignLost, ReachOff, PlacesOff, Refused];
         all.extend(slips.map(|slip| Mistake::Negative(name, slip)));
