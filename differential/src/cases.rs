@@ -4,6 +4,7 @@ mod bad_rows;
 mod forecasts;
 mod lending;
 mod lists;
+mod mirrored;
 mod values;
 
 use reference::Parts;
@@ -21,7 +22,7 @@ use lists::{ask, edits, random_edit, subtraction};
 
 /// Runs one case.
 pub fn run(pool: &Pool, comparison: &mut Comparison, random: &mut Random) {
-    match random.below(111) {
+    match random.below(117) {
         0..=16 => lists::list_of_edits(pool, comparison, random),
         17..=24 => lists::runs(pool, comparison, random),
         25..=28 => lists::needle(pool, comparison, random),
@@ -37,7 +38,8 @@ pub fn run(pool: &Pool, comparison: &mut Comparison, random: &mut Random) {
         92..=96 => values::midpoints(comparison, random),
         97..=99 => short_buffers(pool, comparison, random),
         100..=102 => forecasts::forecasts(pool, comparison, random),
-        _ => bad_rows::bad_rows(pool, comparison, random),
+        103..=110 => bad_rows::bad_rows(pool, comparison, random),
+        _ => mirrored::mirrored(pool, comparison, random),
     }
 }
 

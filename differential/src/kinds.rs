@@ -1,10 +1,11 @@
 //! Kinds of cases that a refusal number alone doesn't tell apart: those of subtraction and of input digits beyond the sums (job 2),
 //! those of midpoints at the half (job 6), those of the reach (job 7), those of degree three and four (job 8), those of the forecast
-//! (job 13), and those of bad rows (job 5).
+//! (job 13), those of bad rows (job 5), and those of mirrored tables (job 3).
 
 mod bad_row;
 mod degrees;
 mod forecast;
+pub mod mirrored;
 mod reach;
 
 use crate::further::{self, Digits};
@@ -155,11 +156,28 @@ pub enum Kind {
     /// The upper leaf and the place of the check's 14; an addition of rows that hold the string, which says 27.
     UpperOfCheck,
     AddedBadRow,
+    /// A table is mirrored, and one isn't; it is TERN, and it is BIN.
+    MirroredTable,
+    UnmirroredTable,
+    NegatedByTern,
+    NegatedByBin,
+    /// A mirrored table of degree three, and one of degree four; one with words of more than two digits; one whose alphabet lacks a negated digit.
+    MirroredOfThree,
+    MirroredOfFour,
+    MirroredLongWords,
+    MirroredUnsymmetric,
+    /// By a mirrored table: the sum and the difference of negated rows; refusals of both.
+    NegatedSum,
+    NegatedDifference,
+    NegatedRefused,
+    /// By one that isn't: digits that aren't the negated ones, and another reach.
+    OtherDigits,
+    OtherReach,
 }
 
 impl Kind {
     /// All of them, for the report of those that a run missed.
-    pub const ALL: [Kind; 95] = [
+    pub const ALL: [Kind; 108] = [
         Kind::Subtracted,
         Kind::SubtractedByFurther,
         Kind::UnlistedFromZero,
@@ -255,6 +273,19 @@ impl Kind {
         Kind::ShortString,
         Kind::UpperOfCheck,
         Kind::AddedBadRow,
+        Kind::MirroredTable,
+        Kind::UnmirroredTable,
+        Kind::NegatedByTern,
+        Kind::NegatedByBin,
+        Kind::MirroredOfThree,
+        Kind::MirroredOfFour,
+        Kind::MirroredLongWords,
+        Kind::MirroredUnsymmetric,
+        Kind::NegatedSum,
+        Kind::NegatedDifference,
+        Kind::NegatedRefused,
+        Kind::OtherDigits,
+        Kind::OtherReach,
     ];
 }
 
@@ -299,7 +330,8 @@ fn of_digits(call: &Call, outcome: Outcome, lent: &Lent) -> Vec<Kind> {
     })
 }
 
-fn holding(kinds: Vec<(bool, Kind)>) -> Vec<Kind> {
+/// Those of some kinds that hold.
+pub fn holding(kinds: Vec<(bool, Kind)>) -> Vec<Kind> {
     let holding = kinds.into_iter().filter(|(holds, _)| *holds);
     holding.map(|(_, kind)| kind).collect()
 }

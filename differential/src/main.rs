@@ -20,6 +20,7 @@ mod kinds;
 mod leaf_damage;
 mod lifts;
 mod looks;
+mod mirrors;
 mod model;
 mod needles;
 mod pairs;
@@ -71,6 +72,8 @@ fn main() -> ExitCode {
     );
     let (single, itself) = (pool.single_pairs.count(), pool.self_pairs.count());
     println!("tables with one refused pair: {single}, with a leaf and itself: {itself}");
+    let [two, three, four] = pool.mirrored.degrees.each_ref().map(Vec::len);
+    println!("mirrored tables of degree 2, 3 and 4: {two}, {three} and {four}");
     let good = match request.mode {
         Mode::Library => library_run(&pool, &request),
         Mode::Itself => run(&pool, &request, &model::Model),
@@ -150,18 +153,22 @@ fn run_case(pool: &Pool, request: &Request, done: u64, comparison: &mut Comparis
     cases::run(pool, comparison, &mut random);
 }
 
-/// Runs every mistake until it is found; true if all are.
+/// Runs every mistake until it is found, one that a law speaks of until the law alone finds it; true if all are.
 fn find_mistakes(pool: &Pool, request: &Request) -> bool {
     let mut missed = 0;
     for mistake in wrong::mistakes() {
         let subject = wrong::Wrong::new(mistake);
         let mut comparison = Comparison::new(&subject);
+        let found = |comparison: &Comparison| match mistake.breaks_a_law() {
+            true => comparison.broken_laws > 0,
+            false => !comparison.differences.is_empty(),
+        };
         let mut done = 0;
-        while done < request.cases && comparison.differences.is_empty() {
+        while done < request.cases && !found(&comparison) {
             run_case(pool, request, done, &mut comparison);
             done += 1;
         }
-        if comparison.differences.is_empty() {
+        if !found(&comparison) {
             missed += 1;
             println!("{mistake:?}: missed in {done} cases");
         } else {

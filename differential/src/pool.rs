@@ -4,6 +4,7 @@ use reference::{carried, Parts, DEGREES};
 
 use crate::codes::{self, depth, MOST_LEAVES};
 use crate::lifts;
+use crate::mirrors;
 use crate::pairs;
 use crate::random::Random;
 use crate::search;
@@ -60,6 +61,8 @@ pub struct Pool {
     pub single_pairs: Shelf,
     /// Ones where that pair is a leaf with itself.
     pub self_pairs: Shelf,
+    /// Accepted ones that are mirrored.
+    pub mirrored: Shelf,
 }
 
 /// How many tables the search looks for: ones whose input digits are the sums, and ones with further digits.
@@ -69,6 +72,8 @@ const FURTHER_TABLES: usize = 40;
 const LIFTS: usize = 40;
 /// How many of degree three, which aren't made of smaller ones.
 const CUBIC: usize = 4;
+/// How many mirrored ones of each degree.
+const MIRRORED: usize = 30;
 
 impl Pool {
     pub fn new(seed: u64) -> Self {
@@ -95,7 +100,9 @@ impl Pool {
         };
         let (single_pairs, self_pairs) = (refused(false), refused(true));
         let shallow = tables.iter().filter(|parts| depth(parts) <= 2).cloned();
+        let mirrored = mirrors::tables(MIRRORED, &mut random);
         Pool {
+            mirrored: Shelf::of(mirrored),
             single_pairs: Shelf::of(single_pairs),
             self_pairs: Shelf::of(self_pairs),
             shallow: Shelf::of(shallow.collect()),

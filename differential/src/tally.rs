@@ -14,6 +14,12 @@ pub enum Outcome {
     TooShort,
 }
 
+/// What the implementation itself returned, and how it left the buffers.
+pub struct Own {
+    pub returned: u64,
+    pub lent: Lent,
+}
+
 /// A comparison of an implementation with the reference.
 pub struct Comparison<'a> {
     subject: &'a dyn Calls,
@@ -21,6 +27,8 @@ pub struct Comparison<'a> {
     pub differences: Vec<String>,
     /// How often each kind of case was met.
     kinds: BTreeMap<Kind, u64>,
+    /// How many laws were broken.
+    pub broken_laws: u64,
     /// The row lengths of additions, subtractions, edits and runs.
     lengths: BTreeMap<usize, u64>,
     /// Leaves and depth of the largest codes that the check accepted.
@@ -36,6 +44,7 @@ impl<'a> Comparison<'a> {
             counts: BTreeMap::new(),
             differences: Vec::new(),
             kinds: BTreeMap::new(),
+            broken_laws: 0,
             lengths: BTreeMap::new(),
             largest: (0, 0),
             case: 0,
@@ -45,6 +54,11 @@ impl<'a> Comparison<'a> {
     /// Makes a call of both implementations with the same buffers and compares all that comes back. The buffers are left as the
     /// reference leaves them.
     pub fn call(&mut self, call: Call, lent: &mut Lent) -> Outcome {
+        self.call_own(call, lent).0
+    }
+
+    /// The same, with what the implementation made of it.
+    pub fn call_own(&mut self, call: Call, lent: &mut Lent) -> (Outcome, Own) {
         let before = lent.clone();
         let mut tried = lent.clone();
         let expected = Model.call(&call, lent);
@@ -60,7 +74,11 @@ impl<'a> Comparison<'a> {
             _ => Outcome::TooShort,
         };
         self.count(&call, outcome, &before, lent);
-        outcome
+        let own = Own {
+            returned,
+            lent: tried,
+        };
+        (outcome, own)
     }
 
     fn count(&mut self, call: &Call, outcome: Outcome, before: &Lent, lent: &Lent) {
@@ -88,6 +106,7 @@ impl<'a> Comparison<'a> {
     /// A law that the answers of several calls have to keep; a difference where they don't.
     pub fn law(&mut self, holds: bool, law: impl FnOnce() -> String) {
         if !holds {
+            self.broken_laws += 1;
             self.differences
                 .push(format!("case {}: {}", self.case, law()));
         }

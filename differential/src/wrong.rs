@@ -1,6 +1,7 @@
 //! Implementations with one mistake each, to see that the comparison finds it.
 
 mod bad_row;
+mod carried;
 mod degrees;
 mod forecast;
 mod midpoint;
@@ -113,12 +114,23 @@ pub enum Mistake {
     Forecast(forecast::Slip),
     /// Something is wrong with a bad row.
     BadRow(bad_row::Slip),
+    /// A carried table is formed wrongly.
+    Carried(&'static str, carried::Formed),
+    /// Addition or subtraction breaks the law of negated rows.
+    Negative(&'static str, carried::Negative),
     /// The place of one refusal number is one too high in subtraction.
     SubtractPlaceOff(i64),
     /// The place of one refusal number is one too high.
     PlaceOff(i64),
     /// One refusal number is told as the next.
     NumberOff(i64),
+}
+
+impl Mistake {
+    /// A law has to find it by the implementation's own answers, without the reference's.
+    pub fn breaks_a_law(self) -> bool {
+        matches!(self, Mistake::Negative(..))
+    }
 }
 
 /// The refusal numbers of document 01, and 42 of job 2.
@@ -158,6 +170,7 @@ pub fn mistakes() -> Vec<Mistake> {
     all.extend(degrees::mistakes());
     all.extend(forecast::mistakes());
     all.extend(bad_row::mistakes());
+    all.extend(carried::mistakes());
     all.extend(NUMBERS.map(PlaceOff));
     all.extend(NUMBERS.map(NumberOff));
     all
@@ -188,6 +201,12 @@ impl Calls for Wrong {
         }
         if let Mistake::BadRow(slip) = self.mistake {
             return bad_row::call(slip, call, lent);
+        }
+        if let Mistake::Carried(name, slip) = self.mistake {
+            return carried::call(name, slip, call, lent);
+        }
+        if let Mistake::Negative(name, slip) = self.mistake {
+            return carried::negative(name, slip, call, lent);
         }
         let before = lent.clone();
         let returned = Model.call(&self.asked(call), lent);

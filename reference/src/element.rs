@@ -1,6 +1,6 @@
 //! The elements of ℤ[ω] as lists of their parts, and what is done to two of them.
 
-use std::ops::{Add, Sub};
+use std::ops::{Add, Neg, Sub};
 
 /// An element: its parts, that of 1 first, then those of ω, ω² and so on, as many as the ring's degree. Elements of different degrees
 /// never meet.
@@ -55,6 +55,14 @@ impl Sub for &Element {
     type Output = Element;
     fn sub(self, other: &Element) -> Element {
         self.with(other, |x, y| x - y)
+    }
+}
+
+impl Neg for &Element {
+    type Output = Element;
+    fn neg(self) -> Element {
+        let parts: Vec<i64> = self.parts.iter().map(|part| -part).collect();
+        Element::new(parts)
     }
 }
 
