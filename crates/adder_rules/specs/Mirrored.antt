@@ -1,5 +1,4 @@
--- Rows with every digit negated, and what a mirrored table makes of them (document 02, job 3): "the sum of the negated rows is the negated sum,
--- digit by digit".
+-- Rows with every digit negated, and what a mirrored table makes of them: the sum of the negated rows is the negated sum, digit by digit.
 use mathlib.Core.Path.{_≡_}
 use mathlib.Core.List.{List}
 use Prim.Native.Nat.{ℕ, _<_}

@@ -22,6 +22,18 @@ pub fn sums() {
     summed(b"M10", &carried::bin(), &[0, 1], &[0, 0], &mut other);
 }
 
+// The rows of M7 and M9 with every digit negated: so is every digit of the sum. By a table that isn't mirrored, 1 and −1: their sums aren't.
+pub fn negated_rows() {
+    let mut tern = [9u8; 4];
+    summed(b"negated M7", &carried::tern(), &[4, 4], &[3, 4], &mut tern);
+    let mut bin = [9u8; 5];
+    summed(b"negated M9", &carried::bin(), &[2, 2], &[2, 0], &mut bin);
+    output::checked(b"unmirrored", table::check(&tables::unmirrored()));
+    let mut sum = [9u8; 3];
+    summed(b"unmirrored", &tables::unmirrored(), &[1], &[0], &mut sum);
+    summed(b"unmirrored", &tables::unmirrored(), &[2], &[0], &mut sum);
+}
+
 // M11
 pub fn empty_rows() {
     let mut one = [9u8; 1];

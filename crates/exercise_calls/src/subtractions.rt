@@ -25,6 +25,26 @@ pub fn differences() {
     subtracted(b"BIN minus", &carried::bin(), b"", b"", &mut bin);
 }
 
+// The rows of two of these with every digit negated: so is every digit of the difference.
+pub fn negated_rows() {
+    let mut tern = [9u8; 4];
+    subtracted(
+        b"negated TERN minus",
+        &carried::tern(),
+        &[4, 4],
+        &[1, 3],
+        &mut tern,
+    );
+    let mut bin = [9u8; 5];
+    subtracted(
+        b"negated BIN minus",
+        &carried::bin(),
+        &[2, 2],
+        &[1, 0],
+        &mut bin,
+    );
+}
+
 // Without negative digits 42, also for empty rows, and not before 23; a sum is given.
 pub fn unlisted() {
     let mut out = [9u8; 2];

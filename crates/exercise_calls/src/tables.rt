@@ -15,6 +15,13 @@ pub fn damaged_bin() -> [u8; 187] {
     file
 }
 
+// BIN with weight 1 at leaf 1, whose word is 1, 0, and 0 as before at that of −1, 0: accepted, and not mirrored.
+pub fn unmirrored() -> [u8; 187] {
+    let mut file = carried::bin();
+    file[72] = 1;
+    file
+}
+
 // TERN with weight 1 at leaf 0: 13 is the last rule before 14.
 pub fn with_weight_at_zero() -> [u8; 165] {
     let mut file = carried::tern();

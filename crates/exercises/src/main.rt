@@ -31,6 +31,12 @@ fn tables_and_sums() {
     additions::damaged_sums();
 }
 
+// Job 3
+fn mirrored_tables() {
+    additions::negated_rows();
+    subtractions::negated_rows();
+}
+
 fn differences() {
     subtractions::differences();
     subtractions::unlisted();
@@ -91,5 +97,6 @@ fn main() {
     degrees_three_and_four();
     forecast_tables();
     rows_to_show();
+    mirrored_tables();
     lines::of_files();
 }

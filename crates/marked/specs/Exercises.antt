@@ -87,6 +87,10 @@ ternWithout =
 unfoldable pub binWithout : List ℕ
 binWithout = wholeFile (pos 2) (pos 0 ∷ pos 1 ∷ negsuc 0 ∷ []) binInputs (set binLeaves 2 (1 ∷ 1 ∷ [], whole (pos 0)))
 
+-- BIN with weight 1 at leaf 1, whose word is 1, 0, and 0 as before at that of −1, 0: not mirrored
+unfoldable pub binUnmirrored : List ℕ
+binUnmirrored = wholeFile (pos 2) (pos 0 ∷ pos 1 ∷ negsuc 0 ∷ []) binInputs (set binLeaves 1 (1 ∷ 0 ∷ [], whole (pos 1)))
+
 unfoldable pub table : List Case
 table =
     -- M1 and M2
@@ -116,6 +120,12 @@ table =
       exercise = runs binFile (1 ∷ 0 ∷ 0 ∷ []) (0 ∷ 1 ∷ 0 ∷ []) (9 ∷ 9 ∷ 9 ∷ 9 ∷ 9 ∷ []) (record { row = 0; place = 1; digit = 1 } ∷ record { row = 0; place = 2; digit = 0 } ∷ record { row = 0; place = 0; digit = 0 } ∷ []);
       expected = ran (state (0 ∷ 1 ∷ 0 ∷ []) (0 ∷ 1 ∷ 0 ∷ []) (0 ∷ 0 ∷ 1 ∷ 0 ∷ 0 ∷ [])) (facts (record { count = 1; reach = 2 }) ∷ facts (record { count = 0; reach = 1 }) ∷ facts (record { count = 1; reach = 1 }) ∷ []);
     }
+    -- Job 3: the rows of M7 and M9 with every digit negated. By an accepted table that isn't mirrored 1 + 0 is −1 1 0, and −1 + 0 is −1 0 0
+    ∷ record { exercise = adds ternFile (4 ∷ 4 ∷ []) (3 ∷ 4 ∷ []) (9 ∷ 9 ∷ 9 ∷ 9 ∷ []); expected = summed (facts (record { places = 3; reach = 1 })) (0 ∷ 4 ∷ 3 ∷ 9 ∷ []) }
+    ∷ record { exercise = adds binFile (2 ∷ 2 ∷ []) (2 ∷ 0 ∷ []) (9 ∷ 9 ∷ 9 ∷ 9 ∷ 9 ∷ []); expected = summed (facts (record { places = 4; reach = 2 })) (0 ∷ 0 ∷ 2 ∷ 0 ∷ 9 ∷ []) }
+    ∷ record { exercise = checks binUnmirrored; expected = outcome (facts (record { depth = 2; leaves = 13; digits = 3; pairs = 65 })) }
+    ∷ record { exercise = adds binUnmirrored (1 ∷ []) (0 ∷ []) (9 ∷ 9 ∷ 9 ∷ []); expected = summed (facts (record { places = 3; reach = 2 })) (2 ∷ 1 ∷ 0 ∷ []) }
+    ∷ record { exercise = adds binUnmirrored (2 ∷ []) (0 ∷ []) (9 ∷ 9 ∷ 9 ∷ []); expected = summed (facts (record { places = 3; reach = 2 })) (2 ∷ 0 ∷ 0 ∷ []) }
     -- M12
     ∷ record { exercise = checks ternWithout; expected = outcome (refused author 14 2) }
     -- Job 13: TERN and BIN; M12's table, which 14 refuses; 256 digits and one more; a table's fault comes first

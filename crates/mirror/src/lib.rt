@@ -2,11 +2,10 @@
 // as its mirror image. A store past the buffer's end is left out, so that no half asks for more than small numbers.
 ghost use mathlib.Core.Path.{_≡_};
 ghost use mathlib.Core.Bool.{true, false, cond};
-ghost use Prim.Native.Nat.{ℕ, _+_, _*_, _≤_, _<_};
+ghost use Prim.Native.Nat.{_+_, _*_, _≤_, _<_};
 ghost use lib.Dec.{ltb};
-ghost use lib.ListN.{length, getD, set};
-ghost use Rattle.layout_rules.specs.Section.{sectionStart};
-ghost use Rattle.mirror_rules.specs.Half.{mirrorIndex, storedNumber, imageNumber, bitsOf, putNumber, putDigit, putDigits, wordDigit, wordNumber, imagesBelow, leafPlace, wordPlace, putWord, putRecord, putLeaf, putLeaves, mirroredFile};
+ghost use lib.ListN.{length, set};
+ghost use Rattle.mirror_rules.specs.Half.{mirrorIndex, storedNumber, imageNumber, bitsOf, putNumber, putDigit, putDigits, wordDigit, wordNumber, imagesBelow, leafPlace, wordPlace, putWord, putLeaf, putLeaves, mirroredFile};
 
 // How many input digits are positive, and how many digits of `words` each leaf has: its own and zeros behind them.
 struct Shape {

@@ -1,11 +1,11 @@
 -- What a mirror image is: its index, which is mirrored back to the digit's own, and its number.
-use mathlib.Core.Path.{_≡_, refl}
+use mathlib.Core.Path.{_≡_, refl, ap, _∙_}
 use mathlib.Core.Bool.{true, false}
 use Prim.Native.Nat.{ℕ, zero, suc, _+_, _-_, _%_, _≤_, _<_}
 use native.Mathlib.Decide.{decLt}
 use native.Mathlib.Omega.{arith}
 use borrow.Author.Tests.{lt-ltb, le-ltb, le-leb, lt-leb, ne-eqb}
-use lib.IntN.{negℤ, pos, negsuc}
+use lib.IntN.{negℤ, pos}
 use Rattle.mirror_rules.specs.Half.{mirrorIndex, storedNumber, imageNumber, bitsOf}
 
 -- zero is its own image; positive digits and their images are each other's
@@ -20,6 +20,14 @@ mirror-up positive i some h = rw (ne-eqb i 0 (λ e. omega arith), le-leb i posit
 pub mirror-down : (positive i : ℕ) → positive < i → mirrorIndex positive i ≡ i - positive
 unfolding mirrorIndex
 mirror-down positive i h = rw (ne-eqb i 0 (λ e. omega arith), lt-leb i positive h)
+
+pub mirror-twice : (positive i : ℕ) → i ≤ positive + positive → mirrorIndex positive (mirrorIndex positive i) ≡ i
+mirror-twice positive zero h = ap (mirrorIndex positive) (mirror-zero positive) ∙ mirror-zero positive
+mirror-twice positive (suc i) h =
+    elim (decLt positive (suc i)) [
+      | yes down ↦ ap (mirrorIndex positive) (mirror-down positive (suc i) down) ∙ mirror-up positive (suc i - positive) (omega arith) (omega arith) ∙ omega arith
+      | no up ↦ ap (mirrorIndex positive) (mirror-up positive (suc i) (omega arith) (omega arith)) ∙ mirror-down positive (suc i + positive) (omega arith) ∙ omega arith
+    ]
 
 -- the 16 bits of a stored number
 pub bits-low : (byte : ℕ) → byte < 128 → bitsOf (storedNumber byte) ≡ byte

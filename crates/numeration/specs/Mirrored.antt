@@ -1,5 +1,5 @@
--- Mirrored tables (document 02, job 3): "A table is mirrored if negating every digit of a word negates the weight". Any map f of elements
--- stands in negation's place, since the laws need no more; of a file it is negation (reader_rules, specs/Mirrored.antt).
+-- Mirrored tables, what the halves of document 02's job 3 are halves of: negating every digit of a word gives a word, and negates the weight.
+-- Any map f of elements stands in negation's place, since the laws need no more; of a file it is negation (reader_rules, specs/Mirrored.antt).
 use mathlib.Core.Path.{_≡_}
 use Prim.Native.Nat.{ℕ, _<_}
 use Rattle.numeration.specs.Code.{Code}

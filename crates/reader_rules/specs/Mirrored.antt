@@ -1,4 +1,4 @@
--- Mirrored tables (document 02, job 3), of a file: "A table is mirrored if negating every digit of a word negates the weight".
+-- A file's table is mirrored: negating every digit of a word gives a word, and negates the weight (numeration, specs/Mirrored.antt).
 use mathlib.Core.List.{List}
 use Prim.Native.Nat.{ℕ}
 use Rattle.ring.specs.Element.{negative}

@@ -1,3 +1,4 @@
+-- What is formed of the half is the file that the definition builds, by computation.
 use Rattle.carried.specs.Tables.{unsigned16, signed16, joined, recordOf, leafRecords, directory, sections, fileOf, binInputs, binWeight2, binWeight1, binLeavesOf, binLeaves, binFile}
 use Rattle.mirror_rules.specs.Half.{mirrorIndex, storedNumber, imageNumber, bitsOf, putNumber, putDigit, putDigits, wordDigit, wordNumber, imagesBelow, leafPlace, wordPlace, putWord, putRecord, putLeaf, putLeaves, mirroredFile}
 use Rattle.radix.specs.Number.{number}
@@ -8,43 +9,31 @@ use Rattle.lists.specs.Count.{total}
 use borrow.Author.Needs.{needs}
 use Rattle.carried.proofs.bin.Statement.{statement}
 use Rattle.carried.proofs.bin.Tie as tie
-use Rattle.carried.proofs.bin.Reads as reads
-use Rattle.carried.proofs.bin.Lts as lts
-use Rattle.mirror.proofs.mirrored.Reads as mirrored-reads
 
--- src/lib.rt:53:9
 slice-aggregate-mirrored : tie.Need-slice-aggregate-mirrored
 slice-aggregate-mirrored c = search needs
 
--- src/lib.rt:54:9
 slice-aggregate-mirrored-2 : tie.Need-slice-aggregate-mirrored-2
 slice-aggregate-mirrored-2 c = search needs
 
--- src/lib.rt:55:9
 slice-aggregate-mirrored-3 : tie.Need-slice-aggregate-mirrored-3
 slice-aggregate-mirrored-3 c = search needs
 
--- src/lib.rt:56:9
 slice-aggregate-mirrored-4 : tie.Need-slice-aggregate-mirrored-4
 slice-aggregate-mirrored-4 c = search needs
 
--- src/lib.rt:58:9
 slice-aggregate-mirrored-5 : tie.Need-slice-aggregate-mirrored-5
 slice-aggregate-mirrored-5 c = search needs
 
--- src/lib.rt:59:9
 slice-aggregate-mirrored-6 : tie.Need-slice-aggregate-mirrored-6
 slice-aggregate-mirrored-6 c = search needs
 
--- src/lib.rt:60:9
 slice-aggregate-mirrored-7 : tie.Need-slice-aggregate-mirrored-7
 slice-aggregate-mirrored-7 c = search needs
 
--- src/lib.rt:52:5
 mirrored-requires : tie.Need-mirrored-requires
 mirrored-requires c κs = search needs
 
--- src/lib.rt:48:1
 returns : tie.Need-returns
 unfolding total overwrite span unsignedAt number mirrorIndex storedNumber imageNumber bitsOf putNumber putDigit putDigits wordDigit wordNumber imagesBelow leafPlace wordPlace putWord putRecord putLeaf putLeaves mirroredFile unsigned16 signed16 joined recordOf leafRecords directory sections fileOf binInputs binWeight2 binWeight1 binLeavesOf binLeaves binFile
 returns c = c .before .mirrored .ensures

@@ -1,3 +1,4 @@
+-- What is formed of the half is the file that the definition builds, by computation.
 use Rattle.carried.specs.Tables.{unsigned16, signed16, joined, recordOf, leafRecords, directory, sections, fileOf, ternInputs, ternWeight, ternLeaves, ternFile}
 use Rattle.mirror_rules.specs.Half.{mirrorIndex, storedNumber, imageNumber, bitsOf, putNumber, putDigit, putDigits, wordDigit, wordNumber, imagesBelow, leafPlace, wordPlace, putWord, putRecord, putLeaf, putLeaves, mirroredFile}
 use Rattle.radix.specs.Number.{number}
@@ -8,43 +9,31 @@ use Rattle.lists.specs.Count.{total}
 use borrow.Author.Needs.{needs}
 use Rattle.carried.proofs.tern.Statement.{statement}
 use Rattle.carried.proofs.tern.Tie as tie
-use Rattle.carried.proofs.tern.Reads as reads
-use Rattle.carried.proofs.tern.Lts as lts
-use Rattle.mirror.proofs.mirrored.Reads as mirrored-reads
 
--- src/lib.rt:36:9
 slice-aggregate-mirrored : tie.Need-slice-aggregate-mirrored
 slice-aggregate-mirrored c = search needs
 
--- src/lib.rt:37:9
 slice-aggregate-mirrored-2 : tie.Need-slice-aggregate-mirrored-2
 slice-aggregate-mirrored-2 c = search needs
 
--- src/lib.rt:38:9
 slice-aggregate-mirrored-3 : tie.Need-slice-aggregate-mirrored-3
 slice-aggregate-mirrored-3 c = search needs
 
--- src/lib.rt:39:9
 slice-aggregate-mirrored-4 : tie.Need-slice-aggregate-mirrored-4
 slice-aggregate-mirrored-4 c = search needs
 
--- src/lib.rt:41:9
 slice-aggregate-mirrored-5 : tie.Need-slice-aggregate-mirrored-5
 slice-aggregate-mirrored-5 c = search needs
 
--- src/lib.rt:42:9
 slice-aggregate-mirrored-6 : tie.Need-slice-aggregate-mirrored-6
 slice-aggregate-mirrored-6 c = search needs
 
--- src/lib.rt:43:9
 slice-aggregate-mirrored-7 : tie.Need-slice-aggregate-mirrored-7
 slice-aggregate-mirrored-7 c = search needs
 
--- src/lib.rt:35:5
 mirrored-requires : tie.Need-mirrored-requires
 mirrored-requires c κs = search needs
 
--- src/lib.rt:31:1
 returns : tie.Need-returns
 unfolding total overwrite span unsignedAt number mirrorIndex storedNumber imageNumber bitsOf putNumber putDigit putDigits wordDigit wordNumber imagesBelow leafPlace wordPlace putWord putRecord putLeaf putLeaves mirroredFile unsigned16 signed16 joined recordOf leafRecords directory sections fileOf ternInputs ternWeight ternLeaves ternFile
 returns c = c .before .mirrored .ensures

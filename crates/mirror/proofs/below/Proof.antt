@@ -1,15 +1,12 @@
+-- A comparison as a number.
 use borrow.Author.Tests.{lt-ltb, le-ltb}
 use native.Mathlib.Omega.{arith}
 use Rattle.mirror.proofs.below.Statement.{statement}
 use Rattle.mirror.proofs.below.Tie as tie
-use Rattle.mirror.proofs.below.Reads as reads
-use Rattle.mirror.proofs.below.Lts as lts
 
--- src/lib.rt:133:1
 returns : tie.Need-returns
 returns c = (rw (lt-ltb _ _ (c .if1 .taken)), omega arith)
 
--- src/lib.rt:133:1
 returns-2 : tie.Need-returns-2
 returns-2 c = (rw (le-ltb _ _ (c .if1 .left)), omega arith)
 

@@ -1,28 +1,21 @@
+-- The bits of a mirror image and those of the number are 65,536 together, or zero.
 use Rattle.mirror_rules.proofs.Mirror.{bits-turned, bits-kept}
 use Rattle.mirror_rules.specs.Half.{imageNumber, bitsOf}
 use Prim.Native.Nat.{ℕ, _-_, _%_}
-use native.Mathlib.Omega.{arith}
 use mathlib.Core.Path.{sym, ap, _∙_}
 use borrow.Author.Needs.{needs}
 use Rattle.mirror.proofs.bits.Statement.{statement}
 use Rattle.mirror.proofs.bits.Tie as tie
-use Rattle.mirror.proofs.bits.Reads as reads
-use Rattle.mirror.proofs.bits.Lts as lts
-use Rattle.mirror.proofs.stored_bits.Reads as stored-bits-reads
 
--- src/lib.rt:60:9
 stored-bits-requires : tie.Need-stored-bits-requires
 stored-bits-requires c κs = search needs
 
--- src/lib.rt:62:17
 sub-result : tie.Need-sub-result
 sub-result c = search needs
 
--- src/lib.rt:62:9
 returns : tie.Need-returns
 returns c = ap (λ (n : ℕ). (65536 - n) % 65536) (c .before .stored-bits .ensures .0) ∙ sym (bits-turned (c .before .before .args .byte) (c .before .stored-bits .ensures .1 .1)) ∙ (λ i. bitsOf (imageNumber (sym (c .if1 .taken) i) (c .before .before .args .byte)))
 
--- src/lib.rt:57:1
 returns-2 : tie.Need-returns-2
 returns-2 c = c .before .stored-bits .ensures .0 ∙ sym (bits-kept (c .before .before .args .byte)) ∙ (λ i. bitsOf (imageNumber (sym (c .if1 .left) i) (c .before .before .args .byte)))
 

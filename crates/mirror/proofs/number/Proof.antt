@@ -1,3 +1,4 @@
+-- After i digits the number is that of i digits, below the power of 256.
 use Rattle.mirror_rules.proofs.Put.{start-small}
 use Rattle.mirror_rules.specs.Half.{wordDigit, wordNumber}
 use Rattle.word_numbers.proofs.Shift.{more-bytes, few-small, more-small}
@@ -9,9 +10,6 @@ use Prim.Native.Nat.{ℕ, _+_, _-_, _*_, _^_, _≤_, _<_}
 use mathlib.Core.Path.{_≡_, sym, ap, _∙_}
 use Rattle.mirror.proofs.number.Statement.{statement}
 use Rattle.mirror.proofs.number.Tie as tie
-use Rattle.mirror.proofs.number.Reads as reads
-use Rattle.mirror.proofs.number.Lts as lts
-use Rattle.mirror.proofs.digit.Reads as digit-reads
 
 abbrev Inv-loop : tie.InvT-loop
 Inv-loop words k mirrored width positive all₀ i₀ all i = (i ≤ width) × (all ≡ number 256 (λ n. wordDigit positive words mirrored (width * k + n)) i) × (all < 256 ^ i)
@@ -19,43 +17,33 @@ Inv-loop words k mirrored width positive all₀ i₀ all i = (i ≤ width) × (a
 abbrev μ-loop : tie.MeasureT-loop
 μ-loop words k mirrored width positive all₀ i₀ all i = width - i
 
--- src/lib.rt:126:5
 loop-holds : tie.Need-loop-holds Inv-loop μ-loop
 loop-holds c = (omega arith, sym (number-zero 256 _), omega (arith, pow-zero 256))
 
--- src/lib.rt:127:15
 mul-all : tie.Need-mul-all Inv-loop μ-loop
 mul-all c = omega (arith, few-small (c .before .loop .i) (c .before .loop .all) (omega arith) (c .before .loop .inv .2))
 
--- src/lib.rt:127:40
 mul-digit : tie.Need-mul-digit Inv-loop μ-loop
 mul-digit c = omega (arith, start-small (c .before .before .before .args .shape .width) (c .before .before .before .args .k) (c .before .before .before .pre .1) (c .before .before .before .pre .2))
 
--- src/lib.rt:127:40
 add-digit : tie.Need-add-digit Inv-loop μ-loop
 add-digit c = omega (arith, start-small (c .before .before .before .args .shape .width) (c .before .before .before .args .k) (c .before .before .before .pre .1) (c .before .before .before .pre .2))
 
--- src/lib.rt:127:27
 digit-requires : tie.Need-digit-requires Inv-loop μ-loop
 digit-requires c κs = omega arith
 
--- src/lib.rt:127:15
 add-all : tie.Need-add-all Inv-loop μ-loop
 add-all c = omega (arith, few-small (c .before .before .loop .i) (c .before .before .loop .all) (omega arith) (c .before .before .loop .inv .2), c .digit .ensures .1)
 
--- src/lib.rt:128:9
 add-i : tie.Need-add-i Inv-loop μ-loop
 add-i c = omega arith
 
--- src/lib.rt:126:5
 loop-less : tie.Need-loop-less Inv-loop μ-loop
 loop-less c = omega arith
 
--- src/lib.rt:126:5
 loop-again : tie.Need-loop-again Inv-loop μ-loop
 loop-again c = (omega arith, ap (λ (x : ℕ). c .before .before .loop .all * 256 + x) (c .digit .ensures .0) ∙ more-bytes (λ n. wordDigit (c .before .before .before .before .args .shape .positive) (c .before .before .before .before .args .words .now) (c .before .before .before .before .args .mirrored) (c .before .before .before .before .args .shape .width * c .before .before .before .before .args .k + n)) (c .before .before .loop .i) (c .before .before .loop .all) (c .before .before .loop .inv .1), more-small (c .before .before .loop .i) (c .before .before .loop .all) (c .digit .result) (c .before .before .loop .inv .2) (c .digit .ensures .1))
 
--- src/lib.rt:118:1
 returns : tie.Need-returns Inv-loop μ-loop
 unfolding wordNumber
 returns c = c .before .loop .inv .1 ∙ ap (number 256 (λ n. wordDigit (c .before .before .before .args .shape .positive) (c .before .before .before .args .words .now) (c .before .before .before .args .mirrored) (c .before .before .before .args .shape .width * c .before .before .before .args .k + n))) (omega arith)

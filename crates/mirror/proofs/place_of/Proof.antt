@@ -1,17 +1,13 @@
+-- After k leaves both counts are those of k leaves, two for a leaf at the most.
 use Rattle.mirror_rules.proofs.Place.{places-none, leaf-next, word-next}
 use Rattle.mirror_rules.specs.Half.{leafPlace, wordPlace}
 use native.Mathlib.Nat.{mul-le-mul}
 use native.Mathlib.Omega.{arith}
 use lib.ListN.{length}
-use Prim.Native.Nat.{ℕ, _+_, _-_, _*_, _≤_, _<_}
+use Prim.Native.Nat.{_+_, _-_, _*_, _≤_}
 use mathlib.Core.Path.{_≡_, sym, ap, _∙_}
 use Rattle.mirror.proofs.place_of.Statement.{statement}
 use Rattle.mirror.proofs.place_of.Tie as tie
-use Rattle.mirror.proofs.place_of.Reads as reads
-use Rattle.mirror.proofs.place_of.Lts as lts
-use Rattle.mirror.proofs.images_below.Reads as images-below-reads
-use Rattle.octets.proofs.byte_at.Reads as byte-at-reads
-use Rattle.octets.proofs.wide.Reads as wide-reads
 
 abbrev Inv-loop : tie.InvT-loop
 Inv-loop shape words lengths limit leaf₀ word₀ k₀ leaf word k = (k ≤ length lengths) × (leaf ≡ leafPlace (shape .positive) (shape .width) words lengths limit k) × (word ≡ wordPlace (shape .positive) (shape .width) words lengths limit k) × (leaf ≤ 2 * k) × (word ≤ 512 * k)
@@ -19,47 +15,36 @@ Inv-loop shape words lengths limit leaf₀ word₀ k₀ leaf word k = (k ≤ len
 abbrev μ-loop : tie.MeasureT-loop
 μ-loop shape words lengths limit leaf₀ word₀ k₀ leaf word k = length lengths - k
 
--- src/lib.rt:163:5
 loop-holds : tie.Need-loop-holds Inv-loop μ-loop
 loop-holds c = let none = places-none (c .before .before .args .shape .positive) (c .before .before .args .shape .width) (c .before .before .args .words .now) (c .before .before .args .limit) (c .before .before .args .lengths .now) in (omega arith, sym (none .0), sym (none .1), omega arith, omega arith)
 
--- src/lib.rt:164:13
 images-below-requires : tie.Need-images-below-requires Inv-loop μ-loop
 images-below-requires c κs = omega arith
 
--- src/lib.rt:165:9
 add-leaf : tie.Need-add-leaf Inv-loop μ-loop
 add-leaf c = omega (arith, c .images-below .ensures .1)
 
--- src/lib.rt:166:39
 byte-at-requires : tie.Need-byte-at-requires Inv-loop μ-loop
 byte-at-requires c κs = tt
 
--- src/lib.rt:166:26
 wide-requires : tie.Need-wide-requires Inv-loop μ-loop
 wide-requires c κs = tt
 
--- src/lib.rt:166:17
 mul-word : tie.Need-mul-word Inv-loop μ-loop
 mul-word c = let low : c .wide .result ≤ 256 = omega (arith, c .wide .ensures .1) in omega (arith, mul-le-mul (c .before .before .images-below .ensures .1) low)
 
--- src/lib.rt:166:9
 add-word : tie.Need-add-word Inv-loop μ-loop
 add-word c = let low : c .wide .result ≤ 256 = omega (arith, c .wide .ensures .1) in omega (arith, mul-le-mul (c .before .before .images-below .ensures .1) low)
 
--- src/lib.rt:167:9
 add-k : tie.Need-add-k Inv-loop μ-loop
 add-k c = omega arith
 
--- src/lib.rt:163:5
 loop-less : tie.Need-loop-less Inv-loop μ-loop
 loop-less c = omega arith
 
--- src/lib.rt:163:5
 loop-again : tie.Need-loop-again Inv-loop μ-loop
 loop-again c = let low : c .wide .result ≤ 256 = omega (arith, c .wide .ensures .1) in (omega arith, (λ i. c .before .before .before .before .loop .inv .1 i + c .before .before .images-below .ensures .0 i) ∙ sym (leaf-next (c .before .before .before .before .before .before .before .args .shape .positive) (c .before .before .before .before .before .before .before .args .shape .width) (c .before .before .before .before .before .before .before .args .words .now) (c .before .before .before .before .before .before .before .args .limit) (c .before .before .before .before .before .before .before .args .lengths .now) (c .before .before .before .before .loop .k)), (λ i. c .before .before .before .before .loop .inv .2 i + c .before .before .images-below .ensures .0 i * (c .wide .ensures .0 ∙ c .before .byte-at .ensures) i) ∙ sym (word-next (c .before .before .before .before .before .before .before .args .shape .positive) (c .before .before .before .before .before .before .before .args .shape .width) (c .before .before .before .before .before .before .before .args .words .now) (c .before .before .before .before .before .before .before .args .limit) (c .before .before .before .before .before .before .before .args .lengths .now) (c .before .before .before .before .loop .k)), omega (arith, c .before .before .images-below .ensures .1), omega (arith, mul-le-mul (c .before .before .images-below .ensures .1) low))
 
--- src/lib.rt:154:1
 returns : tie.Need-returns Inv-loop μ-loop
 returns c = let end : c .before .loop .k ≡ length (c .before .before .before .before .args .lengths .now) = omega arith in (c .before .loop .inv .1 ∙ ap (leafPlace (c .before .before .before .before .args .shape .positive) (c .before .before .before .before .args .shape .width) (c .before .before .before .before .args .words .now) (c .before .before .before .before .args .lengths .now) (c .before .before .before .before .args .limit)) end, (c .before .loop .inv .2 ∙ ap (wordPlace (c .before .before .before .before .args .shape .positive) (c .before .before .before .before .args .shape .width) (c .before .before .before .before .args .words .now) (c .before .before .before .before .args .lengths .now) (c .before .before .before .before .args .limit)) end, (omega arith, omega arith)))
 

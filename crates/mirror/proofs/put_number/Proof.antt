@@ -1,3 +1,4 @@
+-- The lower byte and then the higher.
 use Rattle.mirror_rules.specs.Half.{putNumber}
 use lib.ListN.{set}
 use Prim.Native.Nat.{ℕ, _+_, _%_, _/_}
@@ -6,35 +7,25 @@ use mathlib.Core.Path.{ap, _∙_}
 use borrow.Author.Needs.{needs}
 use Rattle.mirror.proofs.put_number.Statement.{statement}
 use Rattle.mirror.proofs.put_number.Tie as tie
-use Rattle.mirror.proofs.put_number.Reads as reads
-use Rattle.mirror.proofs.put_number.Lts as lts
-use Rattle.mirror.proofs.store.Reads as store-reads
 
--- src/lib.rt:79:20
 cast-store : tie.Need-cast-store
 cast-store c = search needs
 
--- src/lib.rt:79:5
 store-requires : tie.Need-store-requires
 store-requires c κs = search needs
 
--- src/lib.rt:80:16
 add-store : tie.Need-add-store
 add-store c = search needs
 
--- src/lib.rt:80:24
 cast-store-2 : tie.Need-cast-store-2
 cast-store-2 c = search needs
 
--- src/lib.rt:80:5
 store-requires-2 : tie.Need-store-requires-2
 store-requires-2 c κs = search needs
 
--- src/lib.rt:75:1
 same-length : tie.Need-same-length
 same-length c = search needs
 
--- src/lib.rt:75:1
 returns : tie.Need-returns
 unfolding putNumber
 returns c = c .before .before .store2 .ensures ∙ ap (λ (s : List ℕ). set s (c .before .before .before .before .before .before .before .before .before .args .at + 1) (c .before .before .before .before .before .before .before .before .before .args .number / 256 % 256)) (c .before .before .before .before .before .before .store .ensures)

@@ -1,16 +1,12 @@
+-- After i digits the first i are written.
 use Rattle.mirror_rules.proofs.Put.{word-none, word-next, start-small}
-use Rattle.mirror_rules.specs.Half.{wordDigit, putWord}
+use Rattle.mirror_rules.specs.Half.{putWord}
 use lib.ListN.{length, set}
 use native.Mathlib.Omega.{arith}
-use Prim.Native.Nat.{ℕ, _+_, _-_, _*_, _≤_, _<_}
-use mathlib.Core.List.{List}
+use Prim.Native.Nat.{_+_, _-_, _≤_}
 use mathlib.Core.Path.{_≡_, refl, sym, ap, _∙_}
 use Rattle.mirror.proofs.put_word.Statement.{statement}
 use Rattle.mirror.proofs.put_word.Tie as tie
-use Rattle.mirror.proofs.put_word.Reads as reads
-use Rattle.mirror.proofs.put_word.Lts as lts
-use Rattle.mirror.proofs.digit.Reads as digit-reads
-use Rattle.mirror.proofs.store.Reads as store-reads
 
 abbrev Inv-loop : tie.InvT-loop
 Inv-loop out₀ at words k size mirrored width positive i₀ out i = (i ≤ size) × (out ≡ putWord positive width words mirrored k out₀ at i) × (length out ≡ length out₀)
@@ -18,51 +14,39 @@ Inv-loop out₀ at words k size mirrored width positive i₀ out i = (i ≤ size
 abbrev μ-loop : tie.MeasureT-loop
 μ-loop out₀ at words k size mirrored width positive i₀ out i = size - i
 
--- src/lib.rt:179:5
 loop-holds : tie.Need-loop-holds Inv-loop μ-loop
 loop-holds c = (omega arith, sym (word-none (c .before .before .args .shape .positive) (c .before .before .args .shape .width) (c .before .before .args .words .now) (c .before .before .args .mirrored) (c .before .before .args .k) (c .before .before .args .out .now) (c .before .before .args .at)), refl)
 
--- src/lib.rt:180:20
 add-store : tie.Need-add-store Inv-loop μ-loop
 add-store c = omega arith
 
--- src/lib.rt:180:41
 mul-digit : tie.Need-mul-digit Inv-loop μ-loop
 mul-digit c = omega (arith, start-small (c .before .before .before .before .before .args .shape .width) (c .before .before .before .before .before .args .k) (c .before .before .before .before .before .pre .2) (c .before .before .before .before .before .pre .3))
 
--- src/lib.rt:180:41
 add-digit : tie.Need-add-digit Inv-loop μ-loop
 add-digit c = omega (arith, start-small (c .before .before .before .before .before .args .shape .width) (c .before .before .before .before .before .args .k) (c .before .before .before .before .before .pre .2) (c .before .before .before .before .before .pre .3))
 
--- src/lib.rt:180:28
 digit-requires : tie.Need-digit-requires Inv-loop μ-loop
 digit-requires c κs = omega arith
 
--- src/lib.rt:180:28
 cast-store : tie.Need-cast-store Inv-loop μ-loop
 cast-store c = omega (arith, c .digit .ensures .1)
 
--- src/lib.rt:180:9
 store-requires : tie.Need-store-requires Inv-loop μ-loop
 store-requires c κs = tt
 
--- src/lib.rt:181:9
 add-i : tie.Need-add-i Inv-loop μ-loop
 add-i c = omega arith
 
--- src/lib.rt:179:5
 loop-less : tie.Need-loop-less Inv-loop μ-loop
 loop-less c = omega arith
 
--- src/lib.rt:179:5
 loop-again : tie.Need-loop-again Inv-loop μ-loop
 loop-again c = (omega arith, c .before .before .store .ensures ∙ (λ j. set (c .before .before .before .before .before .before .loop .inv .1 j) (c .before .before .before .before .before .before .before .before .before .args .at + c .before .before .before .before .before .before .loop .i) (c .before .before .before .digit .ensures .0 j)) ∙ sym (word-next (c .before .before .before .before .before .before .before .before .before .args .shape .positive) (c .before .before .before .before .before .before .before .before .before .args .shape .width) (c .before .before .before .before .before .before .before .before .before .args .words .now) (c .before .before .before .before .before .before .before .before .before .args .mirrored) (c .before .before .before .before .before .before .before .before .before .args .k) (c .before .before .before .before .before .before .before .before .before .args .out .now) (c .before .before .before .before .before .before .before .before .before .args .at) (c .before .before .before .before .before .before .loop .i)), omega arith)
 
--- src/lib.rt:172:1
 same-length : tie.Need-same-length Inv-loop μ-loop
 same-length c = c .before .loop .inv .2
 
--- src/lib.rt:172:1
 returns : tie.Need-returns Inv-loop μ-loop
 returns c = c .before .loop .inv .1 ∙ ap (putWord (c .before .before .before .before .args .shape .positive) (c .before .before .before .before .args .shape .width) (c .before .before .before .before .args .words .now) (c .before .before .before .before .args .mirrored) (c .before .before .before .before .args .k) (c .before .before .before .before .args .out .now) (c .before .before .before .before .args .at)) (omega arith)
 

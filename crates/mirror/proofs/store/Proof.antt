@@ -1,24 +1,19 @@
+-- Past the end nothing is stored, which is what a list does too.
 use lib.Seq.{set-out}
 use mathlib.Core.Path.{sym}
 use borrow.Author.Needs.{needs}
 use Rattle.mirror.proofs.store.Statement.{statement}
 use Rattle.mirror.proofs.store.Tie as tie
-use Rattle.mirror.proofs.store.Reads as reads
-use Rattle.mirror.proofs.store.Lts as lts
 
--- src/lib.rt:71:9
 slice-write-out : tie.Need-slice-write-out
 slice-write-out c = search needs
 
--- src/lib.rt:67:1
 same-length : tie.Need-same-length
 same-length c = search needs
 
--- src/lib.rt:67:1
 returns : tie.Need-returns
 returns c = search needs
 
--- src/lib.rt:67:1
 returns-2 : tie.Need-returns-2
 returns-2 c = sym (set-out (c .before .args .out .now) (c .before .args .at) (c .before .args .byte) (c .if1 .left))
 
