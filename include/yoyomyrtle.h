@@ -5,8 +5,8 @@
  * outside and nothing else. It has no variables of its own, so that calls may run on several threads at once where none writes a buffer that
  * another is lent.
  *
- * Stack in bytes, at the most: check, bad_row and run 73,500 and forecast 35,500, even with TERN, add, subtract and edit 4,300, value 2,600, the
- * others 100. Where memcpy and memset are looked up on first use, the dynamic linker takes some 3,000 more at that time.
+ * Stack in bytes, at the most: check, bad_row and run 73,500 and forecast 35,500, even with TERN, add, subtract and edit 4,300, value 2,600, tern
+ * and bin 800, midpoint 100. Where memcpy and memset are looked up on first use, the dynamic linker takes some 3,000 more at that time.
  *
  * Each buffer is a pointer and its length, and must hold as many bytes or words as its length says; the pointer may be NULL where the length
  * is 0. A buffer that a call may write, which is one without const and the answer array too, must not overlap any other buffer of that call.

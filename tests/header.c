@@ -298,7 +298,7 @@ static struct {
     {"check", check_call, 73500, 0}, {"bad_row", bad_row_call, 73500, 0},   {"forecast", forecast_call, 35500, 0},
     {"add", add_call, 4300, 0},      {"subtract", subtract_call, 4300, 0}, {"edit", edit_call, 4300, 0},
     {"run", run_call, 73500, 0},     {"value", value_call, 2600, 0},       {"midpoint", midpoint_call, 100, 0},
-    {"tern", tern_call, 100, 0},     {"bin", bin_call, 100, 0},
+    {"tern", tern_call, 800, 0},     {"bin", bin_call, 800, 0},
 };
 
 enum { CALLS = sizeof calls / sizeof *calls, STACK = 256 * 1024, PAINT = 0xa5 };
