@@ -5,7 +5,8 @@ ghost use mathlib.Core.Bool.{true, false, cond};
 ghost use Prim.Native.Nat.{_+_, _*_, _≤_, _<_};
 ghost use lib.Dec.{ltb};
 ghost use lib.ListN.{length, set};
-ghost use Rattle.mirror_rules.specs.Half.{mirrorIndex, storedNumber, imageNumber, bitsOf, putNumber, putDigit, putDigits, wordDigit, wordNumber, imagesBelow, leafPlace, wordPlace, putWord, putLeaf, putLeaves, mirroredFile};
+ghost use Rattle.mirror_rules.specs.Half.{mirrorIndex, storedNumber, imageNumber, bitsOf, putNumber, putDigit, putDigits, mirroredFile};
+ghost use Rattle.mirror_rules.specs.Half.{wordDigit, wordNumber, imagesBelow, leafPlace, wordPlace, putWord, putLeaf, putLeaves};
 
 // How many input digits are positive, and how many digits of `words` each leaf has: its own and zeros behind them.
 struct Shape {
@@ -152,8 +153,10 @@ fn images_below(shape: Shape, words: &[u8], k: usize, limit: usize) -> usize
 // How many leaves, and how many digits of their words, are below a number.
 fn place_of(shape: Shape, words: &[u8], lengths: &[u8], limit: usize) -> Place
     requires { ⌜ (shape .positive < 128) × (shape .width ≤ 8) × (length (now lengths) ≤ 128) ⌝ }
-    ensures leaf { λ r. ⌜ r .leaf ≡ leafPlace (shape .positive) (shape .width) (now (words .entry)) (now (lengths .entry)) limit (length (now (lengths .entry))) ⌝ }
-    ensures word { λ r. ⌜ r .word ≡ wordPlace (shape .positive) (shape .width) (now (words .entry)) (now (lengths .entry)) limit (length (now (lengths .entry))) ⌝ }
+    ensures leaf { λ r. ⌜ r .leaf
+        ≡ leafPlace (shape .positive) (shape .width) (now (words .entry)) (now (lengths .entry)) limit (length (now (lengths .entry))) ⌝ }
+    ensures word { λ r. ⌜ r .word
+        ≡ wordPlace (shape .positive) (shape .width) (now (words .entry)) (now (lengths .entry)) limit (length (now (lengths .entry))) ⌝ }
     ensures within { λ r. ⌜ (r .leaf ≤ 256) × (r .word ≤ 65536) ⌝ }
 {
     let mut leaf = 0;
@@ -206,7 +209,9 @@ fn put_leaf(
 )
     requires sections { ⌜ (at .leaves < 65536) × (at .words < 65536) ⌝ }
     requires shape { ⌜ (shape .positive < 128) × (shape .width ≤ 8) × (length (now lengths) ≤ 128) × (k < 128) ⌝ }
-    ensures { λ _. ⌜ now (out .exit) ≡ putLeaf (shape .positive) (shape .width) (now (words .entry)) (now (lengths .entry)) (now (weights .entry)) (at .leaves) (at .words) mirrored k (now (out .entry)) ⌝ }
+    ensures { λ _. ⌜ now (out .exit)
+        ≡ putLeaf (shape .positive) (shape .width) (now (words .entry)) (now (lengths .entry)) (now (weights .entry))
+        (at .leaves) (at .words) mirrored k (now (out .entry)) ⌝ }
 {
     let place = place_of(shape, words, lengths, number(shape, words, k, mirrored));
     let record = at.leaves + 8 * place.leaf;
@@ -228,7 +233,9 @@ fn put_leaves(
 )
     requires sections { ⌜ (at .leaves < 65536) × (at .words < 65536) ⌝ }
     requires shape { ⌜ (shape .positive < 128) × (shape .width ≤ 8) × (length (now lengths) ≤ 128) ⌝ }
-    ensures { λ _. ⌜ now (out .exit) ≡ putLeaves (shape .positive) (shape .width) (now (words .entry)) (now (lengths .entry)) (now (weights .entry)) (at .leaves) (at .words) (now (out .entry)) (length (now (lengths .entry))) ⌝ }
+    ensures { λ _. ⌜ now (out .exit)
+        ≡ putLeaves (shape .positive) (shape .width) (now (words .entry)) (now (lengths .entry)) (now (weights .entry))
+        (at .leaves) (at .words) (now (out .entry)) (length (now (lengths .entry))) ⌝ }
 {
     let mut k = 0;
     while k < lengths.len() {
@@ -250,8 +257,11 @@ pub fn mirrored(
     weights: &[u8],
 )
     requires head { ⌜ (20 ≤ length (now head)) × (length (now head) ≤ length (now out)) × (width ≤ 8) ⌝ }
-    requires digits { ⌜ (length (now alphabet) ≤ 128) × (1 ≤ length (now inputs)) × (length (now inputs) ≤ 128) × (length (now lengths) ≤ 128) ⌝ }
-    ensures { λ _. ⌜ now (out .exit) ≡ mirroredFile (now (out .entry)) (now (head .entry)) (now (alphabet .entry)) (now (inputs .entry)) width (now (lengths .entry)) (now (words .entry)) (now (weights .entry)) ⌝ }
+    requires digits { ⌜ (length (now alphabet) ≤ 128) × (1 ≤ length (now inputs)) × (length (now inputs) ≤ 128) ⌝ }
+    requires leaves { ⌜ length (now lengths) ≤ 128 ⌝ }
+    ensures { λ _. ⌜ now (out .exit)
+        ≡ mirroredFile (now (out .entry)) (now (head .entry)) (now (alphabet .entry)) (now (inputs .entry))
+        width (now (lengths .entry)) (now (words .entry)) (now (weights .entry)) ⌝ }
 {
     octets::put(out, 0, head);
     put_digits(out, layout::section_start(head, 1), alphabet);

@@ -1,4 +1,5 @@
 -- The head, the digits and the leaves, written in turn.
+use native.Mathlib.Omega.{arith}
 use Rattle.mirror_rules.proofs.Put.{file-written}
 use borrow.Author.Needs.{needs}
 use Rattle.mirror.proofs.mirrored.Statement.{statement}
@@ -29,7 +30,7 @@ sub-t19 : tie.Need-sub-t19
 sub-t19 c = search needs
 
 put-leaves-requires : tie.Need-put-leaves-requires
-put-leaves-requires c κs = search needs
+put-leaves-requires c κs = ((c .before .before .section-start3 .ensures .1, c .before .section-start4 .ensures .1), (omega (arith, c .before .before .before .before .before .before .before .before .before .before .before .before .before .before .before .before .before .before .before .before .before .before .before .before .pre .1 .0), c .before .before .before .before .before .before .before .before .before .before .before .before .before .before .before .before .before .before .before .before .before .before .before .before .pre .0 .2, c .before .before .before .before .before .before .before .before .before .before .before .before .before .before .before .before .before .before .before .before .before .before .before .before .pre .1 .1))
 
 same-length : tie.Need-same-length
 same-length c = search needs
