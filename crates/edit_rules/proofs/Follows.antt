@@ -54,7 +54,7 @@ use Rattle.edit_rules.specs.Edits.{rowEdits}
 use Rattle.edit_rules.proofs.Step.{taken-state, lent-state, step}
 
 -- input indexes away from the place that a change names
-inputs-elsewhere : (file : List ℕ) (e : Change) (first second : List ℕ) (k : ℕ) → (e .place ≡ k → ⊥)
+pub inputs-elsewhere : (file : List ℕ) (e : Change) (first second : List ℕ) (k : ℕ) → (e .place ≡ k → ⊥)
     → getD (inputRow Plus file (changed e 0 first) (changed e 1 second)) k 0 ≡ getD (inputRow Plus file first second) k 0
 unfolding inputRow
 inputs-elsewhere file e first second k other =
@@ -90,7 +90,7 @@ module _ (file : List ℕ) (accepted : checkOutcome file ≡ facts (checkFacts f
       record { known-row = leb-true _ _ row; in-row = ltb-true _ _ place; index = ltb-true _ _ digit }
 
   -- every digit has an alphabet index
-  index-below : (r : List ℕ × List ℕ) → Rows r → (j : ℕ) → rowIndex file (inputRow Plus file (r .0) (r .1)) j < digitCount file
+  pub index-below : (r : List ℕ × List ℕ) → Rows r → (j : ℕ) → rowIndex file (inputRow Plus file (r .0) (r .1)) j < digitCount file
   unfolding indexAt inAlphabet
   index-below r v j =
       let passes = accepted-passes file accepted in

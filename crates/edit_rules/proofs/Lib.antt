@@ -5,5 +5,7 @@ pub mod Stages
 pub mod Demand
 pub mod Step
 pub mod Follows
+pub mod Orders
+pub mod Reordered
 pub mod Accepted
 pub mod Reach

@@ -2,6 +2,7 @@
 use mathlib.Core.Path.{_≡_, refl, sym, ap, subst, _∙_}
 use mathlib.Core.Bool.{Bool}
 use mathlib.Core.List.{List, [], _∷_}
+use mathlib.Core.Logic.{_⊎_, inl, inr}
 use Prim.Native.Nat.{ℕ, _+_, _-_, _<_, _≤_}
 use native.Mathlib.Decide.{ℕ-discrete, decLt}
 use native.Mathlib.Nat.{zero-add}
@@ -11,8 +12,9 @@ use lib.Dec.{eqb}
 use borrow.Author.Tests.{eq-eqb}
 use Rattle.lists.specs.Overwrite.{overwrite}
 use Rattle.lists.proofs.Overwrite.{length-overwrite}
+use Rattle.lists.proofs.Span.{getD-span}
 use Rattle.faults.specs.Check.{none}
-use Rattle.faults.specs.Outcome.{facts, editor}
+use Rattle.faults.specs.Outcome.{facts, refused, editor}
 use Rattle.faults.specs.Unless.{unless}
 use Rattle.faults.proofs.Exit.{exit-written}
 use Rattle.faults.proofs.Unless.{unless-found, unless-none}
@@ -31,8 +33,9 @@ use Rattle.row_rules.specs.Rows.{RowsFit}
 use Rattle.row_rules.proofs.Fit.{edit-fits}
 use Rattle.row_rules.proofs.Broken.{rows-pass, edit-passes, edit-decided}
 use Rattle.table_rules.specs.Check.{checkFacts, checkOutcome}
-use Rattle.lists.proofs.Entries.{overwrite-before, overwrite-behind}
+use Rattle.lists.proofs.Entries.{overwrite-before, overwrite-in, overwrite-behind}
 use Rattle.adder_rules.specs.Sum.{digitCount}
+use Rattle.adder_rules.specs.Input.{rowIndex}
 use Rattle.adder_rules.specs.Add.{rowPart, outputCheck}
 use Rattle.adder_rules.proofs.Accepted.{row-inputs, accepted-passes, digits-kept}
 use Rattle.edit_rules.specs.declared.EditedFacts.{EditedFacts}
@@ -66,6 +69,15 @@ module _ (file : List ℕ) (e : Change) (s : State) (fits : e .place + renewedCo
   sum-above j h =
       let at : j ≡ e .place + length part + (j - (e .place + length part)) = omega (arith, long) in
       ap (λ (k : ℕ). getD (overwrite (s .sum) (e .place) part) k 0) at ∙ overwrite-behind (s .sum) part (e .place) (omega (arith, long)) (j - (e .place + length part)) ∙ ap (λ (k : ℕ). getD (s .sum) k 0) (sym at)
+
+  -- the digits of the rows as edited at p to p + h, and what was there elsewhere
+  pub sum-inside : (j : ℕ) → e .place ≤ j → j ≤ e .place + tableFacts file .depth → getD (newSum file e s) j 0 ≡ rowIndex file (newInputs file e s) j
+  unfolding newSum rowPart
+  sum-inside j low high =
+      let k : ℕ = j - e .place in
+      let at : j ≡ e .place + k = omega arith in
+      let digit : ℕ → ℕ = rowIndex file (newInputs file e s) in
+      ap (λ (m : ℕ). getD (overwrite (s .sum) (e .place) part) m 0) at ∙ overwrite-in (s .sum) part (e .place) (omega (arith, long)) k (omega (arith, long)) ∙ getD-span (λ m. digit (e .place + m)) 0 (renewedCount file) k 0 (omega arith) ∙ ap digit (omega arith)
 
   pub sum-elsewhere : (j : ℕ) → (e .place ≤ j → j ≤ e .place + tableFacts file .depth → ⊥) → getD (newSum file e s) j 0 ≡ getD (s .sum) j 0
   sum-elsewhere j out =
@@ -106,7 +118,7 @@ module _ (file : List ℕ) (accepted : checkOutcome file ≡ facts (checkFacts f
   fitting z = edit-fits (e .row) (e .place) (e .digit) (length (s .first)) (digitCount file) z
 
   -- a taken edit: no digit is outside the alphabet
-  given : Fits → editOutcome file e s ≡ facts (renewFacts file e s)
+  pub given : Fits → editOutcome file e s ≡ facts (renewFacts file e s)
   given asked =
       let kept : outputCheck file (newInputs file e s) (e .place) (renewedCount file) ≡ none = digits-kept file accepted (newInputs file e s) (row-inputs Plus file (changed e 0 (s .first)) (changed e 1 (s .second)) (length (s .sum)) passes (nothing-asked _ _) (new-fit file e s passes fit asked)) (e .place) (renewedCount file) in
       let known : askedFound file e s .number ≡ 0 = no-number _ (edit-passes (e .row) (e .place) (e .digit) (length (s .first)) (digitCount file) asked) in
@@ -130,21 +142,23 @@ module _ (file : List ℕ) (accepted : checkOutcome file ≡ facts (checkFacts f
         | no some ↦ sym (edit-refused file e s passes rows-none (askedFound file e s) refl some) ∙ sym (unless-found editor (askedFound file e s) (facts whole) some)
       ]
 
-  -- any other leaves all
+  -- any other is refused by 24 to 26, and leaves all
+  pub refusal : (Fits → ⊥) → refused editor (askedFound file e s .number) (askedFound file e s .place) ≡ editOutcome file e s
+  refusal out = edit-refused file e s passes rows-none (askedFound file e s) refl (λ z. out (fitting z))
+
   pub lent-state : (Fits → ⊥) → editState file e s ≡ s
-  lent-state out =
+  lent-state out = refused-lent file e s editor (askedFound file e s .number) (askedFound file e s .place) (sym (refusal out))
+
+  pub taken-or-not : Fits ⊎ (Fits → ⊥)
+  taken-or-not =
       elim (ℕ-discrete (askedFound file e s .number) 0) [
-        | yes z ↦ absurd (out (fitting z))
-        | no some ↦ refused-lent file e s editor (askedFound file e s .number) (askedFound file e s .place) (sym (edit-refused file e s passes rows-none (askedFound file e s) refl some))
+        | yes z ↦ inl (fitting z)
+        | no some ↦ inr (λ asked. some (no-number _ (edit-passes (e .row) (e .place) (e .digit) (length (s .first)) (digitCount file) asked)))
       ]
 
   -- what holds of the buffers written and of those lent holds of the buffers after the edit
-  either-way : (P : State → Type 0) → (Fits → P (written file e s)) → P s → P (editState file e s)
-  either-way P asked lent =
-      elim (ℕ-discrete (askedFound file e s .number) 0) [
-        | yes z ↦ subst P (sym (taken-state (fitting z))) (asked (fitting z))
-        | no some ↦ subst P (sym (lent-state (λ asked. some (no-number _ (edit-passes (e .row) (e .place) (e .digit) (length (s .first)) (digitCount file) asked))))) lent
-      ]
+  pub either-way : (P : State → Type 0) → (Fits → P (written file e s)) → P s → P (editState file e s)
+  either-way P asked lent = elim taken-or-not [ inl is ↦ subst P (sym (taken-state is)) (asked is) | inr out ↦ subst P (sym (lent-state out)) lent ]
 
   pub step : Step file (length (s .first)) e s (editState file e s) (editOutcome file e s)
   step =

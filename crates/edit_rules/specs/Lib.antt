@@ -4,4 +4,5 @@ pub mod Edit
 pub mod Broken
 pub mod Run
 pub mod Follows
+pub mod Orders
 pub mod Edits

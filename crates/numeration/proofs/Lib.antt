@@ -10,5 +10,6 @@ pub mod Shown
 pub mod Runs
 pub mod PairCount
 pub mod Changes
+pub mod Exchange
 pub mod Laws
 pub mod Elements

@@ -17,7 +17,7 @@ module _ {A : Type 0} (o : Operations A) (Element : A → Type 0) (g : AdditiveG
   pub unit-right : {x : A} → Element x → o .sum x (o .none) ≡ x
   unit-right x = g .comm x (g .element-none) ∙ g .unit x
 
-  sum-cancel : {x y z : A} → Element x → Element y → Element z → o .sum x z ≡ o .sum y z → x ≡ y
+  pub sum-cancel : {x y z : A} → Element x → Element y → Element z → o .sum x z ≡ o .sum y z → x ≡ y
   sum-cancel {x} {y} {z} a b c e = sym (undo a) ∙ (ap (λ (t : A). o .sum t (o .difference (o .none) z)) e ∙ undo b)
     where
       inverse : Element (o .difference (o .none) z)

@@ -5,7 +5,7 @@ use Prim.Native.Nat.{ℕ, _<_, _≤_}
 use native.Mathlib.Decide.{ℕ-discrete}
 use native.Mathlib.Omega.{arith}
 use lib.ListN.{length, getD, set, length-set, List·getD-eq-default}
-use lib.Seq.{getD-set-same, getD-set-other}
+use lib.Seq.{getD-set-same, getD-set-other, set-comm}
 use borrow.Author.Tests.{eq-eqb, ne-eqb}
 use Rattle.row_rules.specs.declared.Change.{Change}
 use Rattle.row_rules.specs.Changed.{changed, noChange}
@@ -57,6 +57,18 @@ module _ (change : Change) (number : ℕ) (row : List ℕ) where
     where
       l : k < length row
       l = omega (arith, length-changed)
+
+-- two changes of a row, unless both name the same place of it, in either order
+pub changed-exchange : (one other : Change) (number : ℕ) (row : List ℕ) → (one .row ≡ other .row → one .place ≡ other .place → ⊥)
+    → changed other number (changed one number row) ≡ changed one number (changed other number row)
+changed-exchange one other number row apart =
+    elim (ℕ-discrete (one .row) number) [
+      | yes e ↦ elim (ℕ-discrete (other .row) number) [
+        | yes q ↦ changed-own other number _ q ∙ ap (λ (r : List ℕ). set r (other .place) (other .digit)) (changed-own one number row e) ∙ set-comm row _ _ _ _ (apart (e ∙ sym q)) ∙ sym (changed-own one number _ e ∙ ap (λ (r : List ℕ). set r (one .place) (one .digit)) (changed-own other number row q))
+        | no m ↦ changed-other other number _ m ∙ ap (changed one number) (sym (changed-other other number row m))
+      ]
+      | no m ↦ ap (changed other number) (changed-other one number row m) ∙ sym (changed-other one number _ m)
+    ]
 
 pub unchanged : (number : ℕ) (row : List ℕ) → number < 2 → changed noChange number row ≡ row
 unchanged number row h = changed-other noChange number row (λ e. omega arith)
