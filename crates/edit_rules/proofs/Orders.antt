@@ -1,7 +1,6 @@
 -- Two edits in either order, with a table that the check accepts and rows that pass 20 to 23.
 use mathlib.Core.Path.{_≡_, refl, sym, ap, ap₂, subst, _∙_}
-use mathlib.Core.Bool.{Bool}
-use mathlib.Core.List.{List, [], _∷_}
+use mathlib.Core.List.{List}
 use mathlib.Core.Logic.{_⊎_, inl, inr}
 use Prim.Native.Nat.{ℕ, _+_, _<_, _≤_}
 use native.Mathlib.Decide.{decLe}
@@ -31,16 +30,14 @@ use Rattle.row_rules.proofs.Changed.{length-changed, changed-exchange}
 use Rattle.table_rules.specs.Check.{checkFacts, checkOutcome}
 use Rattle.place_rules.specs.Place.{alphabetIndex, indexAt}
 use Rattle.place_rules.proofs.Place.{index-names}
-use Rattle.adder_rules.specs.Sum.{digitCount, rowDigit, resultFacts}
+use Rattle.adder_rules.specs.Sum.{digitCount, rowDigit}
 use Rattle.adder_rules.specs.Input.{inputRow, rowIndex}
 use Rattle.adder_rules.proofs.Rows.{same-index, same-reach}
 use Rattle.adder_rules.proofs.Accepted.{accepted-passes}
 use Rattle.adder_rules.proofs.Combined.{passed, combined}
-use Rattle.edit_rules.specs.declared.EditedFacts.{EditedFacts}
 use Rattle.edit_rules.specs.Edit.{newSum, written, count, renewFacts, editOutcome, editState}
 use Rattle.edit_rules.specs.State.{State, state, newInputs, renewedCount}
-use Rattle.edit_rules.specs.Run.{editAll}
-use Rattle.edit_rules.specs.Orders.{Different, Apart, Addable, RightSum, Taken, bothOrders, SameCount, Agree}
+use Rattle.edit_rules.specs.Orders.{Different, Apart, Addable, RightSum, Taken, InTurn, inTurn, SameCount, Agree}
 use Rattle.edit_rules.proofs.Count.{failing-ext}
 use Rattle.edit_rules.proofs.Renewed.{new-fit, part-fits}
 use Rattle.edit_rules.proofs.Step.{sum-long, sum-inside, sum-elsewhere, given, taken-state, refusal, lent-state, taken-or-not, either-way}
@@ -271,8 +268,7 @@ module _ (file : List ℕ) (accepted : checkOutcome file ≡ facts (checkFacts f
           ∙ refusal file accepted e (editState file f s) (kept f s fit) (λ asked. out (taken-by-length e (editState file f s) s long asked))
 
   -- Job 10 of document 02: what two edits leave and answer in both orders.
-  pub agree : (s : State) → Addable file s → (e f : Change) → Agree file s e f (bothOrders file e f s s)
-  unfolding editAll
+  pub agree : (s : State) → Addable file s → (e f : Change) → Agree file s e f (inTurn file e f s) (inTurn file f e s)
   agree s adds e f =
       let fit = addable-fit s adds in
       record {
@@ -280,3 +276,9 @@ module _ (file : List ℕ) (accepted : checkOutcome file ≡ facts (checkFacts f
         counts = λ right one other apart. (same-count e f s adds right one other apart, same-count f e s adds right other one (turned e f h apart));
         answers = λ apart. (same-answer e f s fit apart, same-answer f e s fit (turned e f (h + 1) apart));
       }
+
+  -- so it is of two orders that are known by equations, from buffers with the same contents
+  pub agree-found : (s t : State) (e f : Change) (forth back : InTurn) → forth ≡ inTurn file e f s → back ≡ inTurn file f e t → t ≡ s → Addable file s → Agree file s e f forth back
+  agree-found s t e f forth back found also same adds =
+      subst (λ (x : InTurn). Agree file s e f x back) (sym found)
+      (subst (Agree file s e f (inTurn file e f s)) (sym (also ∙ ap (inTurn file f e) same)) (agree s adds e f))

@@ -1,6 +1,6 @@
 -- "Two hands on one sum" (document 02, job 10): two edits in either order, and a list of edits in another order.
 use mathlib.Core.Path.{_≡_}
-use mathlib.Core.Bool.{true, false, _&&_}
+use mathlib.Core.Bool.{Bool, true, false, _&&_}
 use mathlib.Core.List.{List, [], _∷_}
 use mathlib.Core.Logic.{_⊎_}
 use Prim.Native.Nat.{ℕ, _+_, _≤_}
@@ -16,7 +16,6 @@ use Rattle.adder_rules.specs.Calls.{addOutcome, addSum}
 use Rattle.edit_rules.specs.declared.EditedFacts.{EditedFacts}
 use Rattle.edit_rules.specs.State.{State}
 use Rattle.edit_rules.specs.Edit.{editOutcome, editState}
-use Rattle.edit_rules.specs.Run.{editAll}
 
 -- "edits of different cells (row number and place)"
 abbrev pub Different : Change → Change → Type 0
@@ -39,47 +38,36 @@ module _ (file : List ℕ) (s : State) where
   abbrev pub Taken : Change → Type 0
   Taken e = EditFits (e .row) (e .place) (e .digit) (length (s .first)) (digitCount file)
 
--- two edits e and f in both orders: the answers, and the buffers after them
-pub record Orders : Type 0 where
-  -- e and then f
-  pub e-first : Outcome EditedFacts
-  pub f-second : Outcome EditedFacts
-  pub forth : State
-  -- f and then e
-  pub f-first : Outcome EditedFacts
-  pub e-second : Outcome EditedFacts
-  pub back : State
+-- two edits, one after the other: the answers, and the buffers after both
+pub record InTurn : Type 0 where
+  pub first : Outcome EditedFacts
+  pub second : Outcome EditedFacts
+  pub buffers : State
 
--- each order with buffers of its own
-abbrev pub bothOrders : List ℕ → Change → Change → State → State → Orders
-bothOrders file e f s t =
-    record {
-      e-first = editOutcome file e s;
-      f-second = editOutcome file f (editState file e s);
-      forth = editAll file (e ∷ f ∷ []) s;
-      f-first = editOutcome file f t;
-      e-second = editOutcome file e (editState file f t);
-      back = editAll file (f ∷ e ∷ []) t;
-    }
+abbrev pub inTurn : List ℕ → Change → Change → State → InTurn
+inTurn file e f s = record { first = editOutcome file e s; second = editOutcome file f (editState file e s); buffers = editState file f (editState file e s) }
 
 -- two answers aren't refusals, and tell the same count
 abbrev pub SameCount : Outcome EditedFacts → Outcome EditedFacts → Type 0
 SameCount o p = (a b : EditedFacts) × (o ≡ facts a) × (p ≡ facts b) × (a .count ≡ b .count)
 
--- what is promised of two edits of the rows and the sum s
-pub record Agree (file : List ℕ) (s : State) (e f : Change) (o : Orders) : Type 0 where
+-- what is promised of e and then f, and of f and then e, from the same rows and sum
+pub record Agree (file : List ℕ) (s : State) (e f : Change) (forth back : InTurn) : Type 0 where
   -- "either order must leave the same three rows"; the sum needn't be right, and no edit taken
-  pub rows : Different e f → o .forth ≡ o .back
+  pub rows : Different e f → forth .buffers ≡ back .buffers
   -- "each edit must also report the same count in either order": asked for places more than h apart, and true for h
-  pub counts : RightSum file s → Taken file s e → Taken file s f → Apart (tableFacts file .depth) e f → SameCount (o .e-first) (o .e-second) × SameCount (o .f-first) (o .f-second)
+  pub counts : RightSum file s → Taken file s e → Taken file s f → Apart (tableFacts file .depth) e f → SameCount (forth .first) (back .second) × SameCount (back .first) (forth .second)
   -- more than h apart it is the same answer, the reach too; the sum needn't be right
-  pub answers : Apart (tableFacts file .depth + 1) e f → (o .e-first ≡ o .e-second) × (o .f-first ≡ o .f-second)
+  pub answers : Apart (tableFacts file .depth + 1) e f → (forth .first ≡ back .second) × (back .first ≡ forth .second)
 
 -- the edits of a list that name one cell, in their order
-unfoldable pub editsOf : ℕ → ℕ → List Change → List Change
-editsOf row place [] = []
-editsOf row place (e ∷ es) =
-    elim (eqb (e .row) row && eqb (e .place) place) [ true ↦ e ∷ editsOf row place es | false ↦ editsOf row place es ]
+module _ (row place : ℕ) where
+  abbrev pub names : Change → Bool
+  names e = eqb (e .row) row && eqb (e .place) place
+
+  unfoldable pub editsOf : List Change → List Change
+  editsOf [] = []
+  editsOf (e ∷ es) = elim (names e) [ true ↦ e ∷ editsOf es | false ↦ editsOf es ]
 
 -- a list in another order, which keeps the order of the edits of one cell
 abbrev pub Reordered : List Change → List Change → Type 0

@@ -12,6 +12,7 @@ use exercise_calls::values;
 
 mod changes;
 mod lists;
+mod orders;
 
 // M1 to M12
 fn marked() {
@@ -88,6 +89,12 @@ fn degrees_three_and_four() {
     arithmetic::midpoint_of_four();
 }
 
+// Job 10
+fn edits_in_both_orders() {
+    orders::of_bin();
+    orders::of_tern();
+}
+
 fn main() {
     marked();
     tables_and_sums();
@@ -98,5 +105,6 @@ fn main() {
     forecast_tables();
     rows_to_show();
     mirrored_tables();
+    edits_in_both_orders();
     lines::of_files();
 }

@@ -59,4 +59,4 @@ use Rattle.marked.specs.Exercises.{answer, ternWithout, binWithout, binU
 
 pub all-right : AllRight exercises
 unfolding overwrite firstFailing every span baseTrace baseNorm expanding discriminant squareBelow perfectSquare plus negative minus scale timesOmega product unit same dot times columns matrixOf paddedRows corner paddedTimes paddedMatrix trace alternating without determinant judge _then_ inTurn unless sizeAllowed expectedStart pairAllowed directoryCheck lengthAllowed lengthCheck numberPlace numberCount numberAllowed limitCheckIn limitCheckOf limitCheck degreeOf unsignedAt toSigned omegaOf betaOf baseMatrix discriminantAllowed baseAllowed baseCheck recordAllowed alphabetCheck pairIndex pairListed pairsListed allPairsListed inputsAllowed inputCheck digitCheck operationCheck padded partsAt elementAt indexIn agree lower largest begins leafOf depth precedes window outDigit weightInto weightAt convert lengthAt lengthBelow reachOf convertRow elements tail fits pairDigitAt pairString pairRow pairDigit pairPasses upperPasses lowestBadUpper total counted lowerCount pairsBelow pairCount expectedWordStart leafAllowed placeCheck wordIndexCheck orderCheck coverCheck zeroCheck leafCheck runEnd everyRun covered wordGiven weightGiven layoutCheck digitCheckOf leafCheckOf tableCheck partFacts tableFacts readOutcome pairCheckOf checkFacts checkOutcome forecastFacts forecastOutcome shows badRowOutcome written badRowIn inAlphabet badLower badUpper pairCheck badPair unsigned16 signed16 joined recordOf leafRecords directory sections fileOf ternInputs ternWeight ternLeaves ternFile binInputs binWeight2 binWeight1 binLeavesOf binLeaves binFile changed lengthsAllowed indexAllowed indexCheck roomAllowed rowCheck oneRowCheck editCheck partRow indexAt inputRow rowPart outputCheck resultRow digitsOutcome askedOutcome resultOutcome atExit resultIn tally failing newSum count renewOutcome editOutcome editState editAll editAnswers run cubicWith cubic quarticWith quartic root complexRoot answer ternWithout binWithout binUnmirrored exercises editList after runOutcome runAll
-all-right = (refl, (refl, (refl, (refl, (refl, (refl, (refl, (refl, (refl, (refl, (refl, (refl, (refl, (refl, (refl, (refl, (refl, (refl, (refl, (refl, (refl, (refl, (refl, (refl, (refl, (refl, (refl, (refl, (refl, (refl, (refl, (refl, (refl, (refl, (refl, (refl, (refl, (refl, (refl, (refl, (refl, (refl, (refl, (refl, (refl, (refl, (refl, (refl, (refl, (refl, tt))))))))))))))))))))))))))))))))))))))))))))))))))
+all-right = (refl, (refl, (refl, (refl, (refl, (refl, (refl, (refl, (refl, (refl, (refl, (refl, (refl, (refl, (refl, (refl, (refl, (refl, (refl, (refl, (refl, (refl, (refl, (refl, (refl, (refl, (refl, (refl, (refl, (refl, (refl, (refl, (refl, (refl, (refl, (refl, (refl, (refl, (refl, (refl, (refl, (refl, (refl, (refl, (refl, (refl, (refl, (refl, (refl, (refl, (refl, (refl, (refl, (refl, (refl, (refl, tt))))))))))))))))))))))))))))))))))))))))))))))))))))))))

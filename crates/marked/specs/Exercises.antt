@@ -21,6 +21,7 @@ use Rattle.row_rules.specs.declared.Change.{Change}
 use Rattle.edit_rules.specs.declared.EditedFacts.{EditedFacts}
 use Rattle.edit_rules.specs.State.{State, state}
 use Rattle.edit_rules.specs.Run.{run}
+use Rattle.edit_rules.specs.Orders.{InTurn, inTurn}
 use Rattle.runner_rules.specs.declared.RanFacts.{RanFacts}
 use Rattle.runner_rules.specs.Told.{groupsOf, numbersOf, valuesOf}
 use Rattle.runner_rules.specs.Run.{askedEdits, runOutcome, runAll}
@@ -46,6 +47,8 @@ pub data Exercise : Type 0 where
   -- a table file, the buffers, the row numbers, places and digits of edits, and three slices for the answers: the runner's outcome, the
   -- buffers and the slices after it
   lists : List ℕ → State → List ℕ → List ℕ → List ℕ → List ℕ → List ℕ → List ℕ → Exercise
+  -- a table file, the buffers and two edits: their answers and the buffers after them, and the same in the other order
+  orders : List ℕ → State → Change → Change → Exercise
 
 pub data Answer : Type 0 where
   element : List ℤ → Answer
@@ -56,6 +59,7 @@ pub data Answer : Type 0 where
   summed : Outcome AddedFacts → List ℕ → Answer
   ran : State → List (Outcome EditedFacts) → Answer
   listed : Outcome RanFacts → State → List ℕ → List ℕ → List ℕ → Answer
+  ordered : InTurn → InTurn → Answer
 
 -- by the definitions that the contracts cite
 unfoldable pub answer : Exercise → Answer
@@ -70,6 +74,7 @@ answer (runs file first second sum edits) =
 answer (lists file s rows places digits whose numbers values) =
     let es = askedEdits rows places digits whose numbers values in
     listed (runOutcome file s (length es)) (runAll file s es .buffers) (toldIn file s es groupsOf whose) (toldIn file s es numbersOf numbers) (toldIn file s es valuesOf values)
+answer (orders file s e f) = ordered (inTurn file e f s) (inTurn file f e s)
 
 pub record Case : Type 0 where
   pub exercise : Exercise
@@ -126,6 +131,34 @@ table =
     ∷ record { exercise = checks binUnmirrored; expected = outcome (facts (record { depth = 2; leaves = 13; digits = 3; pairs = 65 })) }
     ∷ record { exercise = adds binUnmirrored (1 ∷ []) (0 ∷ []) (9 ∷ 9 ∷ 9 ∷ []); expected = summed (facts (record { places = 3; reach = 2 })) (2 ∷ 1 ∷ 0 ∷ []) }
     ∷ record { exercise = adds binUnmirrored (2 ∷ []) (0 ∷ []) (9 ∷ 9 ∷ 9 ∷ []); expected = summed (facts (record { places = 3; reach = 2 })) (2 ∷ 0 ∷ 0 ∷ []) }
+    -- Job 10, two edits in both orders: at h apart, each alters the place that both reach, and the counts are the same
+    ∷ record {
+      exercise = orders binFile (state (1 ∷ 1 ∷ 0 ∷ 1 ∷ []) (0 ∷ 0 ∷ 0 ∷ 0 ∷ []) (1 ∷ 2 ∷ 1 ∷ 1 ∷ 0 ∷ 0 ∷ 9 ∷ [])) (record { row = 0; place = 0; digit = 0 }) (record { row = 1; place = 2; digit = 1 });
+      expected = ordered (record { first = facts (record { count = 3; reach = 2 }); second = facts (record { count = 3; reach = 2 }); buffers = state (0 ∷ 1 ∷ 0 ∷ 1 ∷ []) (0 ∷ 0 ∷ 1 ∷ 0 ∷ []) (0 ∷ 1 ∷ 2 ∷ 0 ∷ 1 ∷ 0 ∷ 9 ∷ []) }) (record { first = facts (record { count = 3; reach = 2 }); second = facts (record { count = 3; reach = 2 }); buffers = state (0 ∷ 1 ∷ 0 ∷ 1 ∷ []) (0 ∷ 0 ∷ 1 ∷ 0 ∷ []) (0 ∷ 1 ∷ 2 ∷ 0 ∷ 1 ∷ 0 ∷ 9 ∷ []) });
+    }
+    -- Why the conditions stand. One place nearer, and at one place of both rows: the counts differ, and the rows don't
+    ∷ record {
+      exercise = orders binFile (state (0 ∷ 0 ∷ []) (0 ∷ 0 ∷ []) (0 ∷ 0 ∷ 0 ∷ 0 ∷ 9 ∷ [])) (record { row = 0; place = 0; digit = 1 }) (record { row = 0; place = 1; digit = 1 });
+      expected = ordered (record { first = facts (record { count = 1; reach = 2 }); second = facts (record { count = 2; reach = 2 }); buffers = state (1 ∷ 1 ∷ []) (0 ∷ 0 ∷ []) (1 ∷ 2 ∷ 1 ∷ 0 ∷ 9 ∷ []) }) (record { first = facts (record { count = 1; reach = 2 }); second = facts (record { count = 3; reach = 2 }); buffers = state (1 ∷ 1 ∷ []) (0 ∷ 0 ∷ []) (1 ∷ 2 ∷ 1 ∷ 0 ∷ 9 ∷ []) });
+    }
+    ∷ record {
+      exercise = orders ternFile (state (0 ∷ []) (0 ∷ []) (0 ∷ 0 ∷ 9 ∷ [])) (record { row = 0; place = 0; digit = 1 }) (record { row = 1; place = 0; digit = 1 });
+      expected = ordered (record { first = facts (record { count = 1; reach = 1 }); second = facts (record { count = 2; reach = 1 }); buffers = state (1 ∷ []) (1 ∷ []) (3 ∷ 1 ∷ 9 ∷ []) }) (record { first = facts (record { count = 1; reach = 1 }); second = facts (record { count = 2; reach = 1 }); buffers = state (1 ∷ []) (1 ∷ []) (3 ∷ 1 ∷ 9 ∷ []) });
+    }
+    -- of one cell: the rows differ
+    ∷ record {
+      exercise = orders ternFile (state (0 ∷ []) (0 ∷ []) (0 ∷ 0 ∷ 9 ∷ [])) (record { row = 0; place = 0; digit = 0 }) (record { row = 0; place = 0; digit = 1 });
+      expected = ordered (record { first = facts (record { count = 0; reach = 1 }); second = facts (record { count = 1; reach = 1 }); buffers = state (1 ∷ []) (0 ∷ []) (1 ∷ 0 ∷ 9 ∷ []) }) (record { first = facts (record { count = 1; reach = 1 }); second = facts (record { count = 1; reach = 1 }); buffers = state (0 ∷ []) (0 ∷ []) (0 ∷ 0 ∷ 9 ∷ []) });
+    }
+    -- at h apart: the reach differs, and from a sum that isn't right the counts
+    ∷ record {
+      exercise = orders binFile (state (0 ∷ 0 ∷ 0 ∷ []) (0 ∷ 0 ∷ 0 ∷ []) (0 ∷ 0 ∷ 0 ∷ 0 ∷ 0 ∷ 9 ∷ [])) (record { row = 0; place = 0; digit = 0 }) (record { row = 0; place = 2; digit = 1 });
+      expected = ordered (record { first = facts (record { count = 0; reach = 1 }); second = facts (record { count = 1; reach = 2 }); buffers = state (0 ∷ 0 ∷ 1 ∷ []) (0 ∷ 0 ∷ 0 ∷ []) (0 ∷ 0 ∷ 1 ∷ 0 ∷ 0 ∷ 9 ∷ []) }) (record { first = facts (record { count = 1; reach = 2 }); second = facts (record { count = 0; reach = 2 }); buffers = state (0 ∷ 0 ∷ 1 ∷ []) (0 ∷ 0 ∷ 0 ∷ []) (0 ∷ 0 ∷ 1 ∷ 0 ∷ 0 ∷ 9 ∷ []) });
+    }
+    ∷ record {
+      exercise = orders ternFile (state (0 ∷ 0 ∷ []) (0 ∷ 0 ∷ []) (0 ∷ 1 ∷ 0 ∷ 9 ∷ [])) (record { row = 0; place = 0; digit = 0 }) (record { row = 0; place = 1; digit = 0 });
+      expected = ordered (record { first = facts (record { count = 1; reach = 1 }); second = facts (record { count = 0; reach = 1 }); buffers = state (0 ∷ 0 ∷ []) (0 ∷ 0 ∷ []) (0 ∷ 0 ∷ 0 ∷ 9 ∷ []) }) (record { first = facts (record { count = 1; reach = 1 }); second = facts (record { count = 0; reach = 1 }); buffers = state (0 ∷ 0 ∷ []) (0 ∷ 0 ∷ []) (0 ∷ 0 ∷ 0 ∷ 9 ∷ []) });
+    }
     -- M12
     ∷ record { exercise = checks ternWithout; expected = outcome (refused author 14 2) }
     -- Job 13: TERN and BIN; M12's table, which 14 refuses; 256 digits and one more; a table's fault comes first
