@@ -45,7 +45,8 @@ pub record InTurn : Type 0 where
   pub buffers : State
 
 abbrev pub inTurn : List ℕ → Change → Change → State → InTurn
-inTurn file e f s = record { first = editOutcome file e s; second = editOutcome file f (editState file e s); buffers = editState file f (editState file e s) }
+inTurn file e f s =
+    record { first = editOutcome file e s; second = editOutcome file f (editState file e s); buffers = editState file f (editState file e s) }
 
 -- two answers aren't refusals, and tell the same count
 abbrev pub SameCount : Outcome EditedFacts → Outcome EditedFacts → Type 0
@@ -53,11 +54,12 @@ SameCount o p = (a b : EditedFacts) × (o ≡ facts a) × (p ≡ facts b) × (a 
 
 -- what is promised of e and then f, and of f and then e, from the same rows and sum
 pub record Agree (file : List ℕ) (s : State) (e f : Change) (forth back : InTurn) : Type 0 where
-  -- "either order must leave the same three rows"; the sum needn't be right, and no edit taken
+  -- "either order must leave the same three rows"; the sum needn't be right, nor the edits be taken
   pub rows : Different e f → forth .buffers ≡ back .buffers
   -- "each edit must also report the same count in either order": asked for places more than h apart, and true for h
-  pub counts : RightSum file s → Taken file s e → Taken file s f → Apart (tableFacts file .depth) e f → SameCount (forth .first) (back .second) × SameCount (back .first) (forth .second)
-  -- more than h apart it is the same answer, the reach too; the sum needn't be right
+  pub counts : RightSum file s → Taken file s e → Taken file s f → Apart (tableFacts file .depth) e f
+      → SameCount (forth .first) (back .second) × SameCount (back .first) (forth .second)
+  -- more than h apart it is the same answer, the reach too; neither is asked there
   pub answers : Apart (tableFacts file .depth + 1) e f → (forth .first ≡ back .second) × (back .first ≡ forth .second)
 
 -- the edits of a list that name one cell, in their order
@@ -69,6 +71,6 @@ module _ (row place : ℕ) where
   editsOf [] = []
   editsOf (e ∷ es) = elim (names e) [ true ↦ e ∷ editsOf es | false ↦ editsOf es ]
 
--- a list in another order, which keeps the order of the edits of one cell
+-- a list in another order, that of the edits of one cell being kept: each cell has the same edits, in the same order
 abbrev pub Reordered : List Change → List Change → Type 0
 Reordered es fs = (row place : ℕ) → editsOf row place es ≡ editsOf row place fs

@@ -1,10 +1,12 @@
 -- The laws of conversion, one statement each, in document 01's words. Elements are those of any abelian group with an additive map.
-use mathlib.Core.Path.{_≡_, sym, _∙_}
+use mathlib.Core.Path.{_≡_, sym, ap, _∙_}
 use mathlib.Core.Bool.{Bool, true}
-use mathlib.Core.Logic.{_↔_}
+use mathlib.Core.Logic.{_↔_, _⊎_, inl, inr}
 use mathlib.Core.List.{List, map}
 use Prim.Native.Nat.{ℕ, suc, _+_, _<_, _≤_}
+use native.Mathlib.Omega.{arith}
 use lib.ListN.{length, getD, set}
+use lib.Seq.{getD-set-other, set-comm}
 use lib.IntN.{ℤ}
 use Rattle.ring.specs.Product.{product}
 use Rattle.ring.specs.Padded.{width, padded, paddedMatrix}
@@ -32,6 +34,7 @@ use Rattle.numeration.proofs.Sums.{value-topDown}
 use Rattle.numeration.proofs.Pairs.{convert-string, pairs-rows}
 use Rattle.numeration.proofs.Mirrored.{leaf-mirrored, convert-mirrored, reach-mirrored}
 use Rattle.numeration.proofs.Changes.{changeAll-right, rowChanges-local}
+use Rattle.numeration.proofs.Exchange.{AllBut, change-seen}
 
 -- 1. One leaf. With words of 1 to n input digits, each above the previous one at the first place where they differ and neither
 -- beginning the other, and every string of n digits begun by a leaf: no word begins another (`separate` of the record), exactly
@@ -96,3 +99,32 @@ mirrored-rows o Element g f e input c m p i once is row other all also at = (
   convert-mirrored f input c m p once is row other all also at o Element g i e,
   reach-mirrored f input c m p once is row other all also at,
 )
+
+-- 9. Two changes. Where p and q are at least h apart, a digit stored at p alters z(j) exactly if it does so with another digit stored at q. Both
+-- reach one place j at the most, the upper one's own: the lower one alters what j gets from below, q(j−1), and the upper one w(j) − β·q(j).
+pub two-changes : {A : Type 0} (o : Operations A) (Element : A → Type 0) → AdditiveGroup o Element → (input : ℕ → A) (c : Code A) → InGroup o Element input c → 0 < depth c
+    → (row : List ℕ) (p d q e : ℕ) → (p + depth c ≤ q) ⊎ (q + depth c ≤ p) → (j : ℕ)
+    → (convert o input c row j ≡ convert o input c (set row p d) j) ↔ (convert o input c (set row q e) j ≡ convert o input c (set (set row q e) p d) j)
+two-changes o Element g input c i some row p d q e apart j = (
+  change-seen o Element g input c i some row one other both p q (but row p d) (but row q e) both-one (but other p d) apart j,
+  change-seen o Element g input c i some other both row one p q (but other p d) (λ k h. sym (but row q e k h)) (λ k h. sym (both-one k h)) (but row p d) apart j,
+)
+  where
+    one : List ℕ
+    one = set row p d
+
+    other : List ℕ
+    other = set row q e
+
+    both : List ℕ
+    both = set other p d
+
+    but : (r : List ℕ) (k x : ℕ) → AllBut k (set r k x) r
+    but r k x n h = getD-set-other r k n x 0 h
+
+    differ : (p + depth c ≤ q) ⊎ (q + depth c ≤ p) → q ≡ p → ⊥
+    differ (inl a) s = omega arith
+    differ (inr a) s = omega arith
+
+    both-one : AllBut q both one
+    both-one k h = ap (λ (r : List ℕ). getD r k 0) (set-comm row q p e d (differ apart)) ∙ but one q e k h
