@@ -90,7 +90,8 @@ uint64_t yoyomyrtle_subtract(const uint8_t *table, size_t table_len,
                              int64_t *answer, size_t answer_len);
 
 /* Stores a digit at a place of a row (0 the first, 1 the second) and renews the sum places from there to h above it.
- * Facts: how many of these sum bytes changed in word 1, the reach in word 2. */
+ * Facts: how many of these sum bytes changed in word 1, the reach in word 2. Edits of different places or rows may come in any order: what the
+ * buffers hold after them is the same, by a table that the check accepts. */
 uint64_t yoyomyrtle_edit(const uint8_t *table, size_t table_len,
                          uint8_t *first, size_t first_len,
                          uint8_t *second, size_t second_len,
