@@ -1,9 +1,28 @@
-// Two edits in both orders (document 02, job 10). An edit is a row number, a place and an alphabet index.
+// Two edits in both orders (document 02, job 10). An edit is a row number, a place and an alphabet index; the second row has zeros.
 ghost use Prim.Native.Nat.{_≤_};
 ghost use lib.ListN.{length};
 use edit_orders::Turns;
 use exercise_calls::output;
 use row_rules::Change;
+
+const ZEROS: [u8; 4] = [0; 4];
+
+// A first row, its sum with zeros by BIN and a byte behind it; the same of zeros; and a sum of zeros that isn't right.
+const ROW: [u8; 4] = [1, 1, 0, 1];
+
+const SUM: [u8; 7] = [1, 2, 1, 1, 0, 0, 9];
+
+const NONE: [u8; 7] = [0, 0, 0, 0, 0, 0, 9];
+
+const WRONG: [u8; 7] = [0, 1, 0, 0, 0, 0, 9];
+
+fn change(edit: [u8; 3]) -> Change {
+    Change {
+        row: edit[0] as usize,
+        place: edit[1] as usize,
+        digit: edit[2],
+    }
+}
 
 // ` changed K reach R` of either edit, or its fault; then FIRST SECOND SUM.
 fn order(turns: Turns, first: &[u8], second: &[u8], sum: &[u8])
@@ -16,123 +35,46 @@ fn order(turns: Turns, first: &[u8], second: &[u8], sum: &[u8])
     output::buffer(sum);
 }
 
-// `LABEL`, e and then f, and behind a bar f and then e, from the same rows of four digits and the same sum.
-fn turned(
-    label: &[u8],
-    table: &[u8],
-    first: [u8; 4],
-    second: [u8; 4],
-    sum: [u8; 7],
-    e: Change,
-    f: Change,
-) {
-    let mut forth_first = first;
-    let mut forth_second = second;
-    let mut forth_sum = sum;
-    let mut back_first = first;
-    let mut back_second = second;
-    let mut back_sum = sum;
+// `LABEL`, e and then f, and behind a bar f and then e.
+fn turned(label: &[u8], table: &[u8], row: [u8; 4], sum: [u8; 7], e: [u8; 3], f: [u8; 3]) {
+    let mut first = row;
+    let mut second = ZEROS;
+    let mut forth = sum;
+    let mut again = row;
+    let mut other = ZEROS;
+    let mut back = sum;
     let orders = edit_orders::both_orders(
         table,
-        &mut forth_first,
-        &mut forth_second,
-        &mut forth_sum,
-        &mut back_first,
-        &mut back_second,
-        &mut back_sum,
-        e,
-        f,
+        &mut first,
+        &mut second,
+        &mut forth,
+        &mut again,
+        &mut other,
+        &mut back,
+        change(e),
+        change(f),
     );
     output::word(label);
-    order(orders.forth, &forth_first, &forth_second, &forth_sum);
+    order(orders.forth, &first, &second, &forth);
     output::word(b" |");
-    order(orders.back, &back_first, &back_second, &back_sum);
+    order(orders.back, &again, &other, &back);
     output::word(b"\n");
 }
 
-fn change(row: usize, place: usize, digit: u8) -> Change {
-    Change { row, place, digit }
-}
-
-// BIN: h + 1 and h apart the counts are the same, h − 1 apart they aren't, and at h the reach of the first needn't be.
+// BIN: h + 1 and h apart the counts are the same, h − 1 apart they aren't, and h apart the reach needn't be.
 pub fn of_bin() {
     let table = carried::bin();
-    let right = [1u8, 2, 1, 1, 0, 0, 9];
-    turned(
-        b"h + 1 apart",
-        &table,
-        [1, 1, 0, 1],
-        [0; 4],
-        right,
-        change(0, 0, 0),
-        change(1, 3, 2),
-    );
-    turned(
-        b"h apart",
-        &table,
-        [1, 1, 0, 1],
-        [0; 4],
-        right,
-        change(0, 0, 0),
-        change(1, 2, 1),
-    );
-    turned(
-        b"h - 1 apart",
-        &table,
-        [0; 4],
-        [0; 4],
-        [0; 7],
-        change(0, 0, 1),
-        change(0, 1, 1),
-    );
-    turned(
-        b"reach",
-        &table,
-        [0; 4],
-        [0; 4],
-        [0; 7],
-        change(0, 0, 0),
-        change(0, 2, 1),
-    );
+    turned(b"h + 1 apart", &table, ROW, SUM, [0, 0, 0], [1, 3, 2]);
+    turned(b"h apart", &table, ROW, SUM, [0, 0, 0], [1, 2, 1]);
+    turned(b"h - 1 apart", &table, ZEROS, NONE, [0, 0, 1], [0, 1, 1]);
+    turned(b"reach", &table, ZEROS, NONE, [0, 0, 0], [0, 2, 1]);
 }
 
-// TERN: one place of both rows, one cell, a sum that isn't right, and an edit that is refused.
+// TERN: one place of both rows, one place of one row, a sum that isn't right, and an edit that is refused.
 pub fn of_tern() {
     let table = carried::tern();
-    turned(
-        b"one place",
-        &table,
-        [0; 4],
-        [0; 4],
-        [0; 7],
-        change(0, 0, 1),
-        change(1, 0, 1),
-    );
-    turned(
-        b"one entry",
-        &table,
-        [0; 4],
-        [0; 4],
-        [0; 7],
-        change(0, 0, 0),
-        change(0, 0, 1),
-    );
-    turned(
-        b"not right",
-        &table,
-        [0; 4],
-        [0; 4],
-        [0, 1, 0, 0, 0, 0, 0],
-        change(0, 0, 0),
-        change(0, 1, 0),
-    );
-    turned(
-        b"refused",
-        &table,
-        [0; 4],
-        [0; 4],
-        [0; 7],
-        change(2, 0, 0),
-        change(0, 1, 2),
-    );
+    turned(b"both rows", &table, ZEROS, NONE, [0, 0, 1], [1, 0, 1]);
+    turned(b"one row", &table, ZEROS, NONE, [0, 0, 0], [0, 0, 1]);
+    turned(b"not right", &table, ZEROS, WRONG, [0, 0, 0], [0, 1, 0]);
+    turned(b"refused", &table, ZEROS, NONE, [2, 0, 0], [0, 1, 2]);
 }

@@ -28,12 +28,6 @@ module _ {A : Type 0} (o : Operations A) (Element : A → Type 0) (g : AdditiveG
       sum-cancel o Element g (g .element-difference (g .element-sum a b) bz) (g .element-sum own b) bz
       (g .cancel (g .element-sum a b) bz ∙ sym (g .assoc own b bz ∙ ap (o .sum (o .difference x (o .base z))) (g .comm b bz) ∙ sym (g .assoc own bz b) ∙ ap (λ (t : A). o .sum t y) (g .cancel a bz)))
 
-  -- of four sums: x + u and y + u differ as x + v and y + v do
-  sums-differ : {x y x' y' u u' v v' : A} → Element x → Element y → Element u → u ≡ u' → v ≡ v' → x ≡ x' → y ≡ y' → o .sum x u ≡ o .sum y u' → o .sum x' v ≡ o .sum y' v'
-  sums-differ {x} {y} {x'} {y'} {u} {u'} {v} {v'} a b d above below left right same =
-      let parts : x ≡ y = sum-cancel o Element g a b d (same ∙ ap (o .sum y) (sym above)) in
-      ap₂ (o .sum) (sym left ∙ parts ∙ right) below
-
 module _ {A : Type 0} (o : Operations A) (Element : A → Type 0) (g : AdditiveGroup o Element) (input : ℕ → A) (c : Code A) (in-group : InGroup o Element input c) where
   -- what z(j) has of its own place, w(j) − β·q(j)
   own : List ℕ → ℕ → A
@@ -63,6 +57,13 @@ module _ {A : Type 0} (o : Operations A) (Element : A → Type 0) (g : AdditiveG
   -- a row with the digit at p changed, with that at q changed, and with both
   module _ (some : 0 < depth c) (row one other both : List ℕ) (p q : ℕ) (one-is : AllBut p one row) (other-is : AllBut q other row) (both-one : AllBut q both one) (both-other : AllBut p both other)
       (apart : (p + depth c ≤ q) ⊎ (q + depth c ≤ p)) where
+    -- where z(j) is the sum of a part that the digit at q leaves and one that the digit at p leaves
+    by-parts : (j : ℕ) (part rest : List ℕ → A) → ((r : List ℕ) → Element (part r)) → ((r : List ℕ) → Element (rest r)) → ((r : List ℕ) → convert o input c r j ≡ o .sum (part r) (rest r))
+        → ((r s : List ℕ) → AllBut q r s → part r ≡ part s) → ((r s : List ℕ) → AllBut p r s → rest r ≡ rest s) → convert o input c row j ≡ convert o input c one j → convert o input c other j ≡ convert o input c both j
+    by-parts j part rest element also parts left kept same =
+        let equal : part row ≡ part one = sum-cancel o Element g (element row) (element one) (also row) (sym (parts row) ∙ same ∙ parts one ∙ ap (o .sum (part one)) (kept one row one-is)) in
+        parts other ∙ ap₂ (o .sum) (left other row other-is ∙ equal ∙ sym (left both one both-one)) (sym (kept both other both-other)) ∙ sym (parts both)
+
     pub change-seen : (j : ℕ) → convert o input c row j ≡ convert o input c one j → convert o input c other j ≡ convert o input c both j
     change-seen j same =
         elim (decLe p j) [
@@ -87,21 +88,9 @@ module _ {A : Type 0} (o : Operations A) (Element : A → Type 0) (g : AdditiveG
             ∙ same
             ∙ convert-ext o input c one both j (λ i h l. sym (both-one i (λ e. out (omega (arith, e)) (omega (arith, e)))))
 
-        -- both do, the upper one at its own place: it alters what the place has of its own, and the lower one what it gets from below
+        -- both do, at the upper one's own place: it leaves what that place gets from below, and the lower one what it has of its own
         shared : (p + depth c ≤ q) ⊎ (q + depth c ≤ p) → p ≤ j → j ≤ p + depth c → q ≤ j → j ≤ q + depth c → convert o input c other j ≡ convert o input c both j
         shared (inl far) low high from to =
-            let own-one : own row j ≡ own one j = own-ext row one j some (λ i h l. sym (one-is i (λ e. omega (arith, e)))) in
-            let own-both : own other j ≡ own both j = own-ext other both j some (λ i h l. sym (both-other i (λ e. omega (arith, e)))) in
-            let below-other : weightInto c row j ≡ weightInto c other j = weightInto-ext c row other j (λ i h l. sym (other-is i (λ e. omega (arith, e)))) in
-            let below-both : weightInto c one j ≡ weightInto c both j = weightInto-ext c one both j (λ i h l. sym (both-one i (λ e. omega (arith, e)))) in
-            below-first other j
-            ∙ sums-differ o Element g (element-below row j) (element-below one j) (element-own row j) own-one own-both below-other below-both (sym (below-first row j) ∙ same ∙ below-first one j)
-            ∙ sym (below-first both j)
+            by-parts j (λ r. weightInto c r j) (λ r. own r j) (λ r. element-below r j) (λ r. element-own r j) (λ r. below-first r j) (λ r s but. weightInto-ext c r s j (λ i h l. but i (λ e. omega (arith, e)))) (λ r s but. own-ext r s j some (λ i h l. but i (λ e. omega (arith, e)))) same
         shared (inr far) low high from to =
-            let own-other : own row j ≡ own other j = own-ext row other j some (λ i h l. sym (other-is i (λ e. omega (arith, e)))) in
-            let own-both : own one j ≡ own both j = own-ext one both j some (λ i h l. sym (both-one i (λ e. omega (arith, e)))) in
-            let below-one : weightInto c row j ≡ weightInto c one j = weightInto-ext c row one j (λ i h l. sym (one-is i (λ e. omega (arith, e)))) in
-            let below-both : weightInto c other j ≡ weightInto c both j = weightInto-ext c other both j (λ i h l. sym (both-other i (λ e. omega (arith, e)))) in
-            own-first other j
-            ∙ sums-differ o Element g (element-own row j) (element-own one j) (element-below row j) below-one below-both own-other own-both (sym (own-first row j) ∙ same ∙ own-first one j)
-            ∙ sym (own-first both j)
+            by-parts j (λ r. own r j) (λ r. weightInto c r j) (λ r. element-own r j) (λ r. element-below r j) (λ r. own-first r j) (λ r s but. own-ext r s j some (λ i h l. but i (λ e. omega (arith, e)))) (λ r s but. weightInto-ext c r s j (λ i h l. but i (λ e. omega (arith, e)))) same
