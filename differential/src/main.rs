@@ -23,6 +23,7 @@ mod looks;
 mod mirrors;
 mod model;
 mod needles;
+mod orders;
 mod pairs;
 mod pool;
 mod random;
@@ -159,6 +160,7 @@ fn find_mistakes(pool: &Pool, request: &Request) -> bool {
     for mistake in wrong::mistakes() {
         let subject = wrong::Wrong::new(mistake);
         let mut comparison = Comparison::new(&subject);
+        comparison.orders = mistake.law_of_orders();
         let found = |comparison: &Comparison| match mistake.breaks_a_law() {
             true => comparison.broken_laws > 0,
             false => !comparison.differences.is_empty(),
