@@ -2,7 +2,7 @@
 //! number, so a case that differs can be repeated alone by naming it as FIRST with 1 as CASES.
 //!
 //! `differential --self SEED CASES` runs the reference against itself, to see what the cases reach; `differential --mistakes SEED
-//! CASES` runs implementations with one mistake each, to see that every mistake is found.
+//! CASES` runs implementations with one mistake each, and laws that demand too much, to see that every mistake is found.
 #![deny(unsafe_code)]
 
 #[cfg(feature = "library")]

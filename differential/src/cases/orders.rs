@@ -23,12 +23,12 @@ pub fn orders(pool: &Pool, comparison: &mut Comparison, random: &mut Random) {
     let [e, f] = edits;
     let one = in_turn(&[e, f], &lent, comparison);
     let other = in_turn(&[f, e], &lent, comparison);
+    let taken = |edit: Asked| is_taken(edit, lent.first.len(), parts.alphabet.len());
     let standing = Standing {
         distance: e.1.abs_diff(f.1),
         depth: depth(&parts) as u64,
         one_target: target(e) == target(f),
-        taken: edits.map(|edit| is_taken(edit, lent.first.len(), parts.alphabet.len()))
-            == [true; 2],
+        taken: taken(e) && taken(f),
         right,
     };
     let same = compare(&one, &other);

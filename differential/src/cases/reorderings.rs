@@ -26,9 +26,10 @@ pub fn reorderings(pool: &Pool, comparison: &mut Comparison, random: &mut Random
     let left = [&one, &other].map(|made| made.last().map(|own| three_rows(&own.lent)));
     let same_rows = left[0] == left[1];
     let same_total = total(&one) == total(&other);
-    let refused = |edit: &Asked| !is_taken(*edit, lent.first.len(), parts.alphabet.len());
+    let taken = |edit: &Asked| is_taken(*edit, lent.first.len(), parts.alphabet.len());
+    let refused = !edits.iter().all(taken);
     comparison.count_holding(match kept {
-        true => kinds::orders::of_reordering(&edits, edits.iter().any(refused), right, same_total),
+        true => kinds::orders::of_reordering([&edits, &others], refused, right, same_total),
         false => kinds::orders::of_turned_targets(same_rows),
     });
     let law = comparison.orders;

@@ -89,14 +89,14 @@ pub fn of_sums(edits: [Asked; 2], standing: &Standing, sums: [&Vec<u8>; 3]) -> V
 
 /// Of a list in an order that keeps targets.
 pub fn of_reordering(
-    edits: &[Asked],
+    [edits, others]: [&[Asked]; 2],
     refused: bool,
     right: bool,
     same_total: bool,
 ) -> Vec<(bool, Kind)> {
     let targets: BTreeSet<_> = edits.iter().map(|edit| target(*edit)).collect();
     vec![
-        (true, Kind::Reordered),
+        (edits != others, Kind::Reordered),
         (refused, Kind::ReorderedWithRefused),
         (targets.len() < edits.len(), Kind::ReorderedRepeats),
         (!right, Kind::ReorderedFromAnySum),
