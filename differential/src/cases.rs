@@ -5,6 +5,8 @@ mod forecasts;
 mod lending;
 mod lists;
 mod mirrored;
+mod orders;
+mod reorderings;
 mod values;
 
 use reference::Parts;
@@ -22,7 +24,7 @@ use lists::{ask, edits, random_edit, subtraction};
 
 /// Runs one case.
 pub fn run(pool: &Pool, comparison: &mut Comparison, random: &mut Random) {
-    match random.below(117) {
+    match random.below(123) {
         0..=16 => lists::list_of_edits(pool, comparison, random),
         17..=24 => lists::runs(pool, comparison, random),
         25..=28 => lists::needle(pool, comparison, random),
@@ -39,7 +41,9 @@ pub fn run(pool: &Pool, comparison: &mut Comparison, random: &mut Random) {
         97..=99 => short_buffers(pool, comparison, random),
         100..=102 => forecasts::forecasts(pool, comparison, random),
         103..=110 => bad_rows::bad_rows(pool, comparison, random),
-        _ => mirrored::mirrored(pool, comparison, random),
+        111..=116 => mirrored::mirrored(pool, comparison, random),
+        117..=120 => orders::orders(pool, comparison, random),
+        _ => reorderings::reorderings(pool, comparison, random),
     }
 }
 

@@ -1,5 +1,7 @@
 //! The C interface as data: a call, and the buffers lent to it.
 
+use reference::Asked;
+
 /// The words that the answer array has at least; a call with fewer does nothing and returns `TOO_SHORT`.
 pub const ANSWER_WORDS: usize = 8;
 
@@ -35,6 +37,11 @@ pub enum Call {
 }
 
 impl Call {
+    /// An edit by its numbers.
+    pub fn edit((row, place, digit): Asked) -> Self {
+        Call::Edit { row, place, digit }
+    }
+
     pub fn name(&self) -> &'static str {
         match self {
             Call::Check => "check",
@@ -82,7 +89,7 @@ impl Lent {
     }
 
     /// The numbers of the edits that are listed whole and have room for their answers.
-    pub fn asked(&self) -> Vec<(u64, u64, u64)> {
+    pub fn asked(&self) -> Vec<Asked> {
         let told = self.whose.iter().zip(&self.numbers).zip(&self.values);
         let listed = self.rows.iter().zip(&self.places).zip(&self.digits);
         listed

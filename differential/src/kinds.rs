@@ -1,11 +1,12 @@
 //! Kinds of cases that a refusal number alone doesn't tell apart: those of subtraction and of input digits beyond the sums (job 2),
 //! those of midpoints at the half (job 6), those of the reach (job 7), those of degree three and four (job 8), those of the forecast
-//! (job 13), those of bad rows (job 5), and those of mirrored tables (job 3).
+//! (job 13), those of bad rows (job 5), those of mirrored tables (job 3), and those of orders of edits (job 10).
 
 mod bad_row;
 mod degrees;
 mod forecast;
 pub mod mirrored;
+pub mod orders;
 mod reach;
 
 use crate::further::{self, Digits};
@@ -173,11 +174,54 @@ pub enum Kind {
     /// By one that isn't: digits that aren't the negated ones, and another reach.
     OtherDigits,
     OtherReach,
+    /// Two edits in either order (job 10), neither refused: of one target; of one place in both rows; of places less than h apart, h apart, h + 1
+    /// apart, and further apart; both in one row.
+    OrdersOfOneTarget,
+    OrdersOfOnePlace,
+    OrdersNear,
+    OrdersAtDepth,
+    OrdersJustBeyond,
+    OrdersFarApart,
+    OrdersInOneRow,
+    /// With a refused edit; by TERN, by BIN, by a table of degree three, of degree four, of depth eight; from a sum that isn't addition's.
+    OrdersWithRefused,
+    OrdersByTern,
+    OrdersByBin,
+    OrdersOfThree,
+    OrdersOfFour,
+    OrdersByDeepest,
+    OrdersFromAnySum,
+    /// What was demanded of both orders: the same three rows; the same counts for places h apart, and for ones further apart, among all of them from
+    /// a sum that isn't addition's; the same reach.
+    RowsDemanded,
+    CountsDemandedAtDepth,
+    CountsDemandedBeyond,
+    CountsDemandedFromAnySum,
+    ReachDemanded,
+    /// From a right sum, places h apart, and both edits change the place of the sum that both renew.
+    SharedPlaceChanges,
+    /// What differed where nothing was demanded: three rows for one target; counts from a right sum for places less than h apart; counts from
+    /// another sum for places h apart, and the reach.
+    RowsDifferOfOneTarget,
+    CountsDifferNear,
+    CountsDifferAtDepth,
+    ReachDiffersAtDepth,
+    /// A list in an order that keeps targets; with refused edits; with several edits of a target; from a sum that isn't addition's; through the
+    /// runner. Counts that add up to another number.
+    Reordered,
+    ReorderedWithRefused,
+    ReorderedRepeats,
+    ReorderedFromAnySum,
+    ReorderedRuns,
+    TotalsDiffer,
+    /// A list in an order that doesn't keep targets, and one that leaves other rows.
+    TargetsTurned,
+    RowsDifferTurned,
 }
 
 impl Kind {
     /// All of them, for the report of those that a run missed.
-    pub const ALL: [Kind; 108] = [
+    pub const ALL: [Kind; 140] = [
         Kind::Subtracted,
         Kind::SubtractedByFurther,
         Kind::UnlistedFromZero,
@@ -286,6 +330,38 @@ impl Kind {
         Kind::NegatedRefused,
         Kind::OtherDigits,
         Kind::OtherReach,
+        Kind::OrdersOfOneTarget,
+        Kind::OrdersOfOnePlace,
+        Kind::OrdersNear,
+        Kind::OrdersAtDepth,
+        Kind::OrdersJustBeyond,
+        Kind::OrdersFarApart,
+        Kind::OrdersInOneRow,
+        Kind::OrdersWithRefused,
+        Kind::OrdersByTern,
+        Kind::OrdersByBin,
+        Kind::OrdersOfThree,
+        Kind::OrdersOfFour,
+        Kind::OrdersByDeepest,
+        Kind::OrdersFromAnySum,
+        Kind::RowsDemanded,
+        Kind::CountsDemandedAtDepth,
+        Kind::CountsDemandedBeyond,
+        Kind::CountsDemandedFromAnySum,
+        Kind::ReachDemanded,
+        Kind::SharedPlaceChanges,
+        Kind::RowsDifferOfOneTarget,
+        Kind::CountsDifferNear,
+        Kind::CountsDifferAtDepth,
+        Kind::ReachDiffersAtDepth,
+        Kind::Reordered,
+        Kind::ReorderedWithRefused,
+        Kind::ReorderedRepeats,
+        Kind::ReorderedFromAnySum,
+        Kind::ReorderedRuns,
+        Kind::TotalsDiffer,
+        Kind::TargetsTurned,
+        Kind::RowsDifferTurned,
     ];
 }
 

@@ -2,7 +2,7 @@
 //! number, so a case that differs can be repeated alone by naming it as FIRST with 1 as CASES.
 //!
 //! `differential --self SEED CASES` runs the reference against itself, to see what the cases reach; `differential --mistakes SEED
-//! CASES` runs implementations with one mistake each, to see that every mistake is found.
+//! CASES` runs implementations with one mistake each, and laws that demand too much, to see that every mistake is found.
 #![deny(unsafe_code)]
 
 #[cfg(feature = "library")]
@@ -23,6 +23,7 @@ mod looks;
 mod mirrors;
 mod model;
 mod needles;
+mod orders;
 mod pairs;
 mod pool;
 mod random;
@@ -159,6 +160,7 @@ fn find_mistakes(pool: &Pool, request: &Request) -> bool {
     for mistake in wrong::mistakes() {
         let subject = wrong::Wrong::new(mistake);
         let mut comparison = Comparison::new(&subject);
+        comparison.orders = mistake.law_of_orders();
         let found = |comparison: &Comparison| match mistake.breaks_a_law() {
             true => comparison.broken_laws > 0,
             false => !comparison.differences.is_empty(),

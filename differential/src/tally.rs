@@ -5,6 +5,7 @@ use std::collections::BTreeMap;
 use crate::interface::{Call, Calls, Lent, FACTS, FAULT};
 use crate::kinds::{self, Kind};
 use crate::model::Model;
+use crate::orders::Law;
 
 /// How a call ended, as counted.
 #[derive(Clone, Copy, Debug, PartialEq, Eq, PartialOrd, Ord)]
@@ -29,6 +30,8 @@ pub struct Comparison<'a> {
     kinds: BTreeMap<Kind, u64>,
     /// How many laws were broken.
     pub broken_laws: u64,
+    /// The law of orders, a wrong one where that is the mistake.
+    pub orders: Law,
     /// The row lengths of additions, subtractions, edits and runs.
     lengths: BTreeMap<usize, u64>,
     /// Leaves and depth of the largest codes that the check accepted.
@@ -45,6 +48,7 @@ impl<'a> Comparison<'a> {
             differences: Vec::new(),
             kinds: BTreeMap::new(),
             broken_laws: 0,
+            orders: Law::Right,
             lengths: BTreeMap::new(),
             largest: (0, 0),
             case: 0,
@@ -101,6 +105,13 @@ impl<'a> Comparison<'a> {
     /// One more case of a kind.
     pub fn count_kind(&mut self, kind: Kind) {
         *self.kinds.entry(kind).or_default() += 1;
+    }
+
+    /// One more case of each of some kinds that holds.
+    pub fn count_holding(&mut self, kinds: Vec<(bool, Kind)>) {
+        for kind in kinds::holding(kinds) {
+            self.count_kind(kind);
+        }
     }
 
     /// A law that the answers of several calls have to keep; a difference where they don't.

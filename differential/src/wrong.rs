@@ -5,15 +5,17 @@ mod carried;
 mod degrees;
 mod forecast;
 mod midpoint;
+mod orders;
 mod reach;
 mod subtraction;
 
-use std::cell::Cell;
+use std::cell::{Cell, RefCell};
 
 use reference::Element;
 
 use crate::interface::{Call, Calls, Lent, FACTS, FAULT, TOO_SHORT};
 use crate::model::Model;
+use crate::orders::Law;
 
 /// What is wrong with an implementation that is otherwise the reference.
 #[derive(Clone, Copy, Debug, PartialEq, Eq)]
@@ -118,6 +120,10 @@ pub enum Mistake {
     Carried(&'static str, carried::Formed),
     /// Addition or subtraction breaks the law of negated rows.
     Negative(&'static str, carried::Negative),
+    /// An edit breaks the law of orders.
+    Order(orders::Slip),
+    /// Nothing is wrong but the law of orders itself, which demands too much.
+    WrongLaw(Law),
     /// The place of one refusal number is one too high in subtraction.
     SubtractPlaceOff(i64),
     /// The place of one refusal number is one too high.
@@ -129,7 +135,18 @@ pub enum Mistake {
 impl Mistake {
     /// A law has to find it by the implementation's own answers, without the reference's.
     pub fn breaks_a_law(self) -> bool {
-        matches!(self, Mistake::Negative(..))
+        matches!(
+            self,
+            Mistake::Negative(..) | Mistake::Order(_) | Mistake::WrongLaw(_)
+        )
+    }
+
+    /// The law of orders that is demanded.
+    pub fn law_of_orders(self) -> Law {
+        match self {
+            Mistake::WrongLaw(law) => law,
+            _ => Law::Right,
+        }
     }
 }
 
@@ -171,6 +188,7 @@ pub fn mistakes() -> Vec<Mistake> {
     all.extend(forecast::mistakes());
     all.extend(bad_row::mistakes());
     all.extend(carried::mistakes());
+    all.extend(orders::mistakes());
     all.extend(NUMBERS.map(PlaceOff));
     all.extend(NUMBERS.map(NumberOff));
     all
@@ -180,6 +198,7 @@ pub fn mistakes() -> Vec<Mistake> {
 pub struct Wrong {
     pub mistake: Mistake,
     edited: Cell<bool>,
+    last: RefCell<Option<orders::Last>>,
 }
 
 impl Wrong {
@@ -187,6 +206,7 @@ impl Wrong {
         Wrong {
             mistake,
             edited: Cell::new(false),
+            last: RefCell::new(None),
         }
     }
 }
@@ -207,6 +227,9 @@ impl Calls for Wrong {
         }
         if let Mistake::Negative(name, slip) = self.mistake {
             return carried::negative(name, slip, call, lent);
+        }
+        if let Mistake::Order(slip) = self.mistake {
+            return orders::call(slip, &self.last, call, lent);
         }
         let before = lent.clone();
         let returned = Model.call(&self.asked(call), lent);

@@ -1,6 +1,7 @@
 //! An independent implementation of document 01: the table check, addition, the digit edit, lists of edits, the value of a row and the midpoint;
 //! and of what jobs of document 02 add: subtraction, with input digits beyond the sums (job 2), the reach (job 7), rings of degree three
-//! and four (job 8), the forecast (job 13), the row that refusal 14 is about (job 5), and which tables are mirrored (job 3).
+//! and four (job 8), the forecast (job 13), the row that refusal 14 is about (job 5), which tables are mirrored (job 3), and which lists of edits
+//! are reorderings that keep the edits of each target in their order (job 10).
 //!
 //! It exists to be compared with the proved library, so it shares nothing with it. It was written from the papers alone, and where
 //! there was a choice it takes the way that is easiest to believe and not the fastest: words in a hash map, sums in a set, rule 12 by
@@ -18,6 +19,7 @@ pub mod element;
 pub mod file;
 pub mod mirrored;
 pub mod reach;
+pub mod reorderings;
 pub mod ring;
 pub mod table;
 

@@ -5,12 +5,14 @@
 #[allow(dead_code)]
 mod common;
 mod larger;
+mod short;
 
 use common::{longer_parts, longer_words};
 use larger::{bin_of, three_carries};
 use reference::mirrored::{is_mirrored, negated_row};
 use reference::table::{read, Table};
 use reference::{bin, by_table, carried, check, tern, Answer, Operation, Parts, RowFacts};
+use short::{pairs, rows};
 
 const OPERATIONS: [Operation; 2] = [Operation::Sum, Operation::Difference];
 
@@ -48,17 +50,6 @@ fn holds(operation: Operation, file: &[u8], rows: [&[u8]; 2]) -> bool {
     of_negated == facts && negated_row(&table_of(file), &digits) == Some(others)
 }
 
-/// Every row of some length of some digits.
-fn rows(digits: &[u8], length: usize) -> Vec<Vec<u8>> {
-    let longer = |row: &Vec<u8>| -> Vec<Vec<u8>> {
-        let with = |digit: &u8| [&row[..], &[*digit]].concat();
-        digits.iter().map(with).collect()
-    };
-    (0..length).fold(vec![Vec::new()], |all, _| {
-        all.iter().flat_map(longer).collect()
-    })
-}
-
 /// The law for every two rows of up to so many of the digits that have a negated one. The table is accepted and mirrored.
 fn holds_for_short_rows(file: &[u8], longest: usize) {
     assert!(is_accepted(file));
@@ -69,7 +60,7 @@ fn holds_for_short_rows(file: &[u8], longest: usize) {
     let negatable: Vec<u8> = negatable.collect();
     for length in 0..=longest {
         let all = rows(&negatable, length);
-        for (first, second) in all.iter().flat_map(|x| all.iter().map(move |y| (x, y))) {
+        for (first, second) in pairs(&all) {
             for operation in OPERATIONS {
                 let pair = [&first[..], second];
                 assert!(holds(operation, file, pair), "{operation:?} {pair:?}");

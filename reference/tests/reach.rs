@@ -1,11 +1,13 @@
 //! The reach (job 7): the longest word among the leaves that a call looks up, and the look-up that says its word's length.
 
 mod common;
+mod short;
 
 use common::{buffer, lines, longer_words};
 use reference::{
     add, bin, edit, look_up, subtract, tern, Answer, EditFacts, Fault, Group, LeafFacts, RowFacts,
 };
+use short::{pairs, rows};
 
 const BIN_DIGITS: [i64; 3] = [0, 1, -1];
 
@@ -35,17 +37,6 @@ fn reach_of_edit(table: &[u8], first: &[u8], second: &[u8], place: u64, digit: u
     }
 }
 
-/// Every row of some length.
-fn rows(digits: u8, length: usize) -> Vec<Vec<u8>> {
-    let longer = |row: &Vec<u8>| -> Vec<Vec<u8>> {
-        let with = |digit| [row.clone(), vec![digit]].concat();
-        (0..digits).map(with).collect()
-    };
-    (0..length).fold(vec![Vec::new()], |all, _| {
-        all.iter().flat_map(longer).collect()
-    })
-}
-
 /// In BIN a word is two long exactly where its first digit is odd, and outside the rows no input is.
 fn reach_in_bin(inputs: &[i64], places: std::ops::RangeInclusive<usize>) -> usize {
     let odd = inputs
@@ -59,11 +50,11 @@ fn reach_in_bin(inputs: &[i64], places: std::ops::RangeInclusive<usize>) -> usiz
 fn every_short_row_of_bin() {
     let digit = |index: &u8| BIN_DIGITS[usize::from(*index)];
     for length in 0..=3 {
-        let all = rows(3, length);
-        for (first, second) in all.iter().flat_map(|x| all.iter().map(move |y| (x, y))) {
-            let pairs = || first.iter().zip(second);
-            let sums: Vec<i64> = pairs().map(|(x, y)| digit(x) + digit(y)).collect();
-            let differences: Vec<i64> = pairs().map(|(x, y)| digit(x) - digit(y)).collect();
+        let all = rows(&[0, 1, 2], length);
+        for (first, second) in pairs(&all) {
+            let digits = || first.iter().zip(second);
+            let sums: Vec<i64> = digits().map(|(x, y)| digit(x) + digit(y)).collect();
+            let differences: Vec<i64> = digits().map(|(x, y)| digit(x) - digit(y)).collect();
             let places = 0..=length + 1;
             assert_eq!(
                 reach_of_sum(&bin(), first, second),
@@ -81,7 +72,7 @@ fn every_short_row_of_bin() {
 fn every_edit_of_rows_of_bin() {
     // Five places, so that some lie below p − 1 and above p + 2; the second row's digit 1 makes odd sums of 0 and even ones of 1, −1.
     let second = [0, 1, 0, 1, 0];
-    for first in rows(3, 5) {
+    for first in rows(&[0, 1, 2], 5) {
         for (place, new) in (0..5).flat_map(|place| (0..3).map(move |new| (place, new))) {
             let mut edited = first.clone();
             edited[place] = new as u8;
@@ -105,8 +96,8 @@ fn every_edit_of_rows_of_bin() {
 #[test]
 fn tern_never_looks_below() {
     for length in 0..=2 {
-        let all = rows(5, length);
-        for (first, second) in all.iter().flat_map(|x| all.iter().map(move |y| (x, y))) {
+        let all = rows(&[0, 1, 2, 3, 4], length);
+        for (first, second) in pairs(&all) {
             assert_eq!(reach_of_sum(&tern(), first, second), 1);
             assert_eq!(reach_of_difference(&tern(), first, second), 1);
             for (place, new) in (0..length).flat_map(|place| (0..5).map(move |new| (place, new))) {

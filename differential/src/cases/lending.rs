@@ -10,19 +10,30 @@ use crate::random::Random;
 pub fn lend(parts: &Parts, table: Vec<u8>, random: &mut Random) -> Lent {
     let length = row_length(random);
     let whole = length + depth(parts);
-    let sum = match random.below(12) {
+    let room = match random.below(12) {
         0 => whole.saturating_sub(1),
         1 => random.below(whole + 1),
         2..=5 => whole + 1 + random.below(20),
         _ => whole,
     };
+    lend_rows(parts, table, length, room, random)
+}
+
+/// Rows of some length with so many bytes for the sum, which hold anything, and a whole answer array.
+pub fn lend_rows(
+    parts: &Parts,
+    table: Vec<u8>,
+    length: usize,
+    room: usize,
+    random: &mut Random,
+) -> Lent {
     let first = row(parts, length, random);
     let second = row(parts, length, random);
     Lent {
         table,
         first,
         second,
-        sum: random.bytes(sum),
+        sum: random.bytes(room),
         answer: answer_array(random),
         ..Lent::default()
     }

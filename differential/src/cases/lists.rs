@@ -1,6 +1,6 @@
 //! Lists of edits, one by one and through the runner, and what else starts from an addition.
 
-use reference::{Element, Operation, Parts};
+use reference::{Asked, Element, Operation, Parts};
 
 use super::forecasts;
 use super::lending::{answer_array, lend, spoil_rows};
@@ -152,13 +152,10 @@ pub fn ask(parts: &Parts, lent: &mut Lent, random: &mut Random) {
         _ => 8,
     };
     let length = lent.first.len();
-    let edits: Vec<[u64; 3]> = (0..random.below(most + 1))
+    let edits: Vec<Asked> = (0..random.below(most + 1))
         .map(|_| edit_numbers(parts, length, random))
         .collect();
-    let kind = |at: usize| edits.iter().map(|edit| edit[at] as usize).collect();
-    [lent.rows, lent.places, lent.digits] = [kind(0), kind(1), kind(2)];
-    let mut any = || edits.iter().map(|_| random.next() as usize).collect();
-    [lent.whose, lent.numbers, lent.values] = [any(), any(), any()];
+    list_edits(&edits, lent, random);
     let slices = [
         &mut lent.rows,
         &mut lent.places,
@@ -176,26 +173,43 @@ pub fn ask(parts: &Parts, lent: &mut Lent, random: &mut Random) {
     }
 }
 
-/// The numbers of an edit, mostly of one that is taken; otherwise just too large, far too large, or right only in their low bits.
-fn edit_numbers(parts: &Parts, length: usize, random: &mut Random) -> [u64; 3] {
-    let mut numbers = [0; 3];
-    for (number, bound) in numbers.iter_mut().zip([2, length, parts.alphabet.len()]) {
-        let good = random.below(bound.max(1)) as u64;
-        let bound = bound as u64;
-        *number = match random.below(60) {
-            0 => bound,
-            1 => bound + random.below(300) as u64,
-            2 => random.pick(&[1 << 8, 1 << 16, 1 << 31, 1 << 32, 1 << 63]) + good,
-            3 => random.pick(&[u64::MAX, u64::MAX - 1, i64::MAX as u64]),
-            4 => random.next(),
-            _ => good,
-        };
-    }
-    numbers
+/// The numbers of edits and slices for their answers, which hold anything; all six have one entry for each edit.
+pub fn list_edits(edits: &[Asked], lent: &mut Lent, random: &mut Random) {
+    let kind = |number: fn(&Asked) -> u64| edits.iter().map(|edit| number(edit) as usize).collect();
+    [lent.rows, lent.places, lent.digits] = [
+        kind(|edit| edit.0),
+        kind(|edit| edit.1),
+        kind(|edit| edit.2),
+    ];
+    let mut any = || edits.iter().map(|_| random.next() as usize).collect();
+    [lent.whose, lent.numbers, lent.values] = [any(), any(), any()];
+}
+
+/// The numbers of an edit, mostly of one that is taken.
+pub fn edit_numbers(parts: &Parts, length: usize, random: &mut Random) -> Asked {
+    let [row, place, digit] =
+        [2, length, parts.alphabet.len()].map(|bound| match random.one_in(12) {
+            true => too_large(bound, random),
+            false => random.below(bound.max(1)) as u64,
+        });
+    (row, place, digit)
+}
+
+/// A number that isn't below the bound: just too large, far too large, or right only in its low bits.
+pub fn too_large(bound: usize, random: &mut Random) -> u64 {
+    let good = random.below(bound.max(1)) as u64;
+    let bound = bound as u64;
+    let number = match random.below(5) {
+        0 => bound,
+        1 => bound + random.below(300) as u64,
+        2 => random.pick(&[1 << 8, 1 << 16, 1 << 31, 1 << 32, 1 << 63]) + good,
+        3 => random.pick(&[u64::MAX, u64::MAX - 1, i64::MAX as u64]),
+        _ => random.next(),
+    };
+    number.max(bound)
 }
 
 /// An edit with such numbers.
 pub fn random_edit(parts: &Parts, length: usize, random: &mut Random) -> Call {
-    let [row, place, digit] = edit_numbers(parts, length, random);
-    Call::Edit { row, place, digit }
+    Call::edit(edit_numbers(parts, length, random))
 }

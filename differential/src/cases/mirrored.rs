@@ -7,7 +7,7 @@ use reference::Parts;
 
 use super::lending::lend;
 use crate::interface::{Call, Lent, FACTS};
-use crate::kinds::{self, Kind};
+use crate::kinds;
 use crate::mirrors;
 use crate::pool::Pool;
 use crate::random::Random;
@@ -27,10 +27,7 @@ pub fn mirrored(pool: &Pool, comparison: &mut Comparison, random: &mut Random) {
         return;
     };
     let mirrored = is_mirrored(&table);
-    count(
-        comparison,
-        kinds::mirrored::of_table(&lent, &table, mirrored),
-    );
+    comparison.count_holding(kinds::mirrored::of_table(&lent, &table, mirrored));
     let negated = negate(&table, &mut lent);
     for call in [Call::Add, Call::Subtract] {
         let mut apart = [lent.clone(), negated.clone()];
@@ -38,21 +35,14 @@ pub fn mirrored(pool: &Pool, comparison: &mut Comparison, random: &mut Random) {
         let (outcome, own) = (answers[0].0, answers.map(|answer| answer.1));
         match (mirrored, outcome) {
             (true, _) => {
-                count(comparison, kinds::mirrored::kept(call, outcome));
+                comparison.count_holding(kinds::mirrored::kept(call, outcome));
                 demand(&table, call, own, comparison);
             }
-            (false, Outcome::Facts) => count(
-                comparison,
-                kinds::mirrored::broken(&table, &apart[0], &apart[1]),
-            ),
+            (false, Outcome::Facts) => {
+                comparison.count_holding(kinds::mirrored::broken(&table, &apart[0], &apart[1]))
+            }
             _ => (),
         }
-    }
-}
-
-fn count(comparison: &mut Comparison, met: Vec<(bool, Kind)>) {
-    for kind in kinds::holding(met) {
-        comparison.count_kind(kind);
     }
 }
 

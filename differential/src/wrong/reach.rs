@@ -134,8 +134,8 @@ fn reach(told: Told, call: &Call, before: &Lent, lent: &Lent) -> Option<i64> {
 fn tell_instead_of_counts(before: &Lent, lent: &mut Lent) {
     let mut apart = before.clone();
     Model.call(&Call::Add, &mut apart);
-    for (k, (row, place, digit)) in before.asked().into_iter().enumerate() {
-        if Model.call(&Call::Edit { row, place, digit }, &mut apart) == FACTS {
+    for (k, edit) in before.asked().into_iter().enumerate() {
+        if Model.call(&Call::edit(edit), &mut apart) == FACTS {
             lent.values[k] = apart.answer[2] as usize;
         }
     }
