@@ -12,12 +12,15 @@ use borrow.Author.Tests.{eq-eqb, eqb-true}
 use Rattle.lists.proofs.Test.{same-outcome}
 use Rattle.faults.specs.declared.Refusal.{Refusal}
 use Rattle.faults.specs.Outcome.{facts, refused, editor}
+use Rattle.numeration.specs.Code.{Inputs}
 use Rattle.numeration.proofs.Exchange.{AllBut, change-seen}
+use Rattle.numeration.proofs.Reach.{reach-near}
 use Rattle.ring.specs.Padded.{width}
 use Rattle.ring.specs.declared.Operation.the-variants.{Plus}
 use Rattle.digit_rules.specs.Record.{recordAt}
+use Rattle.digit_rules.proofs.Formed.{nothing-asked}
 use Rattle.numeration.specs.Laws.{HasParts}
-use Rattle.reader_rules.specs.Table.{alphabetPart, inputPart, leafPart, wordPart, operationsOf, leavesIn}
+use Rattle.reader_rules.specs.Table.{alphabetPart, inputPart, leafPart, wordPart, operationsOf, inputCount, leavesIn}
 use Rattle.reader_rules.specs.TableFacts.{tableFacts}
 use Rattle.reader_rules.specs.Check.{tableCheck}
 use Rattle.reader_rules.proofs.Ready.{ready-passed}
@@ -33,11 +36,12 @@ use Rattle.place_rules.proofs.Place.{index-names}
 use Rattle.adder_rules.specs.Sum.{digitCount, rowDigit}
 use Rattle.adder_rules.specs.Input.{inputRow, rowIndex}
 use Rattle.adder_rules.proofs.Rows.{same-index, same-reach}
-use Rattle.adder_rules.proofs.Accepted.{accepted-passes}
+use Rattle.adder_rules.proofs.Accepted.{row-inputs, accepted-passes}
 use Rattle.adder_rules.proofs.Combined.{passed, combined}
+use Rattle.edit_rules.specs.declared.EditedFacts.{EditedFacts}
 use Rattle.edit_rules.specs.Edit.{newSum, written, count, renewFacts, editOutcome, editState}
 use Rattle.edit_rules.specs.State.{State, state, newInputs, renewedCount}
-use Rattle.edit_rules.specs.Orders.{Different, Apart, Addable, RightSum, Taken, InTurn, inTurn, SameCount, Agree}
+use Rattle.edit_rules.specs.Orders.{Different, Apart, Addable, RightSum, Taken, InTurn, inTurn, Same, Agree}
 use Rattle.edit_rules.proofs.Count.{failing-ext}
 use Rattle.edit_rules.proofs.Renewed.{new-fit, part-fits}
 use Rattle.edit_rules.proofs.Step.{sum-long, sum-inside, sum-elsewhere, given, taken-state, refusal, lent-state, taken-or-not, either-way}
@@ -181,6 +185,9 @@ module _ (file : List ℕ) (accepted : checkOutcome file ≡ facts (checkFacts f
       named s fit =
           index-names (operationsOf file) (alphabetPart file) (inputPart file) (leafPart file) (wordPart file) _ j (index-below file accepted (length (s .first)) (length (s .sum)) (s .first, s .second) (fit, refl) j)
 
+  listed : (s : State) → Fit s → Inputs (inputCount file) (inputs s)
+  listed s fit = row-inputs Plus file (s .first) (s .second) (length (s .sum)) passes (nothing-asked _ _) fit
+
   -- the numeration law, for indexes
   seen : (row one other both : List ℕ) (p q : ℕ) → AllBut p one row → AllBut q other row → AllBut q both one → AllBut p both other → (p + h ≤ q) ⊎ (q + h ≤ p) → (j : ℕ)
       → rowDigit file row j ≡ rowDigit file one j → rowIndex file other j ≡ rowIndex file both j
@@ -224,7 +231,13 @@ module _ (file : List ℕ) (accepted : checkOutcome file ≡ facts (checkFacts f
             (λ t. eq-eqb _ _ (seen _ _ _ _ _ _ (but-own e s) (but-own f s) (but-other e f s different) (but-own e after) apart j (digits-equal s (written file e s) fit (written-fit e s fit one) j (eqb-true _ _ t))))
             (λ t. eq-eqb _ _ (seen _ _ _ _ _ _ (but-own e after) (λ i out. sym (but-own f s i out)) (λ i out. sym (but-other e f s different i out)) (but-own e s) apart j (digits-equal after (written file e after) after-fit (written-fit e after after-fit after-taken) j (eqb-true _ _ t))))
 
-    -- and the reach too for places more than h apart, from any sum
+    -- the reach is the same where f is at least h places below, from any sum
+    reach-same : Different e f → f .place + h ≤ e .place → renewFacts file e s .reach ≡ renewFacts file e after .reach
+    unfolding tableFacts
+    reach-same different below =
+        reach-near (leavesIn file) (inputCount file) (ready-passed file passes .code) _ _ (listed (written file e s) (written-fit e s fit one)) (listed (written file e after) (written-fit e after after-fit after-taken)) (e .place) (renewedCount file) (λ k low high. sym (but-other e f s different k (λ q. omega (arith, q))))
+
+    -- and all facts for places more than h apart
     facts-same : Different e f → Apart (h + 1) e f → renewFacts file e s ≡ renewFacts file e after
     facts-same different apart =
         λ i. record { count = count-by (λ j at. ap₂ eqb (sym (sum-elsewhere file f s (part-fits file f s passes fit other) j (far j at))) (digit-same e f s different j (far j at))) i; reach = same-reach file (newInputs file e s) (newInputs file e after) (e .place) (renewedCount file) (λ k low high. sym (but-other e f s different k (λ q. past k low high q apart))) i }
@@ -244,15 +257,24 @@ module _ (file : List ℕ) (accepted : checkOutcome file ≡ facts (checkFacts f
   different-apart e f d some (inl a) _ q = omega (arith, q)
   different-apart e f d some (inr a) _ q = omega (arith, q)
 
+  some : 1 ≤ h
+  some = ready-passed file passes .depth-low
+
   turned : (e f : Change) (d : ℕ) → Apart d e f → Apart d f e
   turned e f d (inl a) = inr a
   turned e f d (inr a) = inl a
 
-  same-count : (e f : Change) (s : State) → Addable file s → RightSum file s → Taken file s e → Taken file s f → Apart h e f → SameCount (editOutcome file e s) (editOutcome file e (editState file f s))
+  same-fact : (fact : EditedFacts → ℕ) (e f : Change) (s : State) → Fit s → Taken file s e → Taken file s f → fact (renewFacts file e s) ≡ fact (renewFacts file e (written file f s))
+      → Same fact (editOutcome file e s) (editOutcome file e (editState file f s))
+  same-fact fact e f s fit one other same = (renewFacts file e s, renewFacts file e (written file f s), given file accepted e s fit one, answer-after e f s fit one other, same)
+
+  same-count : (e f : Change) (s : State) → Addable file s → RightSum file s → Taken file s e → Taken file s f → Apart h e f → Same (λ x. x .count) (editOutcome file e s) (editOutcome file e (editState file f s))
   same-count e f s adds right one other apart =
       let fit = addable-fit s adds in
-      let different = different-apart e f h (ready-passed file passes .depth-low) apart in
-      (renewFacts file e s, renewFacts file e (written file f s), given file accepted e s fit one, answer-after e f s fit one other, count-same e f s fit one other (right-sum s adds right) different apart)
+      same-fact (λ x. x .count) e f s fit one other (count-same e f s fit one other (right-sum s adds right) (different-apart e f h some apart) apart)
+
+  same-reach-above : (e f : Change) (s : State) → Fit s → Taken file s e → Taken file s f → f .place + h ≤ e .place → Same (λ x. x .reach) (editOutcome file e s) (editOutcome file e (editState file f s))
+  same-reach-above e f s fit one other below = same-fact (λ x. x .reach) e f s fit one other (reach-same e f s fit one other (different-apart e f h some (inr below)) below)
 
   same-answer : (e f : Change) (s : State) → Fit s → Apart (h + 1) e f → editOutcome file e s ≡ editOutcome file e (editState file f s)
   same-answer e f s fit apart = go (taken-or-not file accepted e s fit) (taken-or-not file accepted f s fit)
@@ -274,6 +296,7 @@ module _ (file : List ℕ) (accepted : checkOutcome file ≡ facts (checkFacts f
       record {
         rows = exchange e f s fit;
         counts = λ right one other apart. (same-count e f s adds right one other apart, same-count f e s adds right other one (turned e f h apart));
+        reach = λ one other. (same-reach-above e f s fit one other, same-reach-above f e s fit other one);
         answers = λ apart. (same-answer e f s fit apart, same-answer f e s fit (turned e f (h + 1) apart));
       }
 

@@ -48,9 +48,9 @@ abbrev pub inTurn : List ℕ → Change → Change → State → InTurn
 inTurn file e f s =
     record { first = editOutcome file e s; second = editOutcome file f (editState file e s); buffers = editState file f (editState file e s) }
 
--- two answers aren't refusals, and tell the same count
-abbrev pub SameCount : Outcome EditedFacts → Outcome EditedFacts → Type 0
-SameCount o p = (a b : EditedFacts) × (o ≡ facts a) × (p ≡ facts b) × (a .count ≡ b .count)
+-- two answers aren't refusals, and one of their facts is the same
+abbrev pub Same : (EditedFacts → ℕ) → Outcome EditedFacts → Outcome EditedFacts → Type 0
+Same fact o p = (a b : EditedFacts) × (o ≡ facts a) × (p ≡ facts b) × (fact a ≡ fact b)
 
 -- what is promised of e and then f, and of f and then e, from the same rows and sum
 pub record Agree (file : List ℕ) (s : State) (e f : Change) (forth back : InTurn) : Type 0 where
@@ -58,8 +58,12 @@ pub record Agree (file : List ℕ) (s : State) (e f : Change) (forth back : InTu
   pub rows : Different e f → forth .buffers ≡ back .buffers
   -- "each edit must also report the same count in either order": asked for places more than h apart, and true for h
   pub counts : RightSum file s → Taken file s e → Taken file s f → Apart (tableFacts file .depth) e f
-      → SameCount (forth .first) (back .second) × SameCount (back .first) (forth .second)
-  -- more than h apart it is the same answer, the reach too; neither is asked there
+      → Same (λ x. x .count) (forth .first) (back .second) × Same (λ x. x .count) (back .first) (forth .second)
+  -- the upper one reports the same reach too; the sum needn't be right
+  pub reach : Taken file s e → Taken file s f
+      → (f .place + tableFacts file .depth ≤ e .place → Same (λ x. x .reach) (forth .first) (back .second))
+      × (e .place + tableFacts file .depth ≤ f .place → Same (λ x. x .reach) (back .first) (forth .second))
+  -- more than h apart both get the same answer, count and reach; neither is asked there
   pub answers : Apart (tableFacts file .depth + 1) e f → (forth .first ≡ back .second) × (back .first ≡ forth .second)
 
 -- the edits of a list that name one cell, in their order

@@ -121,6 +121,22 @@ module _ {A : Type 0} (c : Code A) where
         let (leaf, begins) = leafOf-begins c (window r j) (p .complete _ (window-below m r (p .some-input) all j)) in
         sym (leafOf-unique c (p .separate) (window s j) _ leaf (λ k h. begins k h ∙ window-by-place (λ d e. d ≡ e) r s j k (λ low. refl) (λ i e. same i (omega arith) (omega arith))))
 
+    -- A word has h digits only where every other hth digit makes a word too, so its length is told by the h − 1 digits that it begins with.
+    length-near : (r s : List ℕ) → Inputs m r → Inputs m s → (j : ℕ) → ((i : ℕ) → i ≤ j → suc j < i + depth c → getD r i 0 ≡ getD s i 0) → lengthAt c r j ≡ lengthAt c s j
+    unfolding lengthAt
+    length-near r s all also j same =
+        elim (decLt (lengthAt c r j) (depth c)) [
+          | yes short ↦ ap (c .size) (leaf-near r s all (suc j) (λ i h l. same i (omega arith) (omega arith)))
+          | no long ↦ elim (decLt (lengthAt c s j) (depth c)) [
+            | yes short ↦ sym (ap (c .size) (leaf-near s r also (suc j) (λ i h l. sym (same i (omega arith) (omega arith)))))
+            | no most ↦ omega (arith, length-range r all j .1, length-range s also j .1)
+          ]
+        ]
+
+    -- So the reach of places from p on doesn't depend on a digit h or more places below p.
+    pub reach-near : (r s : List ℕ) → Inputs m r → Inputs m s → (from count : ℕ) → ((i : ℕ) → from < i + depth c → i < from + count → getD r i 0 ≡ getD s i 0) → reachOf c r from count ≡ reachOf c s from count
+    reach-near r s all also from count same = reach-lengths r s from count (λ j low high. length-near r s all also j (λ i h l. same i (omega arith) (omega arith)))
+
     module _ (o : Operations A) (input : ℕ → A) (r s : List ℕ) (all : Inputs m r) (j : ℕ) where
       convert-same : getD r j 0 ≡ getD s j 0 → leafInto c r j ≡ leafInto c s j → leafInto c r (suc j) ≡ leafInto c s (suc j) → convert o input c r j ≡ convert o input c s j
       unfolding convert weightAt weightInto
