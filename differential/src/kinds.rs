@@ -192,12 +192,13 @@ pub enum Kind {
     OrdersByDeepest,
     OrdersFromAnySum,
     /// What was demanded of both orders: the same three rows; the same counts for places h apart, and for ones further apart, among all of them from
-    /// a sum that isn't addition's; the same reach.
+    /// a sum that isn't addition's; the same reach, and that of the higher edit for places h apart.
     RowsDemanded,
     CountsDemandedAtDepth,
     CountsDemandedBeyond,
     CountsDemandedFromAnySum,
     ReachDemanded,
+    HigherReachDemandedAtDepth,
     /// From a right sum, places h apart, and both edits change the place of the sum that both renew.
     SharedPlaceChanges,
     /// What differed where nothing was demanded: three rows for one target; counts from a right sum for places less than h apart; counts from
@@ -221,7 +222,7 @@ pub enum Kind {
 
 impl Kind {
     /// All of them, for the report of those that a run missed.
-    pub const ALL: [Kind; 140] = [
+    pub const ALL: [Kind; 141] = [
         Kind::Subtracted,
         Kind::SubtractedByFurther,
         Kind::UnlistedFromZero,
@@ -349,6 +350,7 @@ impl Kind {
         Kind::CountsDemandedBeyond,
         Kind::CountsDemandedFromAnySum,
         Kind::ReachDemanded,
+        Kind::HigherReachDemandedAtDepth,
         Kind::SharedPlaceChanges,
         Kind::RowsDifferOfOneTarget,
         Kind::CountsDifferNear,

@@ -13,8 +13,9 @@ pub enum Law {
     CountsOfOnePlace,
     /// The same counts for places h apart, whatever the sum was.
     CountsFromAnySum,
-    /// The same reach for places h apart too.
+    /// The same reach for places h apart too, and of the higher edit for places h − 1 apart.
     ReachAtDepth,
+    HigherReachNearer,
     /// The same three rows for two edits of one target too.
     RowsOfOneTarget,
     /// The same three rows for every order of a list.
@@ -24,11 +25,12 @@ pub enum Law {
 }
 
 /// The wrong ones.
-pub const WRONG_LAWS: [Law; 7] = [
+pub const WRONG_LAWS: [Law; 8] = [
     Law::CountsNearer,
     Law::CountsOfOnePlace,
     Law::CountsFromAnySum,
     Law::ReachAtDepth,
+    Law::HigherReachNearer,
     Law::RowsOfOneTarget,
     Law::RowsOfAnyOrder,
     Law::TotalOfCounts,
@@ -55,9 +57,10 @@ pub struct Same {
     pub refused: bool,
     /// The three rows, in every byte that was lent.
     pub rows: bool,
-    /// Each edit's count, and its reach.
+    /// Each edit's count, and its reach; the reach of the edit of the higher place.
     pub counts: bool,
     pub reach: bool,
+    pub higher_reach: bool,
 }
 
 impl Law {
@@ -91,6 +94,15 @@ impl Law {
             _ => standing.distance > standing.depth,
         };
         standing.taken && beyond
+    }
+
+    /// The reach of the edit of the higher place is demanded to be the same.
+    pub fn same_higher_reach(self, standing: &Standing) -> bool {
+        let least = match self {
+            Law::HigherReachNearer => standing.depth - 1,
+            _ => standing.depth,
+        };
+        standing.taken && standing.distance > 0 && standing.distance >= least
     }
 
     /// The three rows are demanded to be the same after a list in another order, which keeps targets or doesn't.

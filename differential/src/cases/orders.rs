@@ -31,7 +31,7 @@ pub fn orders(pool: &Pool, comparison: &mut Comparison, random: &mut Random) {
         taken: taken(e) && taken(f),
         right,
     };
-    let same = compare(&one, &other);
+    let same = compare(edits, &one, &other);
     comparison.count_holding(kinds::orders::of_table(&lent, &standing));
     comparison.count_holding(kinds::orders::of_edits(edits, &standing));
     comparison.count_holding(kinds::orders::of_answers(&standing, &same));
@@ -129,14 +129,18 @@ pub fn three_rows(lent: &Lent) -> [&[u8]; 3] {
 }
 
 /// What is the same after two edits and after the same two in the other order.
-fn compare(one: &[Own], other: &[Own]) -> Same {
-    let both = || one.iter().zip(other.iter().rev());
-    let told = |word: usize| both().all(|(x, y)| x.lent.answer[word] == y.lent.answer[word]);
+fn compare([e, f]: [Asked; 2], one: &[Own], other: &[Own]) -> Same {
+    let both: Vec<_> = one.iter().zip(other.iter().rev()).collect();
+    let told = |word: usize| {
+        both.iter()
+            .map(move |(x, y)| x.lent.answer[word] == y.lent.answer[word])
+    };
     Same {
-        refused: both().all(|(x, y)| x.returned == y.returned),
+        refused: both.iter().all(|(x, y)| x.returned == y.returned),
         rows: three_rows(&one[1].lent) == three_rows(&other[1].lent),
-        counts: told(1),
-        reach: told(2),
+        counts: told(1).all(|same| same),
+        reach: told(2).all(|same| same),
+        higher_reach: told(2).nth(usize::from(f.1 > e.1)) == Some(true),
     }
 }
 
@@ -153,8 +157,9 @@ fn demand(
         !law.same_rows(standing) || same.rows && same.refused,
         !law.same_counts(standing) || same.counts,
         !law.same_reach(standing) || same.reach,
+        !law.same_higher_reach(standing) || same.higher_reach,
     ];
-    comparison.law(kept == [true; 3], || {
+    comparison.law(kept == [true; 4], || {
         format!("{edits:?} in either order, {standing:?}: {same:?}; {lent:?}")
     });
 }

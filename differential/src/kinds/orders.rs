@@ -64,6 +64,10 @@ pub fn of_answers(standing: &Standing, same: &Same) -> Vec<(bool, Kind)> {
         (counts && !right, Kind::CountsDemandedFromAnySum),
         (law.same_reach(standing), Kind::ReachDemanded),
         (
+            at_depth && law.same_higher_reach(standing),
+            Kind::HigherReachDemandedAtDepth,
+        ),
+        (
             taken && one_target && !same.rows,
             Kind::RowsDifferOfOneTarget,
         ),
