@@ -333,7 +333,8 @@ def subtract(table, first, second):
 def edit(table, first, second, sum, row, place, digit):
     """Stores a digit at a place of row 0 (the first) or 1 (the second) of an addition and renews the sum. The rows and the sum that
     are given stay as they are; the answer has the new ones, how many digits of the sum changed, and the reach: the longest word looked up
-    in the new rows from the place below the edited one, if there is one, to as many places above it as the table is deep.
+    in the new rows from the place below the edited one, if there is one, to as many places above it as the table is deep. Edits of
+    different places or rows may come in any order, by a table that the check accepts: the rows and the sum after them are the same.
 
     >>> edit(tern(), [2, 2], [1, 2], [0, 2, 1], 0, 0, 4)
     Edited(changed=2, first=[4, 2], second=[1, 2], sum=[3, 1, 1], reach=1)
