@@ -28,8 +28,10 @@ fn change(edit: [u8; 3]) -> Change {
 fn order(turns: Turns, first: &[u8], second: &[u8], sum: &[u8])
     requires { ⌜ (length (now first) ≤ 260) × (length (now second) ≤ 260) × (length (now sum) ≤ 260) ⌝ }
 {
-    output::edited(turns.first);
-    output::edited(turns.second);
+    let answer = turns.first;
+    let next = turns.second;
+    output::edited(answer);
+    output::edited(next);
     output::buffer(first);
     output::buffer(second);
     output::buffer(sum);
