@@ -1,4 +1,5 @@
 // Faults as document 01's "Who sends a fault" has them. No function: the calls make them, the stages of a check make refusals.
+#![tactic(auto)]
 
 // A fault says whose it is: the table's author, whoever lends the rows, or the editor.
 #[derive(Drop)]

@@ -1,4 +1,6 @@
 // The public element and the midpoint of two.
+#![tactic(auto)]
+
 ghost use Rattle.std.specs.Prelude.{◌≡◌, ◌≤◌, ◌^◌, nat_abs, ◌+ℤ◌};
 ghost use Rattle.ring.specs.Tests.{Within};
 ghost use Rattle.midpoint.specs.Halved.{halved};

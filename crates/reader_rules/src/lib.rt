@@ -1,4 +1,6 @@
 // No function: rules 1 to 13 of document 01 together as definitions, with demand 1 for the reader as a theorem.
+#![tactic(auto)]
+
 use faults::Fault;
 
 // Where a section lies in the file, and how many records it has.

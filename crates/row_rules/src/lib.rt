@@ -1,4 +1,5 @@
 // No function: rules 20 to 26 of document 01 as definitions, with what they refuse as theorems.
+#![tactic(auto)]
 
 // A digit to be stored: row number, place and alphabet index.
 #[derive(Drop)]

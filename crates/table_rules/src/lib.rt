@@ -1,4 +1,5 @@
 // No function: the check of a table as a definition, with demands 1 and 2 as theorems.
+#![tactic(auto)]
 
 // The facts of the check: depth, leaf count, alphabet size and the number of fitting leaf pairs.
 #[derive(Drop)]
