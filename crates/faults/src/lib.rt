@@ -2,7 +2,7 @@
 #![tactic(auto)]
 
 // A fault says whose it is: the table's author, whoever lends the rows, or the editor.
-#[derive(Drop)]
+#[derive(Clone, Copy)]
 pub enum Fault {
     Author { number: usize, place: usize },
     Rows { number: usize, place: usize },
@@ -10,7 +10,7 @@ pub enum Fault {
 }
 
 // What a stage of the checks finds: the number of the first broken rule and its place; number 0 says that none is broken.
-#[derive(Drop)]
+#[derive(Clone, Copy)]
 pub struct Refusal {
     pub number: usize,
     pub place: usize,

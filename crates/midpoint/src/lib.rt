@@ -7,7 +7,7 @@ ghost use Rattle.midpoint.specs.Halved.{halved};
 ghost use Rattle.midpoint.specs.Midpoint.{parts, midpoint_of};
 
 // An element a + b·ω + c·ω² + d·ω³ as callers see it; the parts above the degree are zero.
-#[derive(Drop)]
+#[derive(Clone, Copy)]
 pub struct Element {
     pub a: i32,
     pub b: i32,

@@ -4,7 +4,7 @@
 use faults::Fault;
 
 // Where a section lies in the file, and how many records it has.
-#[derive(Drop)]
+#[derive(Clone, Copy)]
 pub struct Part {
     pub start: usize,
     pub end: usize,
@@ -12,7 +12,7 @@ pub struct Part {
 }
 
 // The facts of a table that passes rules 1 to 13.
-#[derive(Drop)]
+#[derive(Clone, Copy)]
 pub struct Table {
     pub base: Part,
     pub alphabet: Part,
@@ -22,7 +22,7 @@ pub struct Table {
     pub depth: usize,
 }
 
-#[derive(Drop)]
+#[derive(Clone, Copy)]
 pub enum Reading {
     Facts(Table),
     Refused(Fault),

@@ -2,7 +2,7 @@
 #![tactic(auto)]
 
 // A digit to be stored: row number, place and alphabet index.
-#[derive(Drop)]
+#[derive(Clone, Copy)]
 pub struct Change {
     pub row: usize,
     pub place: usize,

@@ -5,7 +5,7 @@ ghost use Rattle.vectors.specs.Read.{value_of};
 use midpoint::Element;
 
 // A number, or an input that ends before all of it.
-#[derive(Drop)]
+#[derive(Clone, Copy)]
 pub enum Read {
     Got(usize),
     Cut,
