@@ -129,6 +129,7 @@ class Turner:
         self.fn = Fn(data)
         self.said = []
         self.helpers = {}
+        self.used_places = set()
 
     def say(self, what):
         self.said.append(f"{self.crate}::{self.fname}: {what}")
@@ -180,8 +181,6 @@ class Turner:
             return root
         if place == at and root == "c":
             return root
-        if need is not None:
-            return f"(goal.at.{need} c).{self.fn.new_place[place]}"
         chain = self.fn.up(at)
         if place in chain:
             return root + ".before" * chain.index(place)
@@ -218,7 +217,8 @@ class Turner:
             if i is None:
                 self.say(f"no place {m.group(1)}")
                 return m.group(0)
-            return "goal." + self.fn.new_place[i]
+            self.used_places.add(i)
+            return self.fn.new_place[i]
         return re.sub(r"tie\.((?:Start|After|Then|Else|In|At|Joined)[A-Za-z0-9_-]*)(?: invariant-\S+| decreases-\S+)*", t, text)
 
     def need(self, name, typ):
@@ -239,6 +239,7 @@ class Turner:
         items, tail = blocks(text)
         uses, inv, ans = [], [], []
         head = []
+        self.pieces = {"answers": {}, "helpers": [], "places": [], "place_names": [], "uses": uses, "head": head}
         roots0 = {}
         # helpers' places first
         for lead, b in items:
@@ -305,22 +306,43 @@ class Turner:
                 if where:
                     where = self.body(where, at, new, {"c": at})
                 asked = self.fn.d["asked"].get(old)
+                by_clause = None
                 if asked and len(asked) > 1:
                     tt = tail_tuple(body)
                     simple = re.search(r"(?:^|\bin|=)\s*(" + ID + r"(?:\.[A-Za-z0-9_'₀-₉-]+)*)\s*$", body)
                     if tt and len(tt[1]) == len(asked):
                         fields = "; ".join(f"{f} = {p}" for f, p in zip(asked, tt[1]))
+                        by_clause = (tt[0], list(zip(asked, tt[1])))
                         body = tt[0] + "record { " + fields + " }"
                     elif simple:
                         e = simple.group(1)
+                        by_clause = (body[:simple.start(1)], [(f, f"{e}.{n}") for n, f in enumerate(asked)])
                         fields = "; ".join(f"{f} = {e}.{n}" for n, f in enumerate(asked))
                         body = body[:simple.start(1)] + "record { " + fields + " }"
                     elif "search" not in body:
+                        # a pair that a lemma gives: its parts
+                        lm = re.search(r"(?:^|\bin)\s*((?:[^()]|\((?:[^()]|\((?:[^()]|\((?:[^()]|\([^()]*\))*\))*\))*\))*)$", body)
+                        e = lm.group(1).strip() if lm else ""
+                        rm = re.match(r"rw (\S+|\((?:[^()]|\((?:[^()]|\((?:[^()]|\([^()]*\))*\))*\))*\)) (.*)$", e, re.S)
+                        if rm:
+                            pre, e = f"rw {rm.group(1)} ", rm.group(2)
+                        else:
+                            pre = ""
+                        if e and "∙" not in e and " in " not in e:
+                            e = e if re.match(r"^\(.*\)$", e, re.S) else f"({e})"
+                            by_clause = (body[:lm.start(1)] + pre if lm else pre, [(f, f"{e}.{n}") for n, f in enumerate(asked)])
                         self.say(f"clauses of {new}: {asked}")
                 sep = "\n" if body.startswith("\n") or body.startswith("    ") else " "
                 if body.startswith("\n"):
                     sep = ""
                 ans.append("\n".join(lead + [f"pub {new} : goal.{new}"] + unf + [f"{new} c ={sep}{body}{where}"]))
+                self.pieces["answers"][new] = ans[-1]
+                if by_clause:
+                    for f, e in by_clause[1]:
+                        cl = f"{new}-clause-{f}"
+                        b2 = by_clause[0] + e
+                        s2 = "" if b2.startswith("\n") else ("\n" if b2.startswith("    ") else " ")
+                        self.pieces["answers"][cl] = "\n".join(lead + [f"pub {cl} : goal.{cl}"] + unf + [f"{cl} c ={s2}{b2}{where}"])
                 continue
             # a helper
             hp = self.helpers.get(name)
@@ -335,15 +357,28 @@ class Turner:
                     roots[dm.group(1)] = hp
                 t = CHAIN.sub(lambda q: self.chain(q, hp, roots, None), t)
                 ans.append("\n".join(lead + [t]))
+                self.pieces["helpers"].append([name, ans[-1]])
             else:
                 if "tie." in b:
                     b = self.types(b)
-                    pm = re.search(r"\((\w+) : goal\.([A-Za-z0-9_-]+)", b)
+                    pm = re.search(r"\((\w+) : ((?:Start|After|Then|Else|In|At|Joined)[A-Za-z0-9_-]*)", b)
                     if pm and pm.group(2) in self.fn.new_place:
                         hp = self.fn.new_place.index(pm.group(2))
                         b = CHAIN.sub(lambda q: self.chain(q, hp, {pm.group(1): hp}, None), b)
                 ans.append("\n".join(lead + [b]))
+                self.pieces["helpers"].append([name, ans[-1]])
         folder = os.path.join(self.folder)
+        if self.used_places:
+            args = []
+            if any(p[3] for p in self.fn.places):
+                args.append("tie.the-claims")
+            args += ["reads.Pre", "reads.Post"]
+            for names, vs in self.fn.d["loops"]:
+                args += [f"goal.the-invariant-{names[1]}", f"goal.the-decreases-{names[1]}"]
+            for i in sorted(self.used_places):
+                n = self.fn.new_place[i]
+                self.pieces["places"].append(f"abbrev {n} : Type 0\n{n} = lts.{self.fn.places[i][0]} {' '.join(args)}")
+                self.pieces["place_names"].append(n)
         base = f"Rattle.{self.crate}.proofs.{os.path.basename(self.folder)}"
         usetext = "\n".join(uses)
         if inv:
@@ -352,9 +387,10 @@ class Turner:
                 out.append("\n".join(lead + self.invariant(kind, loop, name, d)))
             top = head if not ans else []
             write(os.path.join(folder, "Invariants.antt"), "\n".join(head + [usetext] * bool(usetext) + [f"use {base}.Given as goal"]) + "\n\n" + "\n\n".join(out) + "\n")
-        if ans:
-            top = [] if inv else head
-            write(os.path.join(folder, "Answers.antt"), "\n".join(top + [usetext] * bool(usetext) + [f"use {base}.Goals as goal"]) + "\n\n" + "\n\n".join(ans) + "\n")
+        self.pieces["base"] = base
+        self.pieces["inv"] = bool(inv)
+        os.makedirs(f"/tmp/drive/{self.crate}", exist_ok=True)
+        json.dump(self.pieces, open(f"/tmp/drive/{self.crate}/pieces-{os.path.basename(self.folder)}.json", "w"), indent=1)
         os.remove(os.path.join(folder, "Proof.antt"))
         return self.said
 

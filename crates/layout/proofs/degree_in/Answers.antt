@@ -7,12 +7,6 @@ use Rattle.layout_rules.specs.Number.{unsigned_at}
 use Rattle.layout_rules.specs.Section.{degree_of}
 use Rattle.layout.proofs.degree_in.Goals as goal
 
-pub overflow_mul-wide : goal.overflow_mul-wide
-overflow_mul-wide c = omega (arith, c.wide-2.ensures.small)
-
-pub overflow_add-wide : goal.overflow_add-wide
-overflow_add-wide c = omega (arith, c.wide-2.ensures.small, c.wide.ensures.small)
-
 pub returns : goal.returns
 unfolding unsigned_at
 returns c =

@@ -3,5 +3,5 @@ use Rattle.layout_rules.proofs.Number.{read_fits, read}
 use borrow.Author.Rules.{rules}
 use Rattle.layout.proofs.signed.Goals as goal
 
-pub overflow_sub-result : goal.overflow_sub-result
-overflow_sub-result c = read_fits c.unsigned.result
+pub returns : goal.returns
+returns c = rw (← c.unsigned.ensures.number) (let both = read _ c.unsigned.ensures.within in record { number = both.0; within = both.1 })

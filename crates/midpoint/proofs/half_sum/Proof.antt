@@ -10,7 +10,8 @@ use mir.Facts.{sfits_widen}
 use Rattle.integers.proofs.Machine.{Term, leaf, ◌⊕◌, computed_fits, stored, stored_is, stored_bound}
 use Rattle.midpoint.specs.Halved.{halved}
 use Rattle.midpoint.proofs.Halves.{half_range}
-use Rattle.midpoint.proofs.half_sum.Goals as goal
+use Rattle.midpoint.proofs.half_sum.Statement.{statement}
+use Rattle.midpoint.proofs.half_sum.Tie as tie
 
 -- a 32-bit number as it is read
 abbrev read : (x : ℤ) → SFits w32 x → Term
@@ -31,8 +32,25 @@ module _ (c : tie.Start) where
   half_is r e =
       ap (λ z. to_z w64 (of_z w64 z)) (e ∙ ap halved (stored_is w64 sum refl ∙ sum_is)) ∙ to_z-of_z w64 _ (sfits_widen tt half-fits)
 
-pub overflow_cast-x : goal.overflow_cast-x
-overflow_cast-x c = computed_fits w64 (read c.args.x c.ranges.x) refl
+cast-half : tie.Need-overflow-cast-half
+cast-half c = computed_fits w64 (read c.args.x c.ranges.x) refl
 
-pub overflow_cast-y : goal.overflow_cast-y
-overflow_cast-y c = computed_fits w64 (read c.args.y c.ranges.y) refl
+cast-half-2 : tie.Need-overflow-cast-half-2
+cast-half-2 c = computed_fits w64 (read c.args.y c.ranges.y) refl
+
+add_half : tie.Need-overflow-add-half
+add_half c = computed_fits w64 (sum c) refl
+
+half-requires : tie.Need-half-requires
+half-requires c κs = stored_bound w64 (sum c) refl
+
+cast-result : tie.Need-overflow-cast-result
+cast-result c = rw (half_is c.before c.half.result c.half.ensures) (half-fits c.before)
+
+returns : tie.Need-returns
+returns c =
+    ap (λ z. to_z w32 (of_z w32 z)) (half_is c.before c.half.result c.half.ensures) ∙ to_z-of_z w32 _ (half-fits c.before)
+
+pub half-sum-spec : {M : Type 1} → statement M
+half-sum-spec =
+    tie.close (tie.spec cast-half cast-half-2 add_half half-requires cast-result returns)
