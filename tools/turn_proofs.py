@@ -13,6 +13,7 @@ import sys
 
 ID = r"[A-Za-z_μκ◌][A-Za-z0-9_'₀-₉-]*"
 CHAIN = re.compile(r"(?<![A-Za-z0-9_'₀-₉.-])(" + ID + r")((?:\.[A-Za-z0-9_'₀-₉-]+)*)")
+MARK = "\x01"
 KEEP = {"args", "requires", "ranges", "lifetimes", "type_inv", "well_formed", "utf8"}
 
 
@@ -36,6 +37,11 @@ class Fn:
                 before = [j for j in self.index[norm(p[1])] if j < i]
                 self.parent.append(before[-1] if before else self.index[norm(p[1])][0])
         self.needs = data["needs"]
+        self.args = {}
+        for a, b in data["args"]:
+            x, y = a.split(), b.split()
+            if len(x) == 2 and len(y) == 2:
+                self.args[(x[0].strip("."), x[1].strip("."))] = y[1].strip(".")
         self.asked = data["asked_at"]
 
     def place(self, old):
@@ -130,6 +136,7 @@ class Turner:
         self.said = []
         self.helpers = {}
         self.used_places = set()
+        self.as_c = {"c"}
 
     def say(self, what):
         self.said.append(f"{self.crate}::{self.fname}: {what}")
@@ -158,8 +165,12 @@ class Turner:
         rest = tail[k:]
         if not rest:
             return self.whole(m, root, place, k, at, need)
-        out = root if root == "c" else root
+        out = "c" if root in self.as_c else root
+        if rest[0] == "pre":
+            rest = ["requires"] + rest[1:]
         if rest[0] in KEEP:
+            if len(rest) > 1:
+                rest[1] = self.fn.args.get((rest[0], rest[1]), rest[1])
             return ".".join([out] + rest)
         new, sp = self.fn.step(place, rest[0])
         if new is None:
@@ -175,10 +186,11 @@ class Turner:
         """A chain that stands for a place itself: an argument of a helper."""
         before = m.string[:m.start()].rstrip("( ")
         h = re.search(r"(" + ID + r")$", before)
-        if h and h.group(1) in self.helpers and self.helpers[h.group(1)] is not None:
-            place = self.helpers[h.group(1)]
+        if h and h.group(1) in self.helpers:
+            return MARK
         elif befores == 0:
-            return root
+            return "c" if root in self.as_c else root
+        return "c"
         if place == at and root == "c":
             return root
         chain = self.fn.up(at)
@@ -208,8 +220,38 @@ class Turner:
                 out += m.group(0)
             pos = m.end()
         # a where-local or a λ with a place's type
+        out = re.sub(r"\s*\(" + MARK + r"\)", "", out)
+        out = re.sub(r"\s*" + MARK, "", out)
         out = self.types(out)
         return out
+
+    def lets(self, text):
+        """The helpers that a text cites, each as a `let` over the answer's own record; and what they unfold."""
+        need, todo = set(), [text]
+        table = {h[0]: h for h in self.inline}
+        made = {}
+        while todo:
+            t = todo.pop()
+            for w in re.findall(r"(?<![A-Za-z0-9_'₀-₉.-])(" + ID + ")", t):
+                if w in table and w not in need:
+                    need.add(w)
+                    n, vs, place, typ, ps, body, unf = table[w]
+                    if "c" in ps and "c" not in vs:
+                        bare = re.compile(r"(?<![A-Za-z0-9_'₀-₉.-])c(?![A-Za-z0-9_'₀-₉-])")
+                        ps = ["c'" if p == "c" else p for p in ps]
+                        body, typ = bare.sub("c'", body), bare.sub("c'", typ)
+                    self.as_c = {"c"} | set(vs)
+                    roots = {v: place for v in vs}
+                    if "c" not in ps:
+                        roots.setdefault("c", place)
+                    typ2 = self.body(typ, place, None, roots)
+                    body2 = self.body(body, place, None, roots)
+                    self.as_c = {"c"}
+                    lam = f"λ {' '.join(ps)}. " if ps else ""
+                    made[w] = f"let {n} : {typ2.strip()} = {lam}{body2.strip()} in"
+                    todo.append(made[w])
+        order = [h[0] for h in self.inline if h[0] in need]
+        return [made[n] for n in order], [u for h in self.inline if h[0] in need for u in h[6]]
 
     def types(self, text):
         def t(m):
@@ -241,6 +283,53 @@ class Turner:
         head = []
         self.pieces = {"answers": {}, "helpers": [], "places": [], "place_names": [], "uses": uses, "head": head}
         roots0 = {}
+        # helpers: (name, its own place's variable, place, the rest of its type, its further parameters, body, unfolding)
+        flat = []
+        for lead, b in items:
+            m = re.match(r"^module _ \((\w+) : tie\.((?:Start|After|Then|Else|In|At|Joined)[A-Za-z0-9_-]*)(?: invariant-\S+| decreases-\S+)*\) where\n", b)
+            if m:
+                inner = "\n".join(l[2:] for l in b[m.end():].split("\n"))
+                sub, _ = blocks(inner)
+                for lead2, b2 in sub:
+                    flat.append((m.group(1), self.fn.place(m.group(2)), True, lead2, b2))
+            else:
+                flat.append((None, None, False, lead, b))
+        self.inline = []
+        place_type = r"tie\.((?:Start|After|Then|Else|In|At|Joined)[A-Za-z0-9_-]*)(?: invariant-\S+| decreases-\S+)*"
+        for var, place, inmod, lead, b in flat:
+            sig = re.match(r"^((?:(?:abbrev|unfoldable|pub) )*)(" + ID + r") : ", b)
+            if not sig:
+                continue
+            lines = [re.sub(r"\s--\s.*$", "", l) for l in b.split("\n")]
+            k = next((i for i, l in enumerate(lines) if i and (l.startswith("unfolding ") or re.match(re.escape(sig.group(2)) + r"( [^=]*)? =( |$)", l))), None)
+            if k is None:
+                continue
+            typ = " ".join(x.strip() for x in lines[:k])[len(sig.group(0)):]
+            if not inmod:
+                m1 = re.match(r"\((\w+) : " + place_type + r"\) (?:→ )?", typ)
+                m2 = re.match(place_type + r" → ", typ)
+                if m1:
+                    var, place, rest = m1.group(1), self.fn.place(m1.group(2)), typ[m1.end():]
+                elif m2:
+                    var, place, rest = None, self.fn.place(m2.group(1)), typ[m2.end():]
+                else:
+                    continue
+            else:
+                rest = typ
+            unf = [w for l in lines[k:] if l.startswith("unfolding ") for w in l.split()[1:]]
+            d = " ".join(l.strip() for l in lines[k:] if not l.startswith("unfolding ") and l.strip())
+            dm = re.match(re.escape(sig.group(2)) + r"((?: [^\s=]+)*) =\s?", d)
+            if not dm:
+                self.say(f"helper {sig.group(2)} has another form")
+                continue
+            ps = dm.group(1).split()
+            if not inmod:
+                var2, ps = (ps[0], ps[1:]) if ps else ("c", [])
+            else:
+                var2 = var
+            self.inline.append((sig.group(2), [v for v in (var, var2) if v], place, rest, ps, d[dm.end():], unf))
+            self.helpers[sig.group(2)] = place
+        self.mod_helpers = {n for (v, pl, inmod, le, b), n in [((x), re.match(r"^(?:(?:abbrev|unfoldable|pub) )*(" + ID + r") : ", x[4]).group(1)) for x in flat if x[2] and re.match(r"^(?:(?:abbrev|unfoldable|pub) )*(" + ID + r") : ", x[4])]}
         # helpers' places first
         for lead, b in items:
             m = re.match(r"^(?:(?:abbrev|unfoldable|pub) )*(" + ID + r") : (?:\{[^}]*\} → )?\((\w+) : tie\.((?:Start|After|Then|Else|In|At|Joined)[A-Za-z0-9_-]*)", b)
@@ -257,7 +346,11 @@ class Turner:
                 head += lead
                 uses.append(b)
                 continue
+            if b.startswith("module _ (") and "tie." in b.split("\n")[0]:
+                continue
             sig = re.match(r"^((?:(?:abbrev|unfoldable|pub) )*)(" + ID + r") : (.*)$", b.split("\n")[0])
+            if sig and sig.group(2) in self.helpers and not sig.group(3).startswith("tie.Need-"):
+                continue
             if not sig:
                 self.say("block: " + b.split("\n")[0][:80])
                 ans.append("\n".join(lead + [b]))
@@ -305,6 +398,14 @@ class Turner:
                 body = self.body(body, at, new, {"c": at})
                 if where:
                     where = self.body(where, at, new, {"c": at})
+                lets, more = self.lets(body + where)
+                if lets:
+                    pre = "\n    " + "\n    ".join(lets) + "\n    "
+                    body = pre + body.lstrip()
+                    if where:
+                        self.say(f"{new} has a where and helpers")
+                if more:
+                    unf = ["unfolding " + " ".join(dict.fromkeys([w for l in unf for w in l.split()[1:]] + more))]
                 asked = self.fn.d["asked"].get(old)
                 by_clause = None
                 if asked and len(asked) > 1:
