@@ -145,6 +145,8 @@ class Turner:
         """Fields after a step: clause numbers become clause names."""
         if rest and step_place is not None:
             c = self.fn.d["clauses"][step_place]
+            if rest[0] == "ensures" and c and c.get("fields") and len(c["fields"]) == 1 and rest[1:2] != c["fields"]:
+                return ["ensures", c["fields"][0]] + rest[1:]
             if rest == ["ensures"] and c and c.get("fields") and len(c["fields"]) > 1:
                 return ["ensures", "\0" + ",".join(c["fields"])]
             if rest[0] == "ensures" and len(rest) > 1 and rest[1].isdigit() and c and c.get("fields"):
@@ -176,6 +178,11 @@ class Turner:
         if new is None:
             self.say(f"no step {rest[0]}")
             return ".".join([out] + rest)
+        arm = self.fn.d["arms"][sp]
+        if arm:
+            for field, olds, path in arm[2]:
+                if norm(olds) == norm(self.fn.places[sp][2][0]) and rest[1:1 + len(path)] == path and path:
+                    return ".".join([out, arm[0], field] + rest[1 + len(path):])
         rest2 = self.fields(at, sp, rest[1:])
         if rest2 and rest2[-1].startswith("\0"):
             e = ".".join([out, new, "ensures"])
@@ -236,7 +243,7 @@ class Turner:
                 if w in table and w not in need:
                     need.add(w)
                     n, vs, place, typ, ps, body, unf = table[w]
-                    if "c" in ps and "c" not in vs:
+                    if "c" not in vs:
                         bare = re.compile(r"(?<![A-Za-z0-9_'₀-₉.-])c(?![A-Za-z0-9_'₀-₉-])")
                         ps = ["c'" if p == "c" else p for p in ps]
                         body, typ = bare.sub("c'", body), bare.sub("c'", typ)
@@ -408,8 +415,13 @@ class Turner:
                     unf = ["unfolding " + " ".join(dict.fromkeys([w for l in unf for w in l.split()[1:]] + more))]
                 asked = self.fn.d["asked"].get(old)
                 by_clause = None
+                if asked and len(asked) == 1:
+                    by_clause = None
+                    body = f" record {{ {asked[0]} = ({body.strip()}) }}" if not lets else pre + f"record {{ {asked[0]} = ({body[len(pre):].strip()}) }}"
                 if asked and len(asked) > 1:
                     tt = tail_tuple(body)
+                    while tt and len(tt[1]) < len(asked) and tail_tuple(tt[1][-1]) and not tail_tuple(tt[1][-1])[0].strip():
+                        tt = (tt[0], tt[1][:-1] + tail_tuple(tt[1][-1])[1])
                     simple = re.search(r"(?:^|\bin|=)\s*(" + ID + r"(?:\.[A-Za-z0-9_'₀-₉-]+)*)\s*$", body)
                     if tt and len(tt[1]) == len(asked):
                         fields = "; ".join(f"{f} = {p}" for f, p in zip(asked, tt[1]))

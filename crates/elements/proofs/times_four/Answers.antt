@@ -23,3 +23,11 @@ dot_four-requires-3 c = let s = c in (within_row (2 ^ 21) s.args.base s.requires
 
 pub dot_four-requires-4 : goal.dot_four-requires-4
 dot_four-requires-4 c = let s = c in (within_row (2 ^ 21) s.args.base s.requires.0 3, s.requires.1)
+
+pub returns : goal.returns
+unfolding padded_times padded corner times span
+returns c = record {
+  product = (let s = c in
+      let h : length s.args.base ≡ 4 = search rules in
+      cons≡ (to_z-of_z w64 c.dot_four.result (search rules) ∙ c.dot_four.ensures.product) (cons≡ (to_z-of_z w64 c.dot_four-2.result (search rules) ∙ c.dot_four-2.ensures.product) (cons≡ (to_z-of_z w64 c.dot_four-3.result (search rules) ∙ c.dot_four-3.ensures.product) (cons≡ (to_z-of_z w64 c.dot_four-4.result (search rules) ∙ c.dot_four-4.ensures.product) refl))) ∙ sym (ap (λ m. padded_times 4 m s.args.x) (four_rows s.args.base h)));
+}

@@ -20,3 +20,11 @@ dot_three-requires-2 c = let s = c in (within_row (2 ^ 21) s.args.base s.require
 
 pub dot_three-requires-3 : goal.dot_three-requires-3
 dot_three-requires-3 c = let s = c in (within_row (2 ^ 21) s.args.base s.requires.0 2, s.requires.1)
+
+pub returns : goal.returns
+unfolding padded_times padded corner times span
+returns c = record {
+  product = (let s = c in
+      let h : length s.args.base ≡ 4 = search rules in
+      cons≡ (to_z-of_z w64 c.dot_three.result (search rules) ∙ c.dot_three.ensures.product) (cons≡ (to_z-of_z w64 c.dot_three-2.result (search rules) ∙ c.dot_three-2.ensures.product) (cons≡ (to_z-of_z w64 c.dot_three-3.result (search rules) ∙ c.dot_three-3.ensures.product) refl)) ∙ sym (ap (λ m. padded_times 3 m s.args.x) (four_rows s.args.base h)));
+}
