@@ -173,6 +173,14 @@ class Turner:
         if rest[0] in KEEP:
             if len(rest) > 1:
                 rest[1] = self.fn.args.get((rest[0], rest[1]), rest[1])
+            pre = (self.fn.d.get("pre") or {}).get("fields") or []
+            if rest[0] == "requires" and pre:
+                if len(rest) > 1 and rest[1].isdigit() and len(pre) > 1 and int(rest[1]) < len(pre):
+                    rest[1] = pre[int(rest[1])]
+                elif len(pre) == 1 and rest[1:2] != pre:
+                    rest = ["requires", pre[0]] + rest[1:]
+                elif len(rest) == 1 and len(pre) > 1:
+                    return "(" + ", ".join(f"{out}.requires.{f}" for f in pre) + ")"
             return ".".join([out] + rest)
         new, sp = self.fn.step(place, rest[0])
         if new is None:
@@ -230,6 +238,8 @@ class Turner:
         out = re.sub(r"\s*\(" + MARK + r"\)", "", out)
         out = re.sub(r"\s*" + MARK, "", out)
         out = self.types(out)
+        out = re.sub(r"\(not-(?:false|true) _ (c\.if-not-[A-Za-z0-9_-]+\.(?:false|true))\)", r"\1", out)
+        out = re.sub(r"not-(?:false|true) _ (c\.if-not-[A-Za-z0-9_-]+\.(?:false|true))", r"\1", out)
         return out
 
     def lets(self, text):
@@ -361,6 +371,8 @@ class Turner:
             if not sig:
                 self.say("block: " + b.split("\n")[0][:80])
                 ans.append("\n".join(lead + [b]))
+                for im in re.finditer(r"^  (?:(?:abbrev|unfoldable|pub) )*(" + ID + r") :", b, re.M):
+                    self.pieces["helpers"].append([im.group(1), ans[-1]])
                 continue
             name, typ = sig.group(2), sig.group(3)
             whole_typ = typ

@@ -25,6 +25,17 @@ two_parts Four = omega arith
 room : (d e : Degree) (at n : ℕ) → d ≡ e → at + element_size d ≤ n → at + element_size e ≤ n
 room d e at n told h = subst (λ (f : Degree). at + element_size f ≤ n) told h
 
+-- the first two parts, and as many behind them as the degree has
+module _ (bytes : List ℕ) (at limit : ℕ) where
+  abbrev Inside : ℕ → Type 0
+  Inside k = nat_abs (signed_at bytes (at + 2 * k)) ≤ limit
+
+  first : nat_abs (signed_at bytes at) ≤ limit → Inside 0
+  first h = rw (add-zero at) h
+
+  told-parts : (d e : Degree) → d ≡ e → ((k : ℕ) → k < part_count e → Inside k) → (k : ℕ) → k < part_count d → Inside k
+  told-parts d e told all k h = all k (subst (λ (f : Degree). k < part_count f) told h)
+
 pub raised-requires : goal.raised-requires
 raised-requires c = (omega (arith, c.requires.0, two_parts c.args.degree), c.requires.1)
 

@@ -22,8 +22,8 @@ pub returns : goal.returns
 unfolding limit_check
 returns c = λ yes told.
     let each = limit_check_of c.args.file.now in
-    sym (turn_on each 0 4 none (c.section_at_two.ensures (not-false _ c.if-not-section_at_two.false) told) (omega arith) refl
-    ∙ turn_on each 1 4 none (c.section_at_two-2.ensures (not-false _ c.if-not-section_at_two-2.false) told) (omega arith) refl
-    ∙ turn_on each 2 4 none (c.section_at_two-3.ensures (not-false _ c.if-not-section_at_two-3.false) told) (omega arith) refl
+    sym (turn_on each 0 4 none (c.section_at_two.ensures c.if-not-section_at_two.false told) (omega arith) refl
+    ∙ turn_on each 1 4 none (c.section_at_two-2.ensures c.if-not-section_at_two-2.false told) (omega arith) refl
+    ∙ turn_on each 2 4 none (c.section_at_two-3.ensures c.if-not-section_at_two-3.false told) (omega arith) refl
     ∙ turn_on each 3 4 none (c.section_at_two-4.ensures yes told) (omega arith) refl
     ∙ turn_out each 4 4 (omega arith))
