@@ -91,6 +91,32 @@ def blocks(text):
     return [(l, "\n".join(b).rstrip()) for l, b in out], lead
 
 
+def last_in(s):
+    """The place behind the last `in` that stands in no brackets."""
+    depth, at = 0, 0
+    for m in re.finditer(r"[(\[{]|[)\]}]|\bin\b", s):
+        if m.group(0) in "([{":
+            depth += 1
+        elif m.group(0) in ")]}":
+            depth -= 1
+        elif depth == 0:
+            at = m.end()
+    return at
+
+
+def in_list(s, i):
+    """Whether place i is an element of a tactic's own list."""
+    depth = 0
+    for j in range(i - 1, -1, -1):
+        if s[j] in ")]}":
+            depth += 1
+        elif s[j] in "([{":
+            if depth == 0:
+                return bool(re.search(r"\b(omega|search|grind|cc)\s*$", s[:j]))
+            depth -= 1
+    return False
+
+
 def split_top(s, sep):
     parts, depth, cur = [], 0, ""
     for ch in s:
@@ -121,7 +147,7 @@ def tail_tuple(body):
             if depth == 0:
                 break
     head = s[:i]
-    if head.strip() and not re.search(r"(\bin|=)\s*$", head):
+    if head.strip() and not re.search(r"(\bin|=|\brw (\S+|\([^()]*\)))\s*$", head):
         return None
     parts = [p.strip() for p in split_top(s[i + 1:-1], ",")]
     if parts and not parts[-1]:
@@ -157,6 +183,19 @@ class Turner:
 
     def chain(self, m, at, roots, need):
         root, tail = m.group(1), [x for x in m.group(2).split(".") if x]
+        if root in getattr(self, "step_alias", {}) and tail:
+            sp = self.step_alias[root]
+            if sp == "requires":
+                pre = (self.fn.d.get("pre") or {}).get("fields") or []
+                if len(pre) > 1 and tail[0].isdigit() and int(tail[0]) < len(pre):
+                    tail[0] = pre[int(tail[0])]
+                return ".".join([root] + tail)
+            rest = self.fields(at, sp, tail)
+            if rest and rest[-1].startswith("\0"):
+                e = root + ".ensures"
+                parts = ", ".join(f"{e}.{f}" for f in rest[-1][1:].split(","))
+                return parts if in_list(m.string, m.start()) else f"({parts})"
+            return ".".join([root] + rest)
         if root not in roots:
             return m.group(0)
         place = roots[root]
@@ -194,6 +233,8 @@ class Turner:
         rest2 = self.fields(at, sp, rest[1:])
         if rest2 and rest2[-1].startswith("\0"):
             e = ".".join([out, new, "ensures"])
+            if in_list(m.string, m.start()):
+                return ", ".join(f"{e}.{f}" for f in rest2[-1][1:].split(","))
             return "(" + ", ".join(f"{e}.{f}" for f in rest2[-1][1:].split(",")) + ")"
         return ".".join([out, new] + rest2)
 
@@ -218,14 +259,30 @@ class Turner:
         # aliases of places: let s = c.before.before in
         roots = dict(roots)
         out, pos = "", 0
-        alias = re.compile(r"let (" + ID + r") = (" + ID + r")((?:\.before)*) in\b")
+        alias = re.compile(r"let (" + ID + r") = (" + ID + r")((?:\.before)*)((?:\.(?!before\b)[A-Za-z0-9_'₀-₉-]+)?) in\b")
+        self.step_alias = {}
         while True:
             m = alias.search(text, pos)
             piece = text[pos:m.start()] if m else text[pos:]
             out += CHAIN.sub(lambda k: self.chain(k, at, roots, need), piece)
             if not m:
                 break
-            if m.group(2) in roots:
+            if m.group(4):
+                whole = CHAIN.sub(lambda k: self.chain(k, at, roots, need), m.group(2) + m.group(3) + m.group(4))
+                if m.group(2) in roots:
+                    place = roots[m.group(2)]
+                    for _ in range(m.group(3).count(".before")):
+                        place = self.fn.parent[place] if self.fn.parent[place] is not None else place
+                    name = m.group(4)[1:]
+                    if name in ("requires", "pre"):
+                        self.step_alias[m.group(1)] = "requires"
+                        whole = "c.requires" if m.group(2) in self.as_c else m.group(2) + ".requires"
+                    else:
+                        new, sp = self.fn.step(place, name)
+                        if new is not None:
+                            self.step_alias[m.group(1)] = sp
+                out += f"let {m.group(1)} = {whole} in"
+            elif m.group(2) in roots:
                 place = roots[m.group(2)]
                 for _ in range(m.group(3).count(".before")):
                     place = self.fn.parent[place] if self.fn.parent[place] is not None else place
@@ -444,18 +501,18 @@ class Turner:
                         by_clause = (body[:simple.start(1)], [(f, f"{e}.{n}") for n, f in enumerate(asked)])
                         fields = "; ".join(f"{f} = {e}.{n}" for n, f in enumerate(asked))
                         body = body[:simple.start(1)] + "record { " + fields + " }"
-                    elif "search" not in body:
+                    elif not re.match(r"\s*(search|grind|omega)\b", body[last_in(body):]):
                         # a pair that a lemma gives: its parts
-                        lm = re.search(r"(?:^|\bin)\s*((?:[^()]|\((?:[^()]|\((?:[^()]|\((?:[^()]|\([^()]*\))*\))*\))*\))*)$", body)
-                        e = lm.group(1).strip() if lm else ""
+                        cut = last_in(body)
+                        e = body[cut:].strip()
                         rm = re.match(r"rw (\S+|\((?:[^()]|\((?:[^()]|\((?:[^()]|\([^()]*\))*\))*\))*\)) (.*)$", e, re.S)
                         if rm:
                             pre, e = f"rw {rm.group(1)} ", rm.group(2)
                         else:
                             pre = ""
-                        if e and "∙" not in e and " in " not in e:
+                        if e and "∙" not in re.sub(r"\(.*\)", "", e) and " in " not in re.sub(r"\(.*\)", "", e):
                             e = e if re.match(r"^\(.*\)$", e, re.S) else f"({e})"
-                            by_clause = (body[:lm.start(1)] + pre if lm else pre, [(f, f"{e}.{n}") for n, f in enumerate(asked)])
+                            by_clause = (body[:cut].rstrip() + " " * bool(cut) + pre, [(f, f"{e}.{n}") for n, f in enumerate(asked)])
                         self.say(f"clauses of {new}: {asked}")
                 sep = "\n" if body.startswith("\n") or body.startswith("    ") else " "
                 if body.startswith("\n"):

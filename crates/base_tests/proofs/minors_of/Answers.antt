@@ -5,12 +5,35 @@ use lib.Dec.{lit≤}
 use mir.Syntax.{w64}
 use mir.ValLaws.{to_z-of_z}
 use Rattle.lists.proofs.Cons.{cons≡}
-use Rattle.ring.specs.Tests.{Within, LimitedBy}
+use lib.IntN.{ℤ}
+use mathlib.Core.List.{List}
+use Rattle.ring.specs.Tests.{Within, LimitedBy, row_limits}
 use Rattle.ring.proofs.Columns.{limited_within}
 use Rattle.base_tests.specs.Minors.{minors, minor_limits}
 use Rattle.base_tests.proofs.Minors.{minors_limited}
 use borrow.Author.Rules.{rules}
 use Rattle.base_tests.proofs.minors_of.Goals as goal
+
+small : (first second : List ℤ) {p q : ℕ} → LimitedBy row_limits first × LimitedBy row_limits second → p < 4 → q < 4 → Within (2 ^ 21) first × Within (2 ^ 21) second × (p < 4) × (q < 4)
+small first second limited l m = (limited_within first limited.0, limited_within second limited.1, l, m)
+
+pub cross-requires : goal.cross-requires
+cross-requires c = small c.args.first c.args.second c.requires (lit≤ tt) (lit≤ tt)
+
+pub cross-requires-2 : goal.cross-requires-2
+cross-requires-2 c = small c.args.first c.args.second c.requires (lit≤ tt) (lit≤ tt)
+
+pub cross-requires-3 : goal.cross-requires-3
+cross-requires-3 c = small c.args.first c.args.second c.requires (lit≤ tt) (lit≤ tt)
+
+pub cross-requires-4 : goal.cross-requires-4
+cross-requires-4 c = small c.args.first c.args.second c.requires (lit≤ tt) (lit≤ tt)
+
+pub cross-requires-5 : goal.cross-requires-5
+cross-requires-5 c = small c.args.first c.args.second c.requires (lit≤ tt) (lit≤ tt)
+
+pub cross-requires-6 : goal.cross-requires-6
+cross-requires-6 c = small c.args.first c.args.second c.requires (lit≤ tt) (lit≤ tt)
 
 pub returns : goal.returns
 unfolding minors

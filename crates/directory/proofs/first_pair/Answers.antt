@@ -11,10 +11,10 @@ pub loop-pair-init : goal.loop-pair-init
 loop-pair-init c = (omega arith, refl)
 
 pub returns-then-not-pair_allowed : goal.returns-then-not-pair_allowed
-returns-then-not-pair_allowed c = sym (scan_here _ _ 5 c.loop-pair-test.true (sym c.pair_allowed.ensures ∙ not-true _ c.if-not-pair_allowed.true)) ∙ c.loop-pair.invariant.1
+returns-then-not-pair_allowed c = sym (scan_here _ _ 5 c.loop-pair-test.true (sym c.pair_allowed.ensures ∙ c.if-not-pair_allowed.true)) ∙ c.loop-pair.invariant.1
 
 pub loop-pair-preserved : goal.loop-pair-preserved
-loop-pair-preserved c = (omega arith, sym (scan_on _ _ 5 c.loop-pair-test.true (sym c.pair_allowed.ensures ∙ not-false _ c.if-not-pair_allowed.false)) ∙ c.loop-pair.invariant.1)
+loop-pair-preserved c = (omega arith, sym (scan_on _ _ 5 c.loop-pair-test.true (sym c.pair_allowed.ensures ∙ c.if-not-pair_allowed.false)) ∙ c.loop-pair.invariant.1)
 
 pub returns : goal.returns
 returns c = sym (scan_out _ _ 5 c.loop-pair-test.false) ∙ c.loop-pair.invariant.1

@@ -14,10 +14,10 @@ loop-section-init c = (omega arith, refl)
 
 pub returns-then-not-length_allowed : goal.returns-then-not-length_allowed
 unfolding length_check
-returns-then-not-length_allowed c = judge_here 3 (λ k. k) _ 5 _ c.loop-section.invariant.1 c.loop-section-test.true (sym (section_judged c.args.given _ _ _ c.degree_of-degree.ensures c.length_allowed.ensures) ∙ not-true _ c.if-not-length_allowed.true)
+returns-then-not-length_allowed c = judge_here 3 (λ k. k) _ 5 _ c.loop-section.invariant.1 c.loop-section-test.true (sym (section_judged c.args.given _ _ _ c.degree_of-degree.ensures c.length_allowed.ensures) ∙ c.if-not-length_allowed.true)
 
 pub loop-section-preserved : goal.loop-section-preserved
-loop-section-preserved c = (omega arith, sym (scan_on _ _ 5 c.loop-section-test.true (sym (section_judged c.args.given _ _ _ c.degree_of-degree.ensures c.length_allowed.ensures) ∙ not-false _ c.if-not-length_allowed.false)) ∙ c.loop-section.invariant.1)
+loop-section-preserved c = (omega arith, sym (scan_on _ _ 5 c.loop-section-test.true (sym (section_judged c.args.given _ _ _ c.degree_of-degree.ensures c.length_allowed.ensures) ∙ c.if-not-length_allowed.false)) ∙ c.loop-section.invariant.1)
 
 pub returns : goal.returns
 unfolding length_check

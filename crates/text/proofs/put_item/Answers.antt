@@ -20,11 +20,11 @@ put_decimal-requires c =
     let total : length (c.args.word.now ++ decimal c.args.n) ≡ length c.args.word.now + length (decimal c.args.n) = length-append c.args.word.now (decimal c.args.n) in
     omega (arith, total)
 
-pub returns-clause-end : goal.returns-clause-end
-returns-clause-end c =
+pub returns : goal.returns
+returns c =
     let total : length (c.args.word.now ++ decimal c.args.n) ≡ length c.args.word.now + length (decimal c.args.n) = length-append c.args.word.now (decimal c.args.n) in
     let second = c.put_decimal in
     let first = c.put-number in
     let s = c in
     let a = s.args in
-    omega (arith, total)
+    record { end = omega (arith, total); buffer = second.ensures.buffer ∙ ap₂ (λ x (k : ℕ). overwrite x k (decimal a.n)) first.ensures.written first.ensures.next ∙ overwrite_append a.out.now a.at a.word.now (decimal a.n) (omega (arith, total)) }
