@@ -14,10 +14,13 @@ import sys
 ID = r"[A-Za-z_μκ◌][A-Za-z0-9_'₀-₉-]*"
 CHAIN = re.compile(r"(?<![A-Za-z0-9_'₀-₉.-])(" + ID + r")((?:\.[A-Za-z0-9_'₀-₉-]+)*)")
 MARK = "\x01"
+FIELDS = """a-leaf all-answered all-sums alphabet-count alphabet-digits alphabet-lies alphabet-limits alphabet-zero asked-at asked-count author-fault base-lies base-limits bytes-are converted-end converted-here converted-next converted-start covered-complete covered-sound depth-high digit-is digit-records editor-fault element-base element-difference element-input element-none element-sum element-weight failing-first first-failing first-indexes fitting-pairs good-base handed-on in-digits in-element in-numbers in-places in-section in-values in-whose input-digits input-lies input-limits input-zero is-size keeps-base keeps-difference keeps-sum known-row leaf-lies leaf-records lower-begins lower-found lower-there lowers-pass lowest-lower lowest-upper no-square none-deeper none-longer of-beta of-element of-omega of-s of-t of-u of-v only-facts ordered-code pairs-are refused-lent rows-fault rows-stored runs-failing runs-passing same-facts second-indexes some-input some-leaf some-leaves the-leaf upper-begins upper-there uppers-pass value-add value-is value-lit value-mul value-zero weight-limits weight-zero word-lies zero-first""".split()
 KEEP = {"args", "requires", "ranges", "lifetimes", "type_inv", "well_formed", "utf8"}
 
 
 def norm(s):
+    # two names that tools/respell.py turned as fields, where they are steps
+    s = {"leaf_count_within": "leaf-count", "input_count_within": "input-count"}.get(s, s)
     return s.replace("_", "-") if s else s
 
 
@@ -94,7 +97,7 @@ def blocks(text):
 def last_in(s):
     """The place behind the last `in` that stands in no brackets."""
     depth, at = 0, 0
-    for m in re.finditer(r"[(\[{]|[)\]}]|\bin\b", s):
+    for m in re.finditer(r"[(\[{]|[)\]}]|(?<![\w.-])in(?![\w-])", s):
         if m.group(0) in "([{":
             depth += 1
         elif m.group(0) in ")]}":
@@ -147,7 +150,7 @@ def tail_tuple(body):
             if depth == 0:
                 break
     head = s[:i]
-    if head.strip() and not re.search(r"(\bin|=|\brw (\S+|\([^()]*\)))\s*$", head):
+    if head.strip() and not re.search(r"((?<![\w.-])in|=|\brw (\S+|\([^()]*\)))\s*$", head):
         return None
     parts = [p.strip() for p in split_top(s[i + 1:-1], ",")]
     if parts and not parts[-1]:
@@ -295,6 +298,9 @@ class Turner:
         out = re.sub(r"\s*\(" + MARK + r"\)", "", out)
         out = re.sub(r"\s*" + MARK, "", out)
         out = self.types(out)
+        # a clause each, where two were rewritten at once
+        out = re.sub(r"\brw (\S+|\([^()]*\)) at \((c\.[^\s,()]+), (c\.[^\s,()]+)\)", r"(rw \1 at \2, rw \1 at \3)", out)
+        out = re.sub(r"\brw (\S+|\([^()]*\)) at \((c\.[^\s,()]+), (c\.[^\s,()]+), (c\.[^\s,()]+)\)", r"(rw \1 at \2, rw \1 at \3, rw \1 at \4)", out)
         out = re.sub(r"\(not-(?:false|true) _ (c\.if-not-[A-Za-z0-9_-]+\.(?:false|true))\)", r"\1", out)
         out = re.sub(r"not-(?:false|true) _ (c\.if-not-[A-Za-z0-9_-]+\.(?:false|true))", r"\1", out)
         return out
@@ -352,6 +358,9 @@ class Turner:
 
     def turn(self):
         text = open(os.path.join(self.folder, "Proof.antt"), encoding="utf-8").read()
+        # fields of our records, where a proof makes one
+        for f in FIELDS:
+            text = re.sub(r"(?<![A-Za-z0-9_'-])" + re.escape(f) + r"(?= =)", f.replace("-", "_"), text)
         items, tail = blocks(text)
         uses, inv, ans = [], [], []
         head = []
@@ -494,8 +503,9 @@ class Turner:
                     simple = re.search(r"(?:^|\bin|=)\s*(" + ID + r"(?:\.[A-Za-z0-9_'₀-₉-]+)*)\s*$", body)
                     if tt and len(tt[1]) == len(asked):
                         fields = "; ".join(f"{f} = {p}" for f, p in zip(asked, tt[1]))
-                        by_clause = (tt[0], list(zip(asked, tt[1])))
-                        body = tt[0] + "record { " + fields + " }"
+                        rewrites = bool(re.search(r"\brw (\S+|\([^()]*\))\s*$", tt[0]))
+                        by_clause = (tt[0], [(f, f"({p})" if rewrites else p) for f, p in zip(asked, tt[1])])
+                        body = tt[0] + ("(record { " + fields + " })" if rewrites else "record { " + fields + " }")
                     elif simple:
                         e = simple.group(1)
                         by_clause = (body[:simple.start(1)], [(f, f"{e}.{n}") for n, f in enumerate(asked)])
