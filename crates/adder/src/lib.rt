@@ -24,13 +24,13 @@ use reader_rules::Reading;
 use ring::Operation;
 use row_rules::Change;
 
-#[derive(Drop)]
+#[derive(Clone, Copy)]
 pub enum Added {
     Sum(AddedFacts),
     Refused(Fault),
 }
 
-#[derive(Drop)]
+#[derive(Clone, Copy)]
 pub enum Subtracted {
     Difference(AddedFacts),
     Refused(Fault),

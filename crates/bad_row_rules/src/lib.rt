@@ -3,7 +3,7 @@ use faults::Fault;
 use midpoint::Element;
 
 // What is shown of a table that rule 14 refuses: the two leaves, the digit that comes out, and how many bytes of the string were written.
-#[derive(Drop)]
+#[derive(Clone, Copy)]
 pub struct BadRow {
     pub upper: usize,
     pub lower: usize,
@@ -12,7 +12,7 @@ pub struct BadRow {
 }
 
 // The answer of the call.
-#[derive(Drop)]
+#[derive(Clone, Copy)]
 pub enum Shown {
     Row(BadRow),
     Nothing,

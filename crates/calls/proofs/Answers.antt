@@ -17,8 +17,8 @@ use Rattle.calls.specs.Answers.{Stage, stage, StagesKept, FirstFault, Answers}
 
 module _ {F : Type 0} where
   -- facts come out of a stage only where it found nothing
-  pub unless-given : (g : Group) (a : Refusal) (rest : Outcome F) (f : F) → unless g a rest ≡ facts f → (a.number ≡ 0) × (rest ≡ facts f)
-  unless-given g a rest f e =
+  pub unless_given : (g : Group) (a : Refusal) (rest : Outcome F) (f : F) → unless g a rest ≡ facts f → (a.number ≡ 0) × (rest ≡ facts f)
+  unless_given g a rest f e =
       elim (ℕ_discrete a.number 0) [
         | yes z ↦ (z, sym (unless_none g a rest z) ∙ e)
         | no some ↦ absurd (facts_no_fault (unless g a rest) f g a.number a.place e (unless_found g a rest some))
@@ -60,15 +60,15 @@ pub data Told {F : Type 0} (stages : List Stage) (answer : F) (outcome : Outcome
 
 module _ {F : Type 0} where
   -- after the last stage
-  pub told-end : (answer : F) → Told [] answer (facts answer)
-  told-end answer = gives refl tt
+  pub told_end : (answer : F) → Told [] answer (facts answer)
+  told_end answer = gives refl tt
 
   -- a stage in front of others, which are judged only where it found nothing
-  pub told-unless : (whose : Group) (rules : List Rule) (stages : List Stage) (answer : F) (a : Refusal) (rest : Outcome F) → Decided rules a
+  pub told_unless : (whose : Group) (rules : List Rule) (stages : List Stage) (answer : F) (a : Refusal) (rest : Outcome F) → Decided rules a
       → (AllKept rules → Told stages answer rest) → Told (stage whose rules ∷ stages) answer (unless whose a rest)
-  told-unless whose rules stages answer a rest (refuses some first) next =
+  told_unless whose rules stages answer a rest (refuses some first) next =
       faults whose a.number a.place (unless_found whose a rest (λ z. omega arith)) some (inl (refl, first))
-  told-unless whose rules stages answer a rest (passes e kept) next = after (next kept)
+  told_unless whose rules stages answer a rest (passes e kept) next = after (next kept)
     where
       same : unless whose a rest ≡ rest
       same = unless_none whose a rest (number_is a none e)
@@ -78,15 +78,15 @@ module _ {F : Type 0} where
       after (faults g n p is some first) = faults g n p (same ∙ is) some (inr (kept, first))
 
   -- demand 1
-  pub told-answers : (stages : List Stage) (answer : F) (o : Outcome F) → Told stages answer o → Answers stages answer o
-  told-answers stages answer o (gives is kept) =
+  pub told_answers : (stages : List Stage) (answer : F) (o : Outcome F) → Told stages answer o → Answers stages answer o
+  told_answers stages answer o (gives is kept) =
       record {
         first = λ g n p h. (λ s. absurd (facts_no_fault o answer g n p is s), λ f. absurd (kept_or_fault stages g n p h kept f));
         passed = (λ _. kept, λ _. is);
         some_number = λ g n p s. absurd (facts_no_fault o answer g n p is s);
-        only-facts = λ f s. one_answer o f answer s is;
+        only_facts = λ f s. one_answer o f answer s is;
       }
-  told-answers stages answer o (faults g n p is some f) =
+  told_answers stages answer o (faults g n p is some f) =
       record {
         first = λ k m q h. (
           λ s. let e = one_fault o g k n m p q is s in moved k m q e f,
@@ -94,7 +94,7 @@ module _ {F : Type 0} where
         );
         passed = (λ s. absurd (facts_no_fault o answer g n p s is), λ kept. absurd (kept_or_fault stages g n p some kept f));
         some_number = λ k m q s. subst (λ (j : ℕ). 0 < j) (one_fault o g k n m p q is s).1 some;
-        only-facts = λ x s. absurd (facts_no_fault o x g n p s is);
+        only_facts = λ x s. absurd (facts_no_fault o x g n p s is);
       }
     where
       moved : (k : Group) (m q : ℕ) → (g ≡ k) × (n ≡ m) × (p ≡ q) → FirstFault stages g n p → FirstFault stages k m q
@@ -102,4 +102,4 @@ module _ {F : Type 0} where
 
 -- demand 1 of a call with one stage
 pub stage_answers : {F : Type 0} (whose : Group) (rules : List Rule) (a : Refusal) (answer : F) → Decided rules a → Answers (stage whose rules ∷ []) answer (unless whose a (facts answer))
-stage_answers whose rules a answer d = told-answers _ answer _ (told-unless whose rules [] answer a (facts answer) d (λ _. told-end answer))
+stage_answers whose rules a answer d = told_answers _ answer _ (told_unless whose rules [] answer a (facts answer) d (λ _. told_end answer))

@@ -26,4 +26,4 @@ pub record Answers {F : Type 0} (stages : List Stage) (answer : F) (outcome : Ou
   pub first : (g : Group) (n p : ℕ) → 0 < n → (outcome ≡ refused g n p) ↔ FirstFault stages g n p
   pub passed : (outcome ≡ facts answer) ↔ StagesKept stages
   pub some_number : (g : Group) (n p : ℕ) → outcome ≡ refused g n p → 0 < n
-  pub only-facts : (f : F) → outcome ≡ facts f → f ≡ answer
+  pub only_facts : (f : F) → outcome ≡ facts f → f ≡ answer

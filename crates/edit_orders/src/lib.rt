@@ -10,14 +10,14 @@ use row_edit::Edited;
 use row_rules::Change;
 
 // The answers of two edits, one after the other.
-#[derive(Drop)]
+#[derive(Clone, Copy)]
 pub struct Turns {
     pub first: Edited,
     pub second: Edited,
 }
 
 // Those of e and then f, and of f and then e.
-#[derive(Drop)]
+#[derive(Clone, Copy)]
 pub struct Orders {
     pub forth: Turns,
     pub back: Turns,

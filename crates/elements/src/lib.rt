@@ -1,4 +1,6 @@
 // Elements of every degree as four 64-bit parts, those above the degree zero, and multiplication by the base.
+#![tactic(auto)]
+
 ghost use Rattle.std.specs.Prelude.{◌≡◌, map, ◌+◌, ◌-◌, ◌≤◌, ◌<◌, ◌^◌, take, nat_abs};
 ghost use Rattle.ring.specs.Element.{part, plus, minus};
 ghost use Rattle.ring.specs.Degree.{part_count};

@@ -1,7 +1,8 @@
 // Faults as document 01's "Who sends a fault" has them. No function: the calls make them, the stages of a check make refusals.
+#![tactic(auto)]
 
 // A fault says whose it is: the table's author, whoever lends the rows, or the editor.
-#[derive(Drop)]
+#[derive(Clone, Copy)]
 pub enum Fault {
     Author { number: usize, place: usize },
     Rows { number: usize, place: usize },
@@ -9,7 +10,7 @@ pub enum Fault {
 }
 
 // What a stage of the checks finds: the number of the first broken rule and its place; number 0 says that none is broken.
-#[derive(Drop)]
+#[derive(Clone, Copy)]
 pub struct Refusal {
     pub number: usize,
     pub place: usize,

@@ -2,14 +2,14 @@
 use faults::Fault;
 
 // The facts of the forecast: the number of fitting leaf pairs, and the bytes that the sum of two rows needs.
-#[derive(Drop)]
+#[derive(Clone, Copy)]
 pub struct ForecastFacts {
     pub pairs: usize,
     pub bytes: usize,
 }
 
 // The answer of the call.
-#[derive(Drop)]
+#[derive(Clone, Copy)]
 pub enum Forecast {
     Facts(ForecastFacts),
     Refused(Fault),

@@ -1,5 +1,7 @@
 // The table file of document 01, as far as its layout goes: 16-bit numbers, and the five sections as the directory gives them. The rules
 // stand apart: 1 to 3 in `directory`, 4 in `limits`.
+#![tactic(auto)]
+
 ghost use Rattle.std.specs.Prelude.{◌≡◌, ◌+◌, ◌≤◌, ◌<◌, length, nat_abs};
 ghost use Rattle.ring.specs.declared.Degree.TheVariants.{Two, Three, Four};
 ghost use Rattle.ring.specs.Degree.{part_count};

@@ -13,7 +13,7 @@ use ring::Degree;
 const INPUTS: usize = 2;
 
 // The columns of a listing: how many a word has, how wide each is, and how wide that of the weights.
-#[derive(Drop)]
+#[derive(Clone, Copy)]
 pub struct Columns {
     pub count: usize,
     pub digits: usize,

@@ -36,7 +36,7 @@ pub both_text : element_text (pos 2 ∷ pos 3 ∷ pos 0 ∷ pos 0 ∷ []) ≡ by
 unfolding bytes_of element_text parts_text part_text sign_text factor_text power_text decimal decimal_within
 both_text = refl
 
-pub below_text : element_text (negsuc 0 ∷ negsuc 9 ∷ pos 0 ∷ pos 0 ∷ []) ≡ bytes_of "-1_10w"
+pub below_text : element_text (negsuc 0 ∷ negsuc 9 ∷ pos 0 ∷ pos 0 ∷ []) ≡ bytes_of "-1-10w"
 unfolding bytes_of element_text parts_text part_text sign_text factor_text power_text decimal decimal_within
 below_text = refl
 
@@ -48,11 +48,11 @@ pub minus_omega_text : element_text (pos 0 ∷ negsuc 0 ∷ pos 0 ∷ pos 0 ∷ 
 unfolding bytes_of element_text parts_text part_text sign_text factor_text power_text decimal decimal_within
 minus_omega_text = refl
 
-pub all_text : element_text (pos 1 ∷ pos 2 ∷ negsuc 0 ∷ pos 3 ∷ []) ≡ bytes_of "1+2w_w^2+3w^3"
+pub all_text : element_text (pos 1 ∷ pos 2 ∷ negsuc 0 ∷ pos 3 ∷ []) ≡ bytes_of "1+2w-w^2+3w^3"
 unfolding bytes_of element_text parts_text part_text sign_text factor_text power_text decimal decimal_within
 all_text = refl
 
-pub top_text : element_text (pos 0 ∷ pos 0 ∷ pos 1 ∷ negsuc 0 ∷ []) ≡ bytes_of "w^2_w^3"
+pub top_text : element_text (pos 0 ∷ pos 0 ∷ pos 1 ∷ negsuc 0 ∷ []) ≡ bytes_of "w^2-w^3"
 unfolding bytes_of element_text parts_text part_text sign_text factor_text power_text decimal decimal_within
 top_text = refl
 

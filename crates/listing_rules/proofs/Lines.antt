@@ -54,7 +54,7 @@ tern_norm = refl
 abbrev cubic : Section
 cubic = of_degree Three (254 ∷ 255 ∷ 0 ∷ 0 ∷ 1 ∷ 0 ∷ 2 ∷ 0 ∷ 1 ∷ 0 ∷ 0 ∷ 0 ∷ [])
 
-pub cubic_ring : ring_line cubic ≡ bytes_of "omega^3 = 1_2w^2, base 2+w\n"
+pub cubic_ring : ring_line cubic ≡ bytes_of "omega^3 = 1-2w^2, base 2+w\n"
 unfolding bytes_of ring_line element_text parts_text part_text sign_text factor_text power_text decimal decimal_within omega_of beta_of parts_at span to_signed unsigned_at
 cubic_ring = refl
 

@@ -16,7 +16,7 @@ use ring::Degree;
 const LONGEST: usize = 8;
 
 // What the look-up answers: the leaf's number, and its word's length.
-#[derive(Drop)]
+#[derive(Clone, Copy)]
 pub struct Found {
     pub leaf: usize,
     pub length: usize,

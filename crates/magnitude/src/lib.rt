@@ -1,4 +1,6 @@
 // The size of a whole number.
+#![tactic(auto)]
+
 ghost use Rattle.std.specs.Prelude.{◌≡◌, ◌<◌, ◌^◌, nat_abs};
 
 // The absolute value.

@@ -1,11 +1,13 @@
 // The public element and the midpoint of two.
+#![tactic(auto)]
+
 ghost use Rattle.std.specs.Prelude.{◌≡◌, ◌≤◌, ◌^◌, nat_abs, ◌+ℤ◌};
 ghost use Rattle.ring.specs.Tests.{Within};
 ghost use Rattle.midpoint.specs.Halved.{halved};
 ghost use Rattle.midpoint.specs.Midpoint.{parts, midpoint_of};
 
 // An element a + b·ω + c·ω² + d·ω³ as callers see it; the parts above the degree are zero.
-#[derive(Drop)]
+#[derive(Clone, Copy)]
 pub struct Element {
     pub a: i32,
     pub b: i32,

@@ -5,21 +5,21 @@ ghost use Rattle.mirror_rules.specs.Half.{mirror_index, stored_number, image_num
 ghost use Rattle.mirror_rules.specs.Half.{word_digit, word_number, images_below, leaf_place, word_place, put_word, put_leaf, put_leaves};
 
 // How many input digits are positive, and how many digits of `words` each leaf has: its own and zeros behind them.
-#[derive(Drop)]
+#[derive(Clone, Copy)]
 struct Shape {
     positive: usize,
     width: usize,
 }
 
 // Where the leaves' records and their words start in the file.
-#[derive(Drop)]
+#[derive(Clone, Copy)]
 struct Sections {
     leaves: usize,
     words: usize,
 }
 
 // A leaf's number in the whole table, and where its word starts.
-#[derive(Drop)]
+#[derive(Clone, Copy)]
 struct Place {
     leaf: usize,
     word: usize,

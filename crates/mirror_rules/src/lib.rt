@@ -1,1 +1,2 @@
 // No function: tables that are stored by half, in specs/ and proofs/.
+#![tactic(auto)]

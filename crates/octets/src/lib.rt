@@ -1,4 +1,6 @@
 // Bytes: one as a number, one at a place, many written, the highest of many, and how many there are up to the last that isn't 0.
+#![tactic(auto)]
+
 ghost use Rattle.std.specs.Prelude.{◌≡◌, ℕ, ◌+◌, ◌≤◌, ◌<◌, min, max, length, get_or};
 ghost use Rattle.lists.specs.Overwrite.{overwrite};
 

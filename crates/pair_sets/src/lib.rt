@@ -33,14 +33,14 @@ const SLOTS: usize = 256;
 const EMPTY: u8 = 255;
 
 // The weights of leaves that are neighbours, and where these end.
-#[derive(Drop)]
+#[derive(Clone, Copy)]
 struct Run {
     set: u64,
     end: usize,
 }
 
 // The same of the lower leaves that fit an upper one, and how many they are.
-#[derive(Drop)]
+#[derive(Clone, Copy)]
 struct FitRun {
     set: u64,
     count: usize,
@@ -48,7 +48,7 @@ struct FitRun {
 }
 
 // How many upper leaves, from the first on, are seen to pass, and how many pairs they have.
-#[derive(Drop)]
+#[derive(Clone, Copy)]
 pub struct PassedLeaves {
     pub uppers: usize,
     pub pairs: usize,

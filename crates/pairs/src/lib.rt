@@ -28,7 +28,7 @@ const SLOTS: usize = 256;
 const EMPTY: u8 = 255;
 
 // What an upper leaf gives: its lowest failing lower leaf, or the leaf count, then how many lower leaves fit, and where their run ended.
-#[derive(Drop)]
+#[derive(Clone, Copy)]
 struct Run {
     bad: usize,
     fitting: usize,
@@ -36,7 +36,7 @@ struct Run {
 }
 
 // The failing pair, or the leaf count twice and then the number of fitting pairs.
-#[derive(Drop)]
+#[derive(Clone, Copy)]
 pub struct Scan {
     pub pair: Pair,
     pub pairs: usize,

@@ -20,7 +20,7 @@ pub const STARTS: usize = 257;
 pub const NO_LEAF: u16 = 65535;
 
 // A leaf, and the reach with its word counted.
-#[derive(Drop)]
+#[derive(Clone, Copy)]
 pub struct Tried {
     pub leaf: usize,
     pub reach: usize,

@@ -178,7 +178,7 @@ fn digits_ahead(count: usize, single: bool, inputs: usize) -> usize {
 }
 
 // How many digits were written, and the longest word that was looked up for them.
-#[derive(Drop)]
+#[derive(Clone, Copy)]
 pub struct Written {
     pub count: usize,
     pub reach: usize,

@@ -1,8 +1,10 @@
 // No function: rules 1 to 13 of document 01 together as definitions, with demand 1 for the reader as a theorem.
+#![tactic(auto)]
+
 use faults::Fault;
 
 // Where a section lies in the file, and how many records it has.
-#[derive(Drop)]
+#[derive(Clone, Copy)]
 pub struct Part {
     pub start: usize,
     pub end: usize,
@@ -10,7 +12,7 @@ pub struct Part {
 }
 
 // The facts of a table that passes rules 1 to 13.
-#[derive(Drop)]
+#[derive(Clone, Copy)]
 pub struct Table {
     pub base: Part,
     pub alphabet: Part,
@@ -20,7 +22,7 @@ pub struct Table {
     pub depth: usize,
 }
 
-#[derive(Drop)]
+#[derive(Clone, Copy)]
 pub enum Reading {
     Facts(Table),
     Refused(Fault),

@@ -17,7 +17,7 @@ use faults::Fault;
 use ring::Operation;
 use row_rules::Change;
 
-#[derive(Drop)]
+#[derive(Clone, Copy)]
 pub enum Edited {
     Count(EditedFacts),
     Refused(Fault),

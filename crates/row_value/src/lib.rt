@@ -14,7 +14,7 @@ use midpoint::Element;
 use ring::Degree;
 
 // The value, or the place of the digit with which a part passed its limit.
-#[derive(Drop)]
+#[derive(Clone, Copy)]
 pub enum Worth {
     Whole(Element),
     Over(usize),

@@ -1,4 +1,6 @@
 // Rows of alphabet indexes as callers lend them: rules 20 to 26 of document 01 in stages, and a row read with one digit changed.
+#![tactic(auto)]
+
 ghost use Rattle.std.specs.Prelude.{◌≡◌, length, get_or};
 ghost use Rattle.lists.specs.Scan.{first_failing};
 ghost use Rattle.row_rules.specs.Check.{judge_one, lengths_allowed, index_allowed, index_check, room_allowed, row_check, digits_check, one_row_check, edit_check};

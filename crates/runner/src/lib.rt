@@ -13,7 +13,7 @@ use faults::Fault;
 use runner_rules::RanFacts;
 use table::Checked;
 
-#[derive(Drop)]
+#[derive(Clone, Copy)]
 pub enum Ran {
     Edits(RanFacts),
     Refused(Fault),

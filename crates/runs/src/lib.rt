@@ -15,7 +15,7 @@ const FEW: usize = 64;
 const LEAVES: usize = 4096;
 
 // How many lower leaves fit an upper one, and where their run ends.
-#[derive(Drop)]
+#[derive(Clone, Copy)]
 struct Run {
     fitting: usize,
     end: usize,

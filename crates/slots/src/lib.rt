@@ -1,4 +1,6 @@
 // A slot for each element, so that one among many is found at once.
+#![tactic(auto)]
+
 ghost use Rattle.std.specs.Prelude.{◌≡◌, ◌<◌, ◌^◌};
 ghost use Rattle.ring.specs.Tests.{Within};
 ghost use Rattle.slots.specs.Slot.{slot_of};

@@ -12,7 +12,7 @@ use pairs::Scan;
 use reader_rules::Reading;
 use table_rules::Facts;
 
-#[derive(Drop)]
+#[derive(Clone, Copy)]
 pub enum Checked {
     Accepted(Facts),
     Refused(Fault),

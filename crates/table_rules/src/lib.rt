@@ -1,7 +1,8 @@
 // No function: the check of a table as a definition, with demands 1 and 2 as theorems.
+#![tactic(auto)]
 
 // The facts of the check: depth, leaf count, alphabet size and the number of fitting leaf pairs.
-#[derive(Drop)]
+#[derive(Clone, Copy)]
 pub struct Facts {
     pub depth: usize,
     pub leaves: usize,
@@ -10,7 +11,7 @@ pub struct Facts {
 }
 
 // Two leaves, upper and lower.
-#[derive(Drop)]
+#[derive(Clone, Copy)]
 pub struct Pair {
     pub upper: usize,
     pub lower: usize,

@@ -18,7 +18,7 @@ use ring::Degree;
 use row_value::Worth;
 
 // The facts are the element.
-#[derive(Drop)]
+#[derive(Clone, Copy)]
 pub enum Valued {
     Value(Element),
     Refused(Fault),

@@ -6,7 +6,7 @@ use midpoint::Element;
 use std::io::Read as _;
 
 // A number, or an input that ends before all of it.
-#[derive(Drop)]
+#[derive(Clone, Copy)]
 pub enum Read {
     Got(usize),
     Cut,

@@ -1,4 +1,6 @@
 // Words and windows as 64-bit numbers, a byte to a digit, so that two are compared at once.
+#![tactic(auto)]
+
 ghost use Rattle.std.specs.Prelude.{◌≡◌, ℕ, ◌+◌, ◌-◌, ◌≤◌, ◌<◌, ◌^◌};
 ghost use lib.ListN.{length, get_or};
 ghost use Rattle.radix.specs.Number.{number, aligned};

@@ -1,0 +1,461 @@
+#!/usr/bin/env python3
+"""Turns a crate's proofs that walk the code (proofs/F/Proof.antt) to Invariants.antt and Answers.antt.
+
+usage: python3 tools/turn_proofs.py CRATE NAMES_JSON [F..]
+
+NAMES_JSON is what `rt check --generated DIR --old-names` writes: each function's goals, steps and loops by their old and new names.
+An answer that only says `search rules` goes, since the check tries that itself. What it can't turn it says, and leaves for a hand.
+"""
+import json
+import os
+import re
+import sys
+
+ID = r"[A-Za-z_μκ◌][A-Za-z0-9_'₀-₉-]*"
+CHAIN = re.compile(r"(?<![A-Za-z0-9_'₀-₉.-])(" + ID + r")((?:\.[A-Za-z0-9_'₀-₉-]+)*)")
+KEEP = {"args", "requires", "ranges", "lifetimes", "type_inv", "well_formed", "utf8"}
+
+
+def norm(s):
+    return s.replace("_", "-") if s else s
+
+
+class Fn:
+    def __init__(self, data):
+        self.d = data
+        self.places = data["places"]
+        self.new_place = data["places_by_name"]
+        self.index = {}
+        for i, p in enumerate(self.places):
+            self.index.setdefault(norm(p[0]), []).append(i)
+        self.parent = []
+        for i, p in enumerate(self.places):
+            if p[1] is None:
+                self.parent.append(None)
+            else:
+                before = [j for j in self.index[norm(p[1])] if j < i]
+                self.parent.append(before[-1] if before else self.index[norm(p[1])][0])
+        self.needs = data["needs"]
+        self.asked = data["asked_at"]
+
+    def place(self, old):
+        got = self.index.get(norm(old))
+        return got[0] if got else None
+
+    def up(self, i):
+        out = []
+        while i is not None:
+            out.append(i)
+            i = self.parent[i]
+        return out
+
+    def step(self, at, name):
+        """The new name of the step that a proof calls `name`, seen from place index `at`; and the place that it is of."""
+        for i in self.up(at):
+            if norm(self.places[i][2][0]) == norm(name):
+                return self.places[i][2][1], i
+        for i, p in enumerate(self.places):
+            if norm(p[2][0]) == norm(name):
+                return p[2][1], i
+        return None, None
+
+
+def blocks(text):
+    """Top-level blocks: (comment lines, signature and all else)."""
+    out, lead, cur = [], [], None
+    for line in text.split("\n"):
+        if re.match(r"^((abbrev|unfoldable|pub) )*" + ID + r" :", line) or re.match(r"^(use|module|infix)", line):
+            if cur is not None:
+                out.append(cur)
+            cur = [lead, [line]]
+            lead = []
+        elif line.startswith("--"):
+            if cur is not None:
+                out.append(cur)
+                cur = None
+            lead.append(line)
+        elif cur is None:
+            if line.strip():
+                cur = [lead, [line]]
+                lead = []
+        else:
+            cur[1].append(line)
+    if cur is not None:
+        out.append(cur)
+    return [(l, "\n".join(b).rstrip()) for l, b in out], lead
+
+
+def split_top(s, sep):
+    parts, depth, cur = [], 0, ""
+    for ch in s:
+        if ch in "([{":
+            depth += 1
+        elif ch in ")]}":
+            depth -= 1
+        if ch == sep and depth == 0:
+            parts.append(cur)
+            cur = ""
+        else:
+            cur += ch
+    parts.append(cur)
+    return parts
+
+
+def tail_tuple(body):
+    """Splits `.. in (a, b)` into what stands before the last top-level tuple, and its parts."""
+    s = body.rstrip()
+    if not s.endswith(")"):
+        return None
+    depth = 0
+    for i in range(len(s) - 1, -1, -1):
+        if s[i] == ")":
+            depth += 1
+        elif s[i] == "(":
+            depth -= 1
+            if depth == 0:
+                break
+    head = s[:i]
+    if head.strip() and not re.search(r"(\bin|=)\s*$", head):
+        return None
+    parts = [p.strip() for p in split_top(s[i + 1:-1], ",")]
+    if parts and not parts[-1]:
+        parts.pop()
+    return head, parts
+
+
+class Turner:
+    def __init__(self, crate, fname, folder, data):
+        self.crate, self.fname, self.folder = crate, fname, folder
+        self.fn = Fn(data)
+        self.said = []
+        self.helpers = {}
+        self.used_places = set()
+
+    def say(self, what):
+        self.said.append(f"{self.crate}::{self.fname}: {what}")
+
+    def fields(self, at, step_place, rest):
+        """Fields after a step: clause numbers become clause names."""
+        if rest and step_place is not None:
+            c = self.fn.d["clauses"][step_place]
+            if rest == ["ensures"] and c and c.get("fields") and len(c["fields"]) > 1:
+                return ["ensures", "\0" + ",".join(c["fields"])]
+            if rest[0] == "ensures" and len(rest) > 1 and rest[1].isdigit() and c and c.get("fields"):
+                k = int(rest[1])
+                if k < len(c["fields"]) and len(c["fields"]) > 1:
+                    rest = [rest[0], c["fields"][k]] + rest[2:]
+        return rest
+
+    def chain(self, m, at, roots, need):
+        root, tail = m.group(1), [x for x in m.group(2).split(".") if x]
+        if root not in roots:
+            return m.group(0)
+        place = roots[root]
+        k = 0
+        while k < len(tail) and tail[k] == "before":
+            place = self.fn.parent[place] if place is not None and self.fn.parent[place] is not None else place
+            k += 1
+        rest = tail[k:]
+        if not rest:
+            return self.whole(m, root, place, k, at, need)
+        out = root if root == "c" else root
+        if rest[0] in KEEP:
+            return ".".join([out] + rest)
+        new, sp = self.fn.step(place, rest[0])
+        if new is None:
+            self.say(f"no step {rest[0]}")
+            return ".".join([out] + rest)
+        rest2 = self.fields(at, sp, rest[1:])
+        if rest2 and rest2[-1].startswith("\0"):
+            e = ".".join([out, new, "ensures"])
+            return "(" + ", ".join(f"{e}.{f}" for f in rest2[-1][1:].split(",")) + ")"
+        return ".".join([out, new] + rest2)
+
+    def whole(self, m, root, place, befores, at, need):
+        """A chain that stands for a place itself: an argument of a helper."""
+        before = m.string[:m.start()].rstrip("( ")
+        h = re.search(r"(" + ID + r")$", before)
+        if h and h.group(1) in self.helpers and self.helpers[h.group(1)] is not None:
+            place = self.helpers[h.group(1)]
+        elif befores == 0:
+            return root
+        if place == at and root == "c":
+            return root
+        chain = self.fn.up(at)
+        if place in chain:
+            return root + ".before" * chain.index(place)
+        self.say(f"place {self.fn.places[place][0]} isn't above")
+        return m.group(0)
+
+    def body(self, text, at, need, roots):
+        # aliases of places: let s = c.before.before in
+        roots = dict(roots)
+        out, pos = "", 0
+        alias = re.compile(r"let (" + ID + r") = (" + ID + r")((?:\.before)*) in\b")
+        while True:
+            m = alias.search(text, pos)
+            piece = text[pos:m.start()] if m else text[pos:]
+            out += CHAIN.sub(lambda k: self.chain(k, at, roots, need), piece)
+            if not m:
+                break
+            if m.group(2) in roots:
+                place = roots[m.group(2)]
+                for _ in range(m.group(3).count(".before")):
+                    place = self.fn.parent[place] if self.fn.parent[place] is not None else place
+                roots[m.group(1)] = place
+                out += f"let {m.group(1)} = {m.group(2)} in"
+            else:
+                out += m.group(0)
+            pos = m.end()
+        # a where-local or a λ with a place's type
+        out = self.types(out)
+        return out
+
+    def types(self, text):
+        def t(m):
+            i = self.fn.place(m.group(1))
+            if i is None:
+                self.say(f"no place {m.group(1)}")
+                return m.group(0)
+            self.used_places.add(i)
+            return self.fn.new_place[i]
+        return re.sub(r"tie\.((?:Start|After|Then|Else|In|At|Joined)[A-Za-z0-9_-]*)(?: invariant-\S+| decreases-\S+)*", t, text)
+
+    def need(self, name, typ):
+        t = re.search(r"tie\.Need-([A-Za-z0-9_-]+)", typ).group(1)
+        for cand in (t, name):
+            for k, (old, new) in enumerate(self.fn.needs):
+                if norm(old) == norm(cand):
+                    return k
+        for cand in (t, name):
+            c = norm(re.sub(r"^(overflow|nonzero|slice-bounds|bounds)[-_]", "", cand))
+            for k, (old, new) in enumerate(self.fn.needs):
+                if norm(old) == c:
+                    return k
+        return None
+
+    def turn(self):
+        text = open(os.path.join(self.folder, "Proof.antt"), encoding="utf-8").read()
+        items, tail = blocks(text)
+        uses, inv, ans = [], [], []
+        head = []
+        self.pieces = {"answers": {}, "helpers": [], "places": [], "place_names": [], "uses": uses, "head": head}
+        roots0 = {}
+        # helpers' places first
+        for lead, b in items:
+            m = re.match(r"^(?:(?:abbrev|unfoldable|pub) )*(" + ID + r") : (?:\{[^}]*\} → )?\((\w+) : tie\.((?:Start|After|Then|Else|In|At|Joined)[A-Za-z0-9_-]*)", b)
+            m2 = re.match(r"^(?:(?:abbrev|unfoldable|pub) )*(" + ID + r") : tie\.((?:Start|After|Then|Else|In|At|Joined)[A-Za-z0-9_-]*)(?: invariant-\S+| decreases-\S+)* →", b)
+            if m:
+                self.helpers[m.group(1)] = self.fn.place(m.group(3))
+            elif m2:
+                self.helpers[m2.group(1)] = self.fn.place(m2.group(2))
+        for n, (lead, b) in enumerate(items):
+            if b.startswith("use "):
+                if re.search(r"\.(Statement|Tie|Reads)\b", b):
+                    head += lead
+                    continue
+                head += lead
+                uses.append(b)
+                continue
+            sig = re.match(r"^((?:(?:abbrev|unfoldable|pub) )*)(" + ID + r") : (.*)$", b.split("\n")[0])
+            if not sig:
+                self.say("block: " + b.split("\n")[0][:80])
+                ans.append("\n".join(lead + [b]))
+                continue
+            name, typ = sig.group(2), sig.group(3)
+            whole_typ = typ
+            lines = b.split("\n")
+            if "statement" in typ and "tie." not in typ:
+                continue
+            k = re.match(r"tie\.(invariant|decreases)-(\S+)", typ)
+            if k:
+                inv.append((lead, k.group(1), k.group(2), name, "\n".join(lines[1:])))
+                continue
+            if typ.startswith("tie.Need-"):
+                i = self.need(name, typ)
+                unf = [l for l in lines[1:] if l.startswith("unfolding ")]
+                rest = [l for l in lines[1:] if not l.startswith("unfolding ")]
+                if i is None:
+                    self.say(f"no need {name} : {typ}")
+                    ans.append("\n".join(["-- was " + l for l in lines]))
+                    continue
+                old, new = self.fn.needs[i]
+                at = self.fn.place(self.fn.asked[i][0])
+                # the place as named today, where old names repeat
+                for j, q in enumerate(self.fn.new_place):
+                    if q == self.fn.asked[i][1]:
+                        at = j
+                d = "\n".join(rest)
+                hm = re.match(r"^" + re.escape(name) + r"((?: [^\s=]+)*) =\s?", d)
+                if not hm:
+                    self.say(f"head of {name}: {d[:60]}")
+                    ans.append("-- was\n" + d)
+                    continue
+                params = hm.group(1).split()
+                body = d[hm.end():]
+                if re.fullmatch(r"\s*(search rules|omega arith|tt|search needs)\s*", body) and not unf:
+                    continue
+                if params[:1] != ["c"]:
+                    self.say(f"parameters of {name}: {params}")
+                where = ""
+                wm = re.search(r"\n  where\n", body)
+                if wm:
+                    where = body[wm.start():]
+                    body = body[:wm.start()]
+                body = self.body(body, at, new, {"c": at})
+                if where:
+                    where = self.body(where, at, new, {"c": at})
+                asked = self.fn.d["asked"].get(old)
+                by_clause = None
+                if asked and len(asked) > 1:
+                    tt = tail_tuple(body)
+                    simple = re.search(r"(?:^|\bin|=)\s*(" + ID + r"(?:\.[A-Za-z0-9_'₀-₉-]+)*)\s*$", body)
+                    if tt and len(tt[1]) == len(asked):
+                        fields = "; ".join(f"{f} = {p}" for f, p in zip(asked, tt[1]))
+                        by_clause = (tt[0], list(zip(asked, tt[1])))
+                        body = tt[0] + "record { " + fields + " }"
+                    elif simple:
+                        e = simple.group(1)
+                        by_clause = (body[:simple.start(1)], [(f, f"{e}.{n}") for n, f in enumerate(asked)])
+                        fields = "; ".join(f"{f} = {e}.{n}" for n, f in enumerate(asked))
+                        body = body[:simple.start(1)] + "record { " + fields + " }"
+                    elif "search" not in body:
+                        # a pair that a lemma gives: its parts
+                        lm = re.search(r"(?:^|\bin)\s*((?:[^()]|\((?:[^()]|\((?:[^()]|\((?:[^()]|\([^()]*\))*\))*\))*\))*)$", body)
+                        e = lm.group(1).strip() if lm else ""
+                        rm = re.match(r"rw (\S+|\((?:[^()]|\((?:[^()]|\((?:[^()]|\([^()]*\))*\))*\))*\)) (.*)$", e, re.S)
+                        if rm:
+                            pre, e = f"rw {rm.group(1)} ", rm.group(2)
+                        else:
+                            pre = ""
+                        if e and "∙" not in e and " in " not in e:
+                            e = e if re.match(r"^\(.*\)$", e, re.S) else f"({e})"
+                            by_clause = (body[:lm.start(1)] + pre if lm else pre, [(f, f"{e}.{n}") for n, f in enumerate(asked)])
+                        self.say(f"clauses of {new}: {asked}")
+                sep = "\n" if body.startswith("\n") or body.startswith("    ") else " "
+                if body.startswith("\n"):
+                    sep = ""
+                ans.append("\n".join(lead + [f"pub {new} : goal.{new}"] + unf + [f"{new} c ={sep}{body}{where}"]))
+                self.pieces["answers"][new] = ans[-1]
+                if by_clause:
+                    for f, e in by_clause[1]:
+                        cl = f"{new}-clause-{f}"
+                        b2 = by_clause[0] + e
+                        s2 = "" if b2.startswith("\n") else ("\n" if b2.startswith("    ") else " ")
+                        self.pieces["answers"][cl] = "\n".join(lead + [f"pub {cl} : goal.{cl}"] + unf + [f"{cl} c ={s2}{b2}{where}"])
+                continue
+            # a helper
+            hp = self.helpers.get(name)
+            if hp is not None:
+                pm = re.search(r"\((\w+) : tie\.", b)
+                var = pm.group(1) if pm else "c"
+                t = self.types(b)
+                # its own parameter is named alike in the definition
+                dm = re.search(r"^" + re.escape(name) + r" (\w+)", b, re.M)
+                roots = {var: hp}
+                if dm:
+                    roots[dm.group(1)] = hp
+                t = CHAIN.sub(lambda q: self.chain(q, hp, roots, None), t)
+                ans.append("\n".join(lead + [t]))
+                self.pieces["helpers"].append([name, ans[-1]])
+            else:
+                if "tie." in b:
+                    b = self.types(b)
+                    pm = re.search(r"\((\w+) : ((?:Start|After|Then|Else|In|At|Joined)[A-Za-z0-9_-]*)", b)
+                    if pm and pm.group(2) in self.fn.new_place:
+                        hp = self.fn.new_place.index(pm.group(2))
+                        b = CHAIN.sub(lambda q: self.chain(q, hp, {pm.group(1): hp}, None), b)
+                ans.append("\n".join(lead + [b]))
+                self.pieces["helpers"].append([name, ans[-1]])
+        folder = os.path.join(self.folder)
+        if self.used_places:
+            args = []
+            if any(p[3] for p in self.fn.places):
+                args.append("tie.the-claims")
+            args += ["reads.Pre", "reads.Post"]
+            for names, vs in self.fn.d["loops"]:
+                args += [f"goal.the-invariant-{names[1]}", f"goal.the-decreases-{names[1]}"]
+            for i in sorted(self.used_places):
+                n = self.fn.new_place[i]
+                self.pieces["places"].append(f"abbrev {n} : Type 0\n{n} = lts.{self.fn.places[i][0]} {' '.join(args)}")
+                self.pieces["place_names"].append(n)
+        base = f"Rattle.{self.crate}.proofs.{os.path.basename(self.folder)}"
+        usetext = "\n".join(uses)
+        if inv:
+            out = []
+            for lead, kind, loop, name, d in inv:
+                out.append("\n".join(lead + self.invariant(kind, loop, name, d)))
+            top = head if not ans else []
+            write(os.path.join(folder, "Invariants.antt"), "\n".join(head + [usetext] * bool(usetext) + [f"use {base}.Given as goal"]) + "\n\n" + "\n\n".join(out) + "\n")
+        self.pieces["base"] = base
+        self.pieces["inv"] = bool(inv)
+        os.makedirs(f"/tmp/drive/{self.crate}", exist_ok=True)
+        json.dump(self.pieces, open(f"/tmp/drive/{self.crate}/pieces-{os.path.basename(self.folder)}.json", "w"), indent=1)
+        os.remove(os.path.join(folder, "Proof.antt"))
+        return self.said
+
+    def invariant(self, kind, loop, name, d):
+        loops = self.fn.d["loops"]
+        got = None
+        for j, (names, vs) in enumerate(loops):
+            if norm(names[0]) == norm(loop):
+                got = j
+        if got is None and len(loops) == 1:
+            got = 0
+        if got is None:
+            # a recursion's measure
+            self.say(f"loop {loop} of {[l[0] for l in loops]}")
+            return ["-- was " + l for l in d.split("\n")]
+        names, vs = loops[got]
+        changed = self.fn.d["changed"][got]
+        new = f"{kind}-{names[1]}"
+        m = re.match(r"^" + re.escape(name) + r"((?: [^\s=]+)*) =\s?", d)
+        params = m.group(1).split()
+        body = d[m.end():]
+        want = list(vs) + [v for v, ch in zip(vs, changed) if ch]
+        if len(params) != len(want):
+            self.say(f"parameters of {name}: {params} for {want}")
+        table = {}
+        for n, p in enumerate(params):
+            if n < len(vs):
+                table[p] = f"l.initial.{vs[n]}" if changed[n] else f"l.{vs[n]}"
+            elif n < len(want):
+                table[p] = f"l.{want[n]}"
+
+        def r(q):
+            if q.group(1) in table and q.group(1) != "_":
+                return table[q.group(1)] + q.group(2)
+            return q.group(0)
+        body = CHAIN.sub(r, body)
+        # a projection of an application keeps its brackets
+        sep = "\n" if body.startswith("    ") else " "
+        if body.startswith("\n"):
+            sep = ""
+        return [f"abbrev pub {new} : goal.{new}", f"{new} l ={sep}{body}"]
+
+
+def write(path, text):
+    with open(path, "w", encoding="utf-8") as f:
+        f.write(text)
+
+
+def main():
+    crate, names = sys.argv[1], json.load(open(sys.argv[2]))
+    only = set(sys.argv[3:])
+    root = os.path.join("crates", crate, "proofs")
+    for f in sorted(os.listdir(root)):
+        folder = os.path.join(root, f)
+        if not os.path.exists(os.path.join(folder, "Proof.antt")):
+            continue
+        if only and f not in only:
+            continue
+        key = f"Rattle-{crate}-proofs.{f}.Lts"
+        if key not in names:
+            print(f"{crate}::{f}: no names")
+            continue
+        for s in Turner(crate, f, folder, names[key]).turn():
+            print(s)
+
+
+if __name__ == "__main__":
+    main()
