@@ -1,4 +1,4 @@
-//! Tells the linker where the static library is: the folder that YOYOMYRTLE_LIB names, else the one that `rt staticlib` writes to. With the
+//! Tells the linker where the static library is: the folder that YOYOMYRTLE_LIB names, else the one that `bin/build library` writes to. With the
 //! feature `before` an earlier archive is linked too, that of the folder YOYOMYRTLE_BEFORE, with `before_` in front of its names.
 
 use std::env;

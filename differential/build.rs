@@ -1,4 +1,4 @@
-//! Tells the linker where the static library is: the folder that YOYOMYRTLE_LIB names, else the one that `rt staticlib` writes to.
+//! Tells the linker where the static library is: the folder that YOYOMYRTLE_LIB names, else the one that `bin/build library` writes to.
 
 use std::env;
 use std::path::PathBuf;

@@ -1,6 +1,8 @@
 // The calls for C and Rust: each slice is a pointer and then a length. Facts and faults go into a lent array of signed 64-bit words,
 // at least 8 long: 0 and the facts, or whose fault it is (1 author, 2 rows, 3 editor), its number and its place; further words keep
 // their contents. A call returns 0 for facts, 1 for a fault, and 2 where a lent array is too short, which it then leaves alone.
+#![tactic(auto)]
+
 ghost use Rattle.std.specs.Prelude.{◌≡◌, [], ◌∷◌, length};
 ghost use Rattle.lists.specs.Overwrite.{overwrite};
 ghost use Rattle.faults.specs.Outcome.{facts};

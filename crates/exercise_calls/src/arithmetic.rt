@@ -6,6 +6,7 @@ ghost use Rattle.ring.specs.Tests.{Within, BaseSizes};
 use crate::output;
 use midpoint::Element;
 use ring::Degree;
+use std::io;
 
 // A part of a product of small numbers: it fits.
 fn narrow(part: i64) -> i32
@@ -32,29 +33,31 @@ fn product(omega: [i64; 4], beta: [i64; 4], x: [i64; 4]) -> Element
 }
 
 // M1 and M2
-pub fn products() {
+pub fn products(rt: &impl Print) -> io::Result<()> {
     let degree = Degree::Two;
     output::element(
+        rt,
         b"M1",
         degree,
         product([-1, 0, 0, 0], [-1, 1, 0, 0], [1, 1, 0, 0]),
-    );
+    )?;
     output::element(
+        rt,
         b"M2",
         degree,
         product([-1, -1, 0, 0], [1, 1, 0, 0], [1, 1, 0, 0]),
-    );
+    )
 }
 
 // M3 to M6
-pub fn bases() {
-    output::verdict(b"M3", base_tests::is_expanding(0, -1, -1, 1));
-    output::verdict(b"M4", base_tests::is_expanding(0, 2, 2, 1));
-    output::verdict(b"M5", base_tests::is_expanding(0, 2, 0, 1));
-    output::verdict(b"M6", base_tests::is_expanding(0, 2, 1, 1));
+pub fn bases(rt: &impl Print) -> io::Result<()> {
+    output::verdict(rt, b"M3", base_tests::is_expanding(0, -1, -1, 1))?;
+    output::verdict(rt, b"M4", base_tests::is_expanding(0, 2, 2, 1))?;
+    output::verdict(rt, b"M5", base_tests::is_expanding(0, 2, 0, 1))?;
+    output::verdict(rt, b"M6", base_tests::is_expanding(0, 2, 1, 1))
 }
 
-fn between(a: i32, b: i32, c: i32, d: i32) {
+fn between(rt: &impl Print, a: i32, b: i32, c: i32, d: i32) -> io::Result<()> {
     let x = Element { a, b, c: 0, d: 0 };
     let y = Element {
         a: c,
@@ -63,11 +66,11 @@ fn between(a: i32, b: i32, c: i32, d: i32) {
         d: 0,
     };
     let degree = Degree::Two;
-    output::element(b"midpoint", degree, midpoint::midpoint(x, y));
+    output::element(rt, b"midpoint", degree, midpoint::midpoint(x, y))
 }
 
 // Job 8: all four parts, the halves of 3, −3, 7 and −7.
-pub fn midpoint_of_four() {
+pub fn midpoint_of_four(rt: &impl Print) -> io::Result<()> {
     let x = Element {
         a: 1,
         b: -1,
@@ -81,15 +84,15 @@ pub fn midpoint_of_four() {
         d: -4,
     };
     let degree = Degree::Four;
-    output::element(b"midpoint", degree, midpoint::midpoint(x, y));
+    output::element(rt, b"midpoint", degree, midpoint::midpoint(x, y))
 }
 
 // Job 6: the halves of 3, 1 and 5, and of −3, −1 and −5, to the even neighbour; the least and the greatest parts.
-pub fn midpoints() {
-    between(1, -1, 2, -2);
-    between(0, -1, 1, 0);
-    between(2, -2, 3, -3);
-    between(2147483647, -2147483648, 2147483647, -2147483648);
-    between(2147483647, -2147483648, -2147483648, 2147483647);
-    between(2147483647, -2147483648, 2147483646, -2147483647);
+pub fn midpoints(rt: &impl Print) -> io::Result<()> {
+    between(rt, 1, -1, 2, -2)?;
+    between(rt, 0, -1, 1, 0)?;
+    between(rt, 2, -2, 3, -3)?;
+    between(rt, 2147483647, -2147483648, 2147483647, -2147483648)?;
+    between(rt, 2147483647, -2147483648, -2147483648, 2147483647)?;
+    between(rt, 2147483647, -2147483648, 2147483646, -2147483647)
 }

@@ -1,6 +1,7 @@
 // Tables of degree three and four, those that crate marked has by their words: in the first ω³ is −1, the base 2 − ω and each digit and weight a
 // multiple of 1 − ω + ω²; in the second ω⁴ is 1, the base 3 − ω, each a multiple of 1 + ω + ω² + ω³, and words have one or two digits.
 use crate::{additions, output, values};
+use std::io;
 
 // The files, eight bytes to a line; what the last line has beyond the file's end is left out.
 const CUBIC: [[u8; 8]; 27] = [
@@ -113,58 +114,65 @@ pub fn damaged_quartic() -> [u8; 279] {
 }
 
 // 65 in the base section at degree three and 33 at degree four, at the second number.
-fn limits() {
+fn limits(rt: &impl Print) -> io::Result<()> {
     let mut three = cubic();
     three[22] = 65;
-    output::checked(b"cubic of 65", table::check(&three));
+    output::checked(rt, b"cubic of 65", table::check(&three))?;
     let mut four = quartic();
     four[22] = 33;
-    output::checked(b"quartic of 33", table::check(&four));
+    output::checked(rt, b"quartic of 33", table::check(&four))
 }
 
 // The base is ω, whose determinant is −1 where ω³ is −1 or ω⁴ is 1 but for higher powers; the highest number allowed stands there.
-fn units() {
+fn units(rt: &impl Print) -> io::Result<()> {
     let mut three = cubic();
     three[20] = 64;
     three[26] = 0;
     three[28] = 1;
     three[29] = 0;
-    output::checked(b"cubic by its power", table::check(&three));
+    output::checked(rt, b"cubic by its power", table::check(&three))?;
     let mut four = quartic();
     four[20] = 32;
     four[28] = 0;
     four[30] = 1;
     four[31] = 0;
-    output::checked(b"quartic by its power", table::check(&four));
+    output::checked(rt, b"quartic by its power", table::check(&four))
 }
 
 // A base section of 10 bytes: 3 names it.
-fn of_no_degree() {
+fn of_no_degree(rt: &impl Print) -> io::Result<()> {
     let mut file = cubic();
     file[2] = 10;
     file[4] = 30;
     file[6] = 32;
-    output::checked(b"cubic of 10 bytes", table::check(&file));
+    output::checked(rt, b"cubic of 10 bytes", table::check(&file))
 }
 
-pub fn checks() {
-    output::checked(b"cubic", table::check(&cubic()));
-    output::checked(b"quartic", table::check(&quartic()));
-    limits();
-    units();
-    of_no_degree();
+pub fn checks(rt: &impl Print) -> io::Result<()> {
+    output::checked(rt, b"cubic", table::check(&cubic()))?;
+    output::checked(rt, b"quartic", table::check(&quartic()))?;
+    limits(rt)?;
+    units(rt)?;
+    of_no_degree(rt)
 }
 
 // A sum of each, and the values of its rows and of the sum.
-pub fn sums() {
+pub fn sums(rt: &impl Print) -> io::Result<()> {
     let mut three = [9u8; 4];
-    additions::summed(b"cubic", &cubic(), &[2, 1, 3], &[2, 2, 4], &mut three);
-    values::by_table(b"cubic", &cubic(), &[2, 1, 3]);
-    values::by_table(b"cubic", &cubic(), &[2, 2, 4]);
-    values::by_table(b"cubic", &cubic(), &three);
+    additions::summed(rt, b"cubic", &cubic(), &[2, 1, 3], &[2, 2, 4], &mut three)?;
+    values::by_table(rt, b"cubic", &cubic(), &[2, 1, 3])?;
+    values::by_table(rt, b"cubic", &cubic(), &[2, 2, 4])?;
+    values::by_table(rt, b"cubic", &cubic(), &three)?;
     let mut four = [9u8; 5];
-    additions::summed(b"quartic", &quartic(), &[1, 1, 2], &[1, 0, 2], &mut four);
-    values::by_table(b"quartic", &quartic(), &[1, 1, 2]);
-    values::by_table(b"quartic", &quartic(), &[1, 0, 2]);
-    values::by_table(b"quartic", &quartic(), &four);
+    additions::summed(
+        rt,
+        b"quartic",
+        &quartic(),
+        &[1, 1, 2],
+        &[1, 0, 2],
+        &mut four,
+    )?;
+    values::by_table(rt, b"quartic", &quartic(), &[1, 1, 2])?;
+    values::by_table(rt, b"quartic", &quartic(), &[1, 0, 2])?;
+    values::by_table(rt, b"quartic", &quartic(), &four)
 }

@@ -1,4 +1,4 @@
-// The pieces of a line, each written as it comes. One that can't be written is missing in what the run is compared by.
+// The pieces of a line, each written as it comes.
 ghost use Rattle.std.specs.Prelude.{◌≤◌, length};
 
 use adder::{Added, Subtracted};
@@ -8,177 +8,179 @@ use forecast_rules::{Forecast, ForecastFacts};
 use midpoint::Element;
 use ring::Degree;
 use row_edit::Edited;
+use std::io;
 use table::Checked;
 use table_rules::Facts;
 use value_call::Valued;
 
-pub fn word(bytes: &[u8]) {
-    io::write_all(libc::STDOUT_FILENO, bytes);
+pub fn word(rt: &impl Print, bytes: &[u8]) -> io::Result<()> {
+    rt.write_all(bytes)
 }
 
 // What a buffer holds up to a place.
-fn written(out: &[u8], end: usize) {
+fn written(rt: &impl Print, out: &[u8], end: usize) -> io::Result<()> {
     if end <= out.len() {
-        word(&out[..end]);
+        word(rt, &out[..end])?;
     }
+    Ok(())
 }
 
 // A word and a number.
-pub fn item(name: &[u8], n: usize) {
-    word(name);
+pub fn item(rt: &impl Print, name: &[u8], n: usize) -> io::Result<()> {
+    word(rt, name)?;
     let mut out = [0u8; 20];
     let end = text::put_decimal(&mut out, 0, n);
-    written(&out, end);
+    written(rt, &out, end)
 }
 
 // A space and a whole number.
-fn signed(z: i32) {
+fn signed(rt: &impl Print, z: i32) -> io::Result<()> {
     let mut out = [b' '; 12];
     let end = text::put_signed(&mut out, 1, z);
-    written(&out, end);
+    written(rt, &out, end)
 }
 
 // A space and a buffer.
-pub fn buffer(bytes: &[u8])
+pub fn buffer(rt: &impl Print, bytes: &[u8]) -> io::Result<()>
     requires { length bytes.now ≤ 260 }
 {
     let mut out = [b' '; 522];
     let end = fault_text::put_hex(&mut out, 1, bytes);
-    written(&out, end);
+    written(rt, &out, end)
 }
 
 // A space and the nine bytes that a string is shown in.
-pub fn nine(bytes: &[u8; 9]) {
-    buffer(bytes);
+pub fn nine(rt: &impl Print, bytes: &[u8; 9]) -> io::Result<()> {
+    buffer(rt, bytes)
 }
 
 // A space and a fault.
-pub fn refused(fault: Fault) {
+pub fn refused(rt: &impl Print, fault: Fault) -> io::Result<()> {
     let mut out = [b' '; 65];
     let end = fault_text::put_fault(&mut out, 1, fault);
-    written(&out, end);
+    written(rt, &out, end)
 }
 
 // As many parts as the degree says.
-fn parts(degree: Degree, x: Element) {
-    signed(x.a);
-    signed(x.b);
+fn parts(rt: &impl Print, degree: Degree, x: Element) -> io::Result<()> {
+    signed(rt, x.a)?;
+    signed(rt, x.b)?;
     match degree {
-        Degree::Two => {}
-        Degree::Three => signed(x.c),
+        Degree::Two => Ok(()),
+        Degree::Three => signed(rt, x.c),
         Degree::Four => {
-            signed(x.c);
-            signed(x.d);
+            signed(rt, x.c)?;
+            signed(rt, x.d)
         }
     }
 }
 
 // `LABEL` and the parts
-pub fn element(label: &[u8], degree: Degree, x: Element) {
-    word(label);
-    parts(degree, x);
-    word(b"\n");
+pub fn element(rt: &impl Print, label: &[u8], degree: Degree, x: Element) -> io::Result<()> {
+    word(rt, label)?;
+    parts(rt, degree, x)?;
+    word(rt, b"\n")
 }
 
 // `LABEL yes` or `LABEL no`
-pub fn verdict(label: &[u8], holds: bool) {
-    word(label);
+pub fn verdict(rt: &impl Print, label: &[u8], holds: bool) -> io::Result<()> {
+    word(rt, label)?;
     if holds {
-        word(b" yes\n");
+        word(rt, b" yes\n")
     } else {
-        word(b" no\n");
+        word(rt, b" no\n")
     }
 }
 
-fn accepted(facts: Facts) {
-    item(b" accepted depth ", facts.depth);
-    item(b" leaves ", facts.leaves);
-    item(b" digits ", facts.digits);
-    item(b" pairs ", facts.pairs);
+fn accepted(rt: &impl Print, facts: Facts) -> io::Result<()> {
+    item(rt, b" accepted depth ", facts.depth)?;
+    item(rt, b" leaves ", facts.leaves)?;
+    item(rt, b" digits ", facts.digits)?;
+    item(rt, b" pairs ", facts.pairs)
 }
 
 // `LABEL accepted depth h leaves L digits A pairs P`, or the fault.
-pub fn checked(label: &[u8], answer: Checked) {
-    word(label);
+pub fn checked(rt: &impl Print, label: &[u8], answer: Checked) -> io::Result<()> {
+    word(rt, label)?;
     match answer {
-        Checked::Accepted(facts) => accepted(facts),
-        Checked::Refused(fault) => refused(fault),
+        Checked::Accepted(facts) => accepted(rt, facts)?,
+        Checked::Refused(fault) => refused(rt, fault)?,
     }
-    word(b"\n");
+    word(rt, b"\n")
 }
 
-fn foretold(facts: ForecastFacts) {
-    item(b" pairs ", facts.pairs);
-    item(b" bytes ", facts.bytes);
+fn foretold(rt: &impl Print, facts: ForecastFacts) -> io::Result<()> {
+    item(rt, b" pairs ", facts.pairs)?;
+    item(rt, b" bytes ", facts.bytes)
 }
 
 // `LABEL pairs P bytes B`, or the fault.
-pub fn forecasted(label: &[u8], answer: Forecast) {
-    word(label);
+pub fn forecasted(rt: &impl Print, label: &[u8], answer: Forecast) -> io::Result<()> {
+    word(rt, label)?;
     match answer {
-        Forecast::Facts(facts) => foretold(facts),
-        Forecast::Refused(fault) => refused(fault),
+        Forecast::Facts(facts) => foretold(rt, facts)?,
+        Forecast::Refused(fault) => refused(rt, fault)?,
     }
-    word(b"\n");
+    word(rt, b"\n")
 }
 
-fn failing(degree: Degree, row: BadRow) {
-    item(b" pair ", row.upper);
-    item(b" ", row.lower);
-    word(b" digit");
+fn failing(rt: &impl Print, degree: Degree, row: BadRow) -> io::Result<()> {
+    item(rt, b" pair ", row.upper)?;
+    item(rt, b" ", row.lower)?;
+    word(rt, b" digit")?;
     let digit = row.digit;
-    parts(degree, digit);
-    item(b" bytes ", row.bytes);
+    parts(rt, degree, digit)?;
+    item(rt, b" bytes ", row.bytes)
 }
 
 // `LABEL pair U L digit PARTS bytes K`, or that there is nothing to show, or the fault.
-pub fn shown(label: &[u8], degree: Degree, answer: Shown) {
-    word(label);
+pub fn shown(rt: &impl Print, label: &[u8], degree: Degree, answer: Shown) -> io::Result<()> {
+    word(rt, label)?;
     match answer {
-        Shown::Row(row) => failing(degree, row),
-        Shown::Nothing => word(b" nothing"),
-        Shown::Refused(fault) => refused(fault),
+        Shown::Row(row) => failing(rt, degree, row),
+        Shown::Nothing => word(rt, b" nothing"),
+        Shown::Refused(fault) => refused(rt, fault),
     }
 }
 
 // A word, a count and the reach.
-fn reached(name: &[u8], n: usize, reach: usize) {
-    item(name, n);
-    item(b" reach ", reach);
+fn reached(rt: &impl Print, name: &[u8], n: usize, reach: usize) -> io::Result<()> {
+    item(rt, name, n)?;
+    item(rt, b" reach ", reach)
 }
 
 // ` sum K reach R`, or the fault.
-pub fn added(answer: Added) {
+pub fn added(rt: &impl Print, answer: Added) -> io::Result<()> {
     match answer {
-        Added::Sum(facts) => reached(b" sum ", facts.places, facts.reach),
-        Added::Refused(fault) => refused(fault),
+        Added::Sum(facts) => reached(rt, b" sum ", facts.places, facts.reach),
+        Added::Refused(fault) => refused(rt, fault),
     }
 }
 
 // ` difference K reach R`, or the fault.
-pub fn subtracted(answer: Subtracted) {
+pub fn subtracted(rt: &impl Print, answer: Subtracted) -> io::Result<()> {
     match answer {
-        Subtracted::Difference(facts) => reached(b" difference ", facts.places, facts.reach),
-        Subtracted::Refused(fault) => refused(fault),
+        Subtracted::Difference(facts) => reached(rt, b" difference ", facts.places, facts.reach),
+        Subtracted::Refused(fault) => refused(rt, fault),
     }
 }
 
 // ` changed K reach R`, or the fault.
-pub fn edited(answer: Edited) {
+pub fn edited(rt: &impl Print, answer: Edited) -> io::Result<()> {
     match answer {
-        Edited::Count(facts) => reached(b" changed ", facts.count, facts.reach),
-        Edited::Refused(fault) => refused(fault),
+        Edited::Count(facts) => reached(rt, b" changed ", facts.count, facts.reach),
+        Edited::Refused(fault) => refused(rt, fault),
     }
 }
 
 // `LABEL value` and the parts, or the fault.
-pub fn valued(label: &[u8], degree: Degree, answer: Valued) {
-    word(label);
+pub fn valued(rt: &impl Print, label: &[u8], degree: Degree, answer: Valued) -> io::Result<()> {
+    word(rt, label)?;
     match answer {
-        Valued::Value(x) => element(b" value", degree, x),
+        Valued::Value(x) => element(rt, b" value", degree, x),
         Valued::Refused(fault) => {
-            refused(fault);
-            word(b"\n");
+            refused(rt, fault)?;
+            word(rt, b"\n")
         }
     }
 }

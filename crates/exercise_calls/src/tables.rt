@@ -1,5 +1,6 @@
 // The check.
 use crate::output;
+use std::io;
 
 // TERN with weight 0 at input 2, whose record is leaf 2's: 20 bytes of directory, 64 of base and digits, two records, four bytes.
 pub fn damaged() -> [u8; 165] {
@@ -48,11 +49,11 @@ pub fn without_negatives() -> [u8; 165] {
 }
 
 // M12
-pub fn without_weight() {
-    output::checked(b"M12", table::check(&damaged()));
+pub fn without_weight(rt: &impl Print) -> io::Result<()> {
+    output::checked(rt, b"M12", table::check(&damaged()))
 }
 
-pub fn carried_tables() {
-    output::checked(b"TERN", table::check(&carried::tern()));
-    output::checked(b"BIN", table::check(&carried::bin()));
+pub fn carried_tables(rt: &impl Print) -> io::Result<()> {
+    output::checked(rt, b"TERN", table::check(&carried::tern()))?;
+    output::checked(rt, b"BIN", table::check(&carried::bin()))
 }

@@ -4,6 +4,7 @@ ghost use Rattle.std.specs.Prelude.{◌≤◌, length};
 use edit_orders::Turns;
 use exercise_calls::output;
 use row_rules::Change;
+use std::io;
 
 const ZEROS: [u8; 4] = [0; 4];
 
@@ -25,20 +26,28 @@ fn change(edit: [u8; 3]) -> Change {
 }
 
 // ` changed K reach R` of either edit, or its fault; then FIRST SECOND SUM.
-fn order(turns: Turns, first: &[u8], second: &[u8], sum: &[u8])
+fn order(rt: &impl Print, turns: Turns, first: &[u8], second: &[u8], sum: &[u8]) -> io::Result<()>
     requires { (length first.now ≤ 260) × (length second.now ≤ 260) × (length sum.now ≤ 260) }
 {
     let answer = turns.first;
     let next = turns.second;
-    output::edited(answer);
-    output::edited(next);
-    output::buffer(first);
-    output::buffer(second);
-    output::buffer(sum);
+    output::edited(rt, answer)?;
+    output::edited(rt, next)?;
+    output::buffer(rt, first)?;
+    output::buffer(rt, second)?;
+    output::buffer(rt, sum)
 }
 
 // `LABEL`, e and then f, and behind a bar f and then e.
-fn turned(label: &[u8], table: &[u8], row: [u8; 4], sum: [u8; 7], e: [u8; 3], f: [u8; 3]) {
+fn turned(
+    rt: &impl Print,
+    label: &[u8],
+    table: &[u8],
+    row: [u8; 4],
+    sum: [u8; 7],
+    e: [u8; 3],
+    f: [u8; 3],
+) -> io::Result<()> {
     let mut first = row;
     let mut second = ZEROS;
     let mut forth = sum;
@@ -56,27 +65,35 @@ fn turned(label: &[u8], table: &[u8], row: [u8; 4], sum: [u8; 7], e: [u8; 3], f:
         change(e),
         change(f),
     );
-    output::word(label);
-    order(orders.forth, &first, &second, &forth);
-    output::word(b" |");
-    order(orders.back, &again, &other, &back);
-    output::word(b"\n");
+    output::word(rt, label)?;
+    order(rt, orders.forth, &first, &second, &forth)?;
+    output::word(rt, b" |")?;
+    order(rt, orders.back, &again, &other, &back)?;
+    output::word(rt, b"\n")
 }
 
 // BIN: h + 1 and h apart the counts are the same, h − 1 apart they aren't, and h apart the reach needn't be.
-pub fn of_bin() {
+pub fn of_bin(rt: &impl Print) -> io::Result<()> {
     let table = carried::bin();
-    turned(b"h + 1 apart", &table, ROW, SUM, [0, 0, 0], [1, 3, 2]);
-    turned(b"h apart", &table, ROW, SUM, [0, 0, 0], [1, 2, 1]);
-    turned(b"h - 1 apart", &table, ZEROS, NONE, [0, 0, 1], [0, 1, 1]);
-    turned(b"reach", &table, ZEROS, NONE, [0, 0, 0], [0, 2, 1]);
+    turned(rt, b"h + 1 apart", &table, ROW, SUM, [0, 0, 0], [1, 3, 2])?;
+    turned(rt, b"h apart", &table, ROW, SUM, [0, 0, 0], [1, 2, 1])?;
+    turned(
+        rt,
+        b"h - 1 apart",
+        &table,
+        ZEROS,
+        NONE,
+        [0, 0, 1],
+        [0, 1, 1],
+    )?;
+    turned(rt, b"reach", &table, ZEROS, NONE, [0, 0, 0], [0, 2, 1])
 }
 
 // TERN: one place of both rows, one place of one row, a sum that isn't right, and an edit that is refused.
-pub fn of_tern() {
+pub fn of_tern(rt: &impl Print) -> io::Result<()> {
     let table = carried::tern();
-    turned(b"both rows", &table, ZEROS, NONE, [0, 0, 1], [1, 0, 1]);
-    turned(b"one row", &table, ZEROS, NONE, [0, 0, 0], [0, 0, 1]);
-    turned(b"not right", &table, ZEROS, WRONG, [0, 0, 0], [0, 1, 0]);
-    turned(b"refused", &table, ZEROS, NONE, [2, 0, 0], [0, 1, 2]);
+    turned(rt, b"both rows", &table, ZEROS, NONE, [0, 0, 1], [1, 0, 1])?;
+    turned(rt, b"one row", &table, ZEROS, NONE, [0, 0, 0], [0, 0, 1])?;
+    turned(rt, b"not right", &table, ZEROS, WRONG, [0, 0, 0], [0, 1, 0])?;
+    turned(rt, b"refused", &table, ZEROS, NONE, [2, 0, 0], [0, 1, 2])
 }

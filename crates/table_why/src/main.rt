@@ -1,5 +1,7 @@
 // The program `why`: a table on standard input; on standard output the line of `check`, the rule that the table breaks and what stands at
 // its place, of rule 14 the two leaves, a row that holds them and how the digit comes out. It only moves bytes; `why_lines` makes the lines.
+#![tactic(auto)]
+
 ghost use Rattle.std.specs.Prelude.{◌≡◌, ◌≤◌, ◌<◌, ◌^◌, nat_abs, length};
 ghost use Rattle.layout_rules.specs.Directory.{directory_check};
 ghost use Rattle.layout_rules.specs.Section.{of_degree};
@@ -10,6 +12,7 @@ use bad_row_rules::{BadRow, Shown};
 use faults::Fault;
 use midpoint::Element;
 use ring::{Degree, Operation};
+use std::io;
 
 // The sections behind the base.
 const ALPHABET: usize = 1;
@@ -21,35 +24,35 @@ const LEAVES: usize = 3;
 const WORDS: usize = 4;
 
 // A rule by its number, 0 where none is broken.
-fn rule(number: usize) {
+fn rule(rt: &impl Print, number: usize) -> io::Result<()> {
     let mut out = [0u8; 240];
     let end = why_lines::rule_line(number, &mut out);
-    shown_parts::written(&out, end);
+    shown_parts::written(rt, &out, end)
 }
 
 // Where something starts and how long it is.
-fn extent(name: &[u8], k: usize, start: usize, size: usize)
+fn extent(rt: &impl Print, name: &[u8], k: usize, start: usize, size: usize) -> io::Result<()>
     requires { length name.now ≤ 40 }
 {
     let mut out = [0u8; 240];
     let end = why_lines::extent_line(name, k, start, size, &mut out);
-    shown_parts::written(&out, end);
+    shown_parts::written(rt, &out, end)
 }
 
 // Where it has to start, and the length of what it stands in.
-fn due(start: usize, name: &[u8], size: usize)
+fn due(rt: &impl Print, start: usize, name: &[u8], size: usize) -> io::Result<()>
     requires { length name.now ≤ 40 }
 {
     let mut out = [0u8; 240];
     let end = why_lines::due_line(start, name, size, &mut out);
-    shown_parts::written(&out, end);
+    shown_parts::written(rt, &out, end)
 }
 
 // Rule 1.
-fn size(n: usize) {
+fn size(rt: &impl Print, n: usize) -> io::Result<()> {
     let mut out = [0u8; 240];
     let end = why_lines::file_line(n, &mut out);
-    shown_parts::written(&out, end);
+    shown_parts::written(rt, &out, end)
 }
 
 // Where a section has to start: past the directory, or where the one before it ends.
@@ -64,56 +67,64 @@ fn due_start(file: &[u8], section: usize) -> usize
 }
 
 // Rule 2: a pair of the directory, and where it has to start.
-fn pair(file: &[u8], place: usize) {
+fn pair(rt: &impl Print, file: &[u8], place: usize) -> io::Result<()> {
     if file.len() < 20 || 4 < place {
-        return;
+        return Ok(());
     }
     let start = layout::section_start(file, place);
     extent(
+        rt,
         b"  pair ",
         place,
         start,
         layout::section_length(file, place),
-    );
-    due(due_start(file, place), b", and the file has ", file.len());
+    )?;
+    due(
+        rt,
+        due_start(file, place),
+        b", and the file has ",
+        file.len(),
+    )
 }
 
 // Rule 3.
-fn section(file: &[u8], place: usize) {
+fn section(rt: &impl Print, file: &[u8], place: usize) -> io::Result<()> {
     if file.len() < 20 || 4 < place {
-        return;
+        return Ok(());
     }
     let start = layout::section_start(file, place);
     extent(
+        rt,
         b"  section ",
         place,
         start,
         layout::section_length(file, place),
-    );
+    )
 }
 
 // The element at a place that a name and a number tell.
-fn element(name: &[u8], k: usize, x: [i64; 4])
+fn element(rt: &impl Print, name: &[u8], k: usize, x: [i64; 4]) -> io::Result<()>
     requires { (length name.now ≤ 40) × Within 32768 x }
 {
     let mut out = [0u8; 240];
     let end = why_lines::element_line(name, k, x, &mut out);
-    shown_parts::written(&out, end);
+    shown_parts::written(rt, &out, end)
 }
 
 // Rule 4.
-fn number(file: &[u8], place: usize) {
+fn number(rt: &impl Print, file: &[u8], place: usize) -> io::Result<()> {
     if file.len() < 2 {
-        return;
+        return Ok(());
     }
     if file.len() - 2 < place {
-        return;
+        return Ok(());
     }
     element(
+        rt,
         b"  the number at file offset ",
         place,
         [layout::signed(file, place), 0, 0, 0],
-    );
+    )
 }
 
 // A record of a section of elements: zero where there is none.
@@ -127,9 +138,15 @@ fn digit_at(degree: Degree, part: &[u8], k: usize) -> [i64; 4]
 }
 
 // Rule 7, and rule 8 where a record breaks it.
-fn record(degree: Degree, part: &[u8], place: usize, name: &[u8]) {
-    element(b"  record ", place, digit_at(degree, part, place));
-    shown_parts::digits(degree, name, part);
+fn record(
+    rt: &impl Print,
+    degree: Degree,
+    part: &[u8],
+    place: usize,
+    name: &[u8],
+) -> io::Result<()> {
+    element(rt, b"  record ", place, digit_at(degree, part, place))?;
+    shown_parts::digits(rt, degree, name, part)
 }
 
 // The first of the alphabet digits before `end` whose sum with digit i is no input digit, or `end`.
@@ -148,98 +165,136 @@ fn partner(degree: Degree, alphabet: &[u8], inputs: &[u8], i: usize, end: usize)
 }
 
 // Rule 8 where a sum is missing: the two digits.
-fn sum_missing(degree: Degree, alphabet: &[u8], inputs: &[u8]) {
+fn sum_missing(rt: &impl Print, degree: Degree, alphabet: &[u8], inputs: &[u8]) -> io::Result<()> {
     let count = layout::record_count(degree, alphabet, ALPHABET);
     let mut i = 0;
     while i < count {
         let j = partner(degree, alphabet, inputs, i, i + 1);
         if j <= i {
-            element(b"  alphabet record ", i, digit_at(degree, alphabet, i));
-            element(b"  alphabet record ", j, digit_at(degree, alphabet, j));
-            shown_parts::digits(degree, b"  their sum isn't among the input digits:", inputs);
-            return;
+            element(rt, b"  alphabet record ", i, digit_at(degree, alphabet, i))?;
+            element(rt, b"  alphabet record ", j, digit_at(degree, alphabet, j))?;
+            return shown_parts::digits(
+                rt,
+                degree,
+                b"  their sum isn't among the input digits:",
+                inputs,
+            );
         }
         i += 1;
     }
+    Ok(())
 }
 
 // Rule 8.
-fn input(degree: Degree, alphabet: &[u8], inputs: &[u8], place: usize) {
+fn input(
+    rt: &impl Print,
+    degree: Degree,
+    alphabet: &[u8],
+    inputs: &[u8],
+    place: usize,
+) -> io::Result<()> {
     if place < layout::record_count(degree, inputs, INPUTS) {
-        record(degree, inputs, place, b"  input digits:");
-        return;
+        return record(rt, degree, inputs, place, b"  input digits:");
     }
-    sum_missing(degree, alphabet, inputs);
+    sum_missing(rt, degree, alphabet, inputs)
 }
 
 // Rule 9: a leaf's word in section 4, and where it has to start.
-fn word(degree: Degree, leaves: &[u8], words: &[u8], place: usize) {
+fn word(
+    rt: &impl Print,
+    degree: Degree,
+    leaves: &[u8],
+    words: &[u8],
+    place: usize,
+) -> io::Result<()> {
     if place >= leaves::leaf_count(degree, leaves) {
-        return;
+        return Ok(());
     }
     let start = leaves::word_start(degree, leaves, place);
     extent(
+        rt,
         b"  leaf ",
         place,
         start,
         leaves::word_length(degree, leaves, place),
-    );
+    )?;
     let before = if place == 0 {
         0
     } else {
         leaves::word_start(degree, leaves, place - 1)
             + leaves::word_length(degree, leaves, place - 1)
     };
-    due(before, b", and section 4 has ", words.len());
+    due(rt, before, b", and section 4 has ", words.len())
 }
 
 // Rule 10.
-fn byte(degree: Degree, inputs: &[u8], words: &[u8], place: usize) {
+fn byte(
+    rt: &impl Print,
+    degree: Degree,
+    inputs: &[u8],
+    words: &[u8],
+    place: usize,
+) -> io::Result<()> {
     if place < words.len() {
         let mut out = [0u8; 240];
         let end = why_lines::byte_line(place, octets::wide(words[place]), &mut out);
-        shown_parts::written(&out, end);
+        shown_parts::written(rt, &out, end)?;
     }
-    shown_parts::digits(degree, b"  input digits:", inputs);
+    shown_parts::digits(rt, degree, b"  input digits:", inputs)
 }
 
 // A leaf with its word and its weight.
-fn leaf(degree: Degree, inputs: &[u8], leaves: &[u8], words: &[u8], name: &[u8], k: usize)
+fn leaf(
+    rt: &impl Print,
+    degree: Degree,
+    inputs: &[u8],
+    leaves: &[u8],
+    words: &[u8],
+    name: &[u8],
+    k: usize,
+) -> io::Result<()>
     requires { length name.now ≤ 40 }
 {
     let mut out = [0u8; 480];
     let word = listing::word_shown(degree, leaves, words, k);
     let weight = leaves::weight(degree, leaves, k);
     let end = why_lines::leaf_line(degree, inputs, name, k, word, weight, &mut out);
-    shown_parts::written(&out, end);
+    shown_parts::written(rt, &out, end)
 }
 
 // Rule 11: the two leaves, and the digits in the order that the words have to keep.
-fn neighbours(degree: Degree, inputs: &[u8], leaves: &[u8], words: &[u8], place: usize) {
+fn neighbours(
+    rt: &impl Print,
+    degree: Degree,
+    inputs: &[u8],
+    leaves: &[u8],
+    words: &[u8],
+    place: usize,
+) -> io::Result<()> {
     if 0 < place {
-        leaf(degree, inputs, leaves, words, b"  leaf ", place - 1);
+        leaf(rt, degree, inputs, leaves, words, b"  leaf ", place - 1)?;
     }
-    leaf(degree, inputs, leaves, words, b"  leaf ", place);
-    shown_parts::digits(degree, b"  input digits:", inputs);
+    leaf(rt, degree, inputs, leaves, words, b"  leaf ", place)?;
+    shown_parts::digits(rt, degree, b"  input digits:", inputs)
 }
 
 // Rules 5 to 8.
-fn at_digits(file: &[u8], number: usize, place: usize)
+fn at_digits(rt: &impl Print, file: &[u8], number: usize, place: usize) -> io::Result<()>
     requires { (directory_check file.now).number ≡ 0 }
 {
     let base = reader::section(file, 0);
     let degree = layout::degree_of(base.len());
     let alphabet = reader::section(file, ALPHABET);
     match number {
-        5 => shown_parts::ring(degree, base),
-        6 => shown_parts::base(degree, base),
-        7 => record(degree, alphabet, place, b"  alphabet:"),
-        _ => input(degree, alphabet, reader::section(file, INPUTS), place),
+        5 => shown_parts::ring(rt, degree, base),
+        6 => shown_parts::base(rt, degree, base),
+        7 => record(rt, degree, alphabet, place, b"  alphabet:"),
+        _ => input(rt, degree, alphabet, reader::section(file, INPUTS), place),
     }
 }
 
 // Rules 9 to 13.
-fn at_leaves(file: &[u8], number: usize, place: usize)
+fn at_leaves(rt: &impl Print, file: &[u8], number: usize, place: usize) -> io::Result<()>
     requires { (directory_check file.now).number ≡ 0 }
 {
     let degree = layout::degree_of(reader::section(file, 0).len());
@@ -247,47 +302,55 @@ fn at_leaves(file: &[u8], number: usize, place: usize)
     let leaves = reader::section(file, LEAVES);
     let words = reader::section(file, WORDS);
     match number {
-        9 => word(degree, leaves, words, place),
-        10 => byte(degree, inputs, words, place),
-        11 => neighbours(degree, inputs, leaves, words, place),
-        13 => leaf(degree, inputs, leaves, words, b"  leaf ", place),
-        _ => {}
+        9 => word(rt, degree, leaves, words, place),
+        10 => byte(rt, degree, inputs, words, place),
+        11 => neighbours(rt, degree, inputs, leaves, words, place),
+        13 => leaf(rt, degree, inputs, leaves, words, b"  leaf ", place),
+        _ => Ok(()),
     }
 }
 
 // Rules 1 to 13. The sections are read where the directory is as it should be.
-fn refused(file: &[u8], broken: usize, place: usize) {
-    rule(broken);
+fn refused(rt: &impl Print, file: &[u8], broken: usize, place: usize) -> io::Result<()> {
+    rule(rt, broken)?;
     match broken {
-        1 => size(file.len()),
-        2 => pair(file, place),
-        3 => section(file, place),
-        4 => number(file, place),
+        1 => size(rt, file.len()),
+        2 => pair(rt, file, place),
+        3 => section(rt, file, place),
+        4 => number(rt, file, place),
         _ => {
             if directory::directory(file).number != 0 {
-                return;
+                return Ok(());
             }
             if broken < 9 {
-                at_digits(file, broken, place);
+                at_digits(rt, file, broken, place)
             } else {
-                at_leaves(file, broken, place);
+                at_leaves(rt, file, broken, place)
             }
         }
     }
 }
 
 // Rule 14: the digit of two leaves, as the rule has it and with the product worked out.
-fn sum(degree: Degree, base: &[u8], first: [i64; 4], lower: [i64; 4], upper: [i64; 4])
+fn sum(
+    rt: &impl Print,
+    degree: Degree,
+    base: &[u8],
+    first: [i64; 4],
+    lower: [i64; 4],
+    upper: [i64; 4],
+) -> io::Result<()>
     requires { Within 32768 first × Within 32768 lower × Within 32768 upper }
 {
     if listing::is_limited(degree, base) {
         let mut out = [0u8; 480];
         let end = why_lines::sum_line(first, lower, digit_at(degree, base, 1), upper, &mut out);
-        shown_parts::written(&out, end);
+        shown_parts::written(rt, &out, end)?;
         let product = elements::times_base(degree, digits::base_of(degree, base), upper);
         let product_end = why_lines::product_line(first, lower, product, &mut out);
-        shown_parts::written(&out, product_end);
+        shown_parts::written(rt, &out, product_end)?;
     }
+    Ok(())
 }
 
 // A part of the digit in 64 bits.
@@ -298,27 +361,34 @@ fn wide(x: i32) -> i64
 }
 
 // The digit that comes out, and the alphabet, which lacks it.
-fn outside(degree: Degree, alphabet: &[u8], digit: Element) {
+fn outside(rt: &impl Print, degree: Degree, alphabet: &[u8], digit: Element) -> io::Result<()> {
     let mut out = [0u8; 480];
     let parts = [wide(digit.a), wide(digit.b), wide(digit.c), wide(digit.d)];
     let end = why_lines::digit_lines(parts, &mut out);
-    shown_parts::written(&out, end);
-    shown_parts::digits(degree, b"", alphabet);
+    shown_parts::written(rt, &out, end)?;
+    shown_parts::digits(rt, degree, b"", alphabet)
 }
 
 // The row, as far as its string tells it.
-fn string_shown(degree: Degree, inputs: &[u8], string: &[u8], bytes: usize)
+fn string_shown(
+    rt: &impl Print,
+    degree: Degree,
+    inputs: &[u8],
+    string: &[u8],
+    bytes: usize,
+) -> io::Result<()>
     requires { length string.now ≤ 9 }
 {
     if bytes <= string.len() {
         let mut out = [0u8; 480];
         let end = why_lines::row_line(degree, inputs, &string[..bytes], &mut out);
-        shown_parts::written(&out, end);
+        shown_parts::written(rt, &out, end)?;
     }
+    Ok(())
 }
 
 // Rule 14: the two leaves, a row that holds them, and the digit there.
-fn row(file: &[u8], shown: BadRow, string: &[u8])
+fn row(rt: &impl Print, file: &[u8], shown: BadRow, string: &[u8]) -> io::Result<()>
     requires { ((directory_check file.now).number ≡ 0) × (length string.now ≤ 9) }
 {
     let base = reader::section(file, 0);
@@ -326,48 +396,65 @@ fn row(file: &[u8], shown: BadRow, string: &[u8])
     let inputs = reader::section(file, INPUTS);
     let leaves = reader::section(file, LEAVES);
     let words = reader::section(file, WORDS);
-    shown_parts::ring(degree, base);
-    leaf(degree, inputs, leaves, words, b"  U is leaf ", shown.upper);
-    leaf(degree, inputs, leaves, words, b"  L is leaf ", shown.lower);
-    string_shown(degree, inputs, string, shown.bytes);
+    shown_parts::ring(rt, degree, base)?;
+    leaf(
+        rt,
+        degree,
+        inputs,
+        leaves,
+        words,
+        b"  U is leaf ",
+        shown.upper,
+    )?;
+    leaf(
+        rt,
+        degree,
+        inputs,
+        leaves,
+        words,
+        b"  L is leaf ",
+        shown.lower,
+    )?;
+    string_shown(rt, degree, inputs, string, shown.bytes)?;
     let first = digit_at(degree, inputs, octets::wide(octets::byte_at(string, 0)));
     let lower = leaves::weight(degree, leaves, shown.lower);
     sum(
+        rt,
         degree,
         base,
         first,
         lower,
         leaves::weight(degree, leaves, shown.upper),
-    );
-    outside(degree, reader::section(file, ALPHABET), shown.digit);
+    )?;
+    outside(rt, degree, reader::section(file, ALPHABET), shown.digit)
 }
 
 // What is shown of a table that rule 14 refuses; its directory is as it should be.
-fn bad(file: &[u8], shown: BadRow, string: &[u8; 9]) {
-    rule(14);
+fn bad(rt: &impl Print, file: &[u8], shown: BadRow, string: &[u8; 9]) -> io::Result<()> {
+    rule(rt, 14)?;
     if directory::directory(file).number != 0 {
-        return;
+        return Ok(());
     }
-    row(file, shown, string);
+    row(rt, file, shown, string)
 }
 
-fn why(file: &[u8]) {
-    shown_parts::verdict(file);
+fn why(rt: &impl Print, file: &[u8]) -> io::Result<()> {
+    shown_parts::verdict(rt, file)?;
     let mut string = [0u8; 9];
     match bad_row::bad_row(file, &mut string) {
-        Shown::Row(shown) => bad(file, shown, &string),
-        Shown::Nothing => rule(0),
+        Shown::Row(shown) => bad(rt, file, shown, &string),
+        Shown::Nothing => rule(rt, 0),
         Shown::Refused(fault) => match fault {
-            Fault::Author { number, place } => refused(file, number, place),
-            Fault::Rows { number, place } => refused(file, number, place),
-            Fault::Editor { number, place } => refused(file, number, place),
+            Fault::Author { number, place } => refused(rt, file, number, place),
+            Fault::Rows { number, place } => refused(rt, file, number, place),
+            Fault::Editor { number, place } => refused(rt, file, number, place),
         },
     }
 }
 
-fn main() {
+fn main(rt: HostRuntime) -> io::Result<()> {
     // one byte more than a file may have: a longer input is refused by its size
-    let mut file = io::large_buffer();
-    let n = io::read_full(libc::STDIN_FILENO, &mut file);
-    why(&file[..n]);
+    let mut file = [0u8; 65536];
+    let n = table_input::read_full(&mut rt.stdin(), &mut file)?;
+    why(&rt, &file[..n])
 }

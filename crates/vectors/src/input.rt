@@ -3,6 +3,7 @@ ghost use Rattle.std.specs.Prelude.{◌+◌, ◌<◌, ◌≤◌, length};
 ghost use Rattle.vectors.specs.Read.{value_of};
 
 use midpoint::Element;
+use std::io::Read as _;
 
 // A number, or an input that ends before all of it.
 #[derive(Clone, Copy)]
@@ -11,10 +12,9 @@ pub enum Read {
     Cut,
 }
 
-// Fills a buffer; false where the input ends before.
-pub fn filled(out: &mut [u8]) -> bool {
-    let room = out.len();
-    io::read_full(libc::STDIN_FILENO, out) == room
+// Fills a buffer; false where the input ends before or can't be read.
+pub fn filled(rt: &impl Input, out: &mut [u8]) -> bool {
+    rt.reader().read_exact(out).is_ok()
 }
 
 // The unsigned 32-bit number at a place.
@@ -33,26 +33,26 @@ pub fn long(bytes: &[u8], at: usize) -> usize
 }
 
 // A length: four bytes, little-endian.
-fn count() -> Read {
+fn count(rt: &impl Input) -> Read {
     let mut bytes = [0u8; 4];
-    if !filled(&mut bytes) {
+    if !filled(rt, &mut bytes) {
         return Read::Cut;
     }
     Read::Got(bits(&bytes, 0))
 }
 
 // A buffer: its length, then its bytes, which go to the start of `out`; the length. One that is longer than `out` counts as cut.
-pub fn buffer(out: &mut [u8]) -> Read
+pub fn buffer(rt: &impl Input, out: &mut [u8]) -> Read
     ensures { value_of result ≤ length out.old }
 {
-    let size = count();
+    let size = count(rt);
     let Read::Got(n) = size else {
         return Read::Cut;
     };
     if out.len() < n {
         return Read::Cut;
     }
-    if !filled(&mut out[..n]) {
+    if !filled(rt, &mut out[..n]) {
         return Read::Cut;
     }
     Read::Got(n)

@@ -1,34 +1,36 @@
 // The program `vectors`: calls on standard input, a line for each on standard output (docs/VECTORS.md).
+#![tactic(auto)]
+
 mod calls;
 mod input;
 mod output;
 
 // Reads one call and writes its line. False where the run ends: at the end of the input, at a call that is cut, at a byte that
 // names no call.
-fn answered() -> bool {
+fn answered(rt: &(impl Input + Print)) -> bool {
     let mut name = [0u8; 1];
-    if !input::filled(&mut name) {
+    if !input::filled(rt, &mut name) {
         return false;
     }
     let call = name[0];
     match call {
-        1 => calls::check(),
-        2 | 3 | 8 => calls::on_rows(call),
-        4 => calls::value(),
-        5 => calls::midpoint(),
-        6 => output::table_bytes(&carried::tern()),
-        7 => output::table_bytes(&carried::bin()),
-        9 => calls::bad_row(),
-        17 => calls::forecast(),
-        19 => calls::look_up(),
+        1 => calls::check(rt),
+        2 | 3 | 8 => calls::on_rows(rt, call),
+        4 => calls::value(rt),
+        5 => calls::midpoint(rt),
+        6 => output::table_bytes(rt, &carried::tern()),
+        7 => output::table_bytes(rt, &carried::bin()),
+        9 => calls::bad_row(rt),
+        17 => calls::forecast(rt),
+        19 => calls::look_up(rt),
         _ => false,
     }
 }
 
 // A loop has to end, so the calls are counted down from a number that no run reaches.
-fn main() {
+fn main(rt: HostRuntime) {
     let mut left: usize = 100000;
-    while left > 0 && answered() {
+    while left > 0 && answered(&rt) {
         left -= 1;
     }
 }

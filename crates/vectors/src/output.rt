@@ -13,33 +13,33 @@ use table::Checked;
 use value_call::Valued;
 
 // Ends the line of a buffer at a place, and writes it.
-fn line(out: &mut [u8], end: usize) -> bool {
+fn line(rt: &impl Print, out: &mut [u8], end: usize) -> bool {
     if out.len() <= end {
         return false;
     }
     out[end] = b'\n';
-    io::write_all(libc::STDOUT_FILENO, &out[..end + 1])
+    rt.write_all(&out[..end + 1]).is_ok()
 }
 
 // `table BYTES`, of a file that is carried.
-pub fn table_bytes(file: &[u8]) -> bool
+pub fn table_bytes(rt: &impl Print, file: &[u8]) -> bool
     requires { length file.now ≤ 200 }
 {
     let mut out = [0u8; 512];
     let bytes = octets::put(&mut out, 0, b"table ");
     let end = fault_text::put_hex(&mut out, bytes, file);
-    line(&mut out, end)
+    line(rt, &mut out, end)
 }
 
 // A fault alone.
-fn fault_line(fault: Fault) -> bool {
+fn fault_line(rt: &impl Print, fault: Fault) -> bool {
     let mut out = [0u8; 128];
     let end = fault_text::put_fault(&mut out, 0, fault);
-    line(&mut out, end)
+    line(rt, &mut out, end)
 }
 
 // The pairs behind the line of the program `check`, in the place of its line feed. That line is never over 100 bytes; the test makes it plain.
-fn with_pairs(out: &mut [u8], written: usize, pairs: usize) -> bool
+fn with_pairs(rt: &impl Print, out: &mut [u8], written: usize, pairs: usize) -> bool
     requires { length out.old ≡ 128 }
 {
     if written < 1 {
@@ -49,18 +49,18 @@ fn with_pairs(out: &mut [u8], written: usize, pairs: usize) -> bool
         return false;
     }
     let end = text::put_item(out, written - 1, b" pairs ", pairs);
-    line(out, end)
+    line(rt, out, end)
 }
 
 // `accepted depth h leaves L digits A pairs P`, or the fault.
-pub fn checked(answer: Checked) -> bool {
+pub fn checked(rt: &impl Print, answer: Checked) -> bool {
     match answer {
         Checked::Accepted(facts) => {
             let mut out = [0u8; 128];
             let written = line::line(answer, &mut out);
-            with_pairs(&mut out, written, facts.pairs)
+            with_pairs(rt, &mut out, written, facts.pairs)
         }
-        Checked::Refused(fault) => fault_line(fault),
+        Checked::Refused(fault) => fault_line(rt, fault),
     }
 }
 
@@ -74,18 +74,25 @@ fn put_buffer(out: &mut [u8], at: usize, buffer: &[u8]) -> usize
 }
 
 // Ends a line with a whole buffer, behind what says how the call ended. That is never over 64 bytes; the test makes it plain.
-fn with_buffer(out: &mut [u8], end: usize, buffer: &[u8]) -> bool
+fn with_buffer(rt: &impl Print, out: &mut [u8], end: usize, buffer: &[u8]) -> bool
     requires { (length out.old ≡ 2200) × (length buffer.now ≤ 1000) }
 {
     if 100 < end {
         return false;
     }
     let last = put_buffer(out, end, buffer);
-    line(out, last)
+    line(rt, out, last)
 }
 
 // The same with both rows and the sum.
-fn with_rows(out: &mut [u8], end: usize, first: &[u8], second: &[u8], sum: &[u8]) -> bool
+fn with_rows(
+    rt: &impl Print,
+    out: &mut [u8],
+    end: usize,
+    first: &[u8],
+    second: &[u8],
+    sum: &[u8],
+) -> bool
     requires { (length out.old ≡ 4600) × (length first.now ≤ 600) × (length second.now ≤ 600) × (length sum.now ≤ 1000) }
 {
     if 100 < end {
@@ -94,7 +101,7 @@ fn with_rows(out: &mut [u8], end: usize, first: &[u8], second: &[u8], sum: &[u8]
     let one = put_buffer(out, end, first);
     let two = put_buffer(out, one, second);
     let last = put_buffer(out, two, sum);
-    line(out, last)
+    line(rt, out, last)
 }
 
 // A word and a count at the start of a line, then another word and count.
@@ -106,79 +113,85 @@ fn put_counts(out: &mut [u8], word: &[u8], n: usize, next: &[u8], m: usize) -> u
 }
 
 // A word, a count, the reach and a whole buffer.
-fn counted(word: &[u8], n: usize, reach: usize, buffer: &[u8]) -> bool
+fn counted(rt: &impl Print, word: &[u8], n: usize, reach: usize, buffer: &[u8]) -> bool
     requires { (length word.now ≤ 20) × (length buffer.now ≤ 1000) }
 {
     let mut out = [0u8; 2200];
     let end = put_counts(&mut out, word, n, b" reach ", reach);
-    with_buffer(&mut out, end, buffer)
+    with_buffer(rt, &mut out, end, buffer)
 }
 
 // A fault and a whole buffer.
-fn refused(fault: Fault, buffer: &[u8]) -> bool
+fn refused(rt: &impl Print, fault: Fault, buffer: &[u8]) -> bool
     requires { length buffer.now ≤ 1000 }
 {
     let mut out = [0u8; 2200];
     let end = fault_text::put_fault(&mut out, 0, fault);
-    with_buffer(&mut out, end, buffer)
+    with_buffer(rt, &mut out, end, buffer)
 }
 
 // `sum K reach R SUM`, or the fault and SUM.
-pub fn added(answer: Added, sum: &[u8]) -> bool
+pub fn added(rt: &impl Print, answer: Added, sum: &[u8]) -> bool
     requires { length sum.now ≤ 1000 }
 {
     match answer {
-        Added::Sum(facts) => counted(b"sum ", facts.places, facts.reach, sum),
-        Added::Refused(fault) => refused(fault, sum),
+        Added::Sum(facts) => counted(rt, b"sum ", facts.places, facts.reach, sum),
+        Added::Refused(fault) => refused(rt, fault, sum),
     }
 }
 
 // `difference K reach R SUM`, or the fault and SUM.
-pub fn subtracted(answer: Subtracted, sum: &[u8]) -> bool
+pub fn subtracted(rt: &impl Print, answer: Subtracted, sum: &[u8]) -> bool
     requires { length sum.now ≤ 1000 }
 {
     match answer {
-        Subtracted::Difference(facts) => counted(b"difference ", facts.places, facts.reach, sum),
-        Subtracted::Refused(fault) => refused(fault, sum),
+        Subtracted::Difference(facts) => counted(
+            rt,
+            b"difference ",
+            facts.places,
+            facts.reach,
+            sum,
+        ),
+        Subtracted::Refused(fault) => refused(rt, fault, sum),
     }
 }
 
 // `changed C reach R FIRST SECOND SUM`, or the fault and the three buffers.
-pub fn edited(answer: Edited, first: &[u8], second: &[u8], sum: &[u8]) -> bool
+pub fn edited(rt: &impl Print, answer: Edited, first: &[u8], second: &[u8], sum: &[u8]) -> bool
     requires { (length first.now ≤ 600) × (length second.now ≤ 600) × (length sum.now ≤ 1000) }
 {
     let mut out = [0u8; 4600];
     match answer {
         Edited::Count(facts) => {
             let end = put_counts(&mut out, b"changed ", facts.count, b" reach ", facts.reach);
-            with_rows(&mut out, end, first, second, sum)
+            with_rows(rt, &mut out, end, first, second, sum)
         }
         Edited::Refused(fault) => {
             let end = fault_text::put_fault(&mut out, 0, fault);
-            with_rows(&mut out, end, first, second, sum)
+            with_rows(rt, &mut out, end, first, second, sum)
         }
     }
 }
 
 // Two words, each with a count.
-fn counts_line(word: &[u8], n: usize, next: &[u8], m: usize) -> bool
+fn counts_line(rt: &impl Print, word: &[u8], n: usize, next: &[u8], m: usize) -> bool
     requires { (length word.now ≤ 20) × (length next.now ≤ 20) }
 {
     let mut out = [0u8; 128];
     let end = put_counts(&mut out, word, n, next, m);
-    line(&mut out, end)
+    line(rt, &mut out, end)
 }
 
 // `leaf K length N`
-pub fn looked_up(found: Found) -> bool {
-    counts_line(b"leaf ", found.leaf, b" length ", found.length)
+pub fn looked_up(rt: &impl Print, found: Found) -> bool {
+    counts_line(rt, b"leaf ", found.leaf, b" length ", found.length)
 }
 
 // `pairs P bytes B`, or the fault.
-pub fn forecasted(answer: Forecast) -> bool {
+pub fn forecasted(rt: &impl Print, answer: Forecast) -> bool {
     match answer {
-        Forecast::Facts(facts) => counts_line(b"pairs ", facts.pairs, b" bytes ", facts.bytes),
-        Forecast::Refused(fault) => fault_line(fault),
+        Forecast::Facts(facts) => counts_line(rt, b"pairs ", facts.pairs, b" bytes ", facts.bytes),
+        Forecast::Refused(fault) => fault_line(rt, fault),
     }
 }
 
@@ -208,25 +221,25 @@ fn put_parts(out: &mut [u8], at: usize, degree: Degree, x: Element) -> usize
 }
 
 // A word and then the parts of an element.
-pub fn parts(word: &[u8], degree: Degree, x: Element) -> bool
+pub fn parts(rt: &impl Print, word: &[u8], degree: Degree, x: Element) -> bool
     requires { length word.now ≤ 20 }
 {
     let mut out = [0u8; 128];
     let at = octets::put(&mut out, 0, word);
     let end = put_parts(&mut out, at, degree, x);
-    line(&mut out, end)
+    line(rt, &mut out, end)
 }
 
 // `value` and the parts, or the fault.
-pub fn valued(degree: Degree, answer: Valued) -> bool {
+pub fn valued(rt: &impl Print, degree: Degree, answer: Valued) -> bool {
     match answer {
-        Valued::Value(x) => parts(b"value", degree, x),
-        Valued::Refused(fault) => fault_line(fault),
+        Valued::Value(x) => parts(rt, b"value", degree, x),
+        Valued::Refused(fault) => fault_line(rt, fault),
     }
 }
 
 // `pair U L digit PARTS string STRING`. The leaves take never over 64 bytes and the string never over nine; the tests make it plain.
-fn row_line(degree: Degree, row: BadRow, string: &[u8]) -> bool
+fn row_line(rt: &impl Print, degree: Degree, row: BadRow, string: &[u8]) -> bool
     requires { length string.now ≡ 9 }
 {
     let mut out = [0u8; 256];
@@ -243,21 +256,21 @@ fn row_line(degree: Degree, row: BadRow, string: &[u8]) -> bool
     let end = put_parts(&mut out, word, degree, digit);
     let last = octets::put(&mut out, end, b" string");
     let stop = put_buffer(&mut out, last, &string[..bytes]);
-    line(&mut out, stop)
+    line(rt, &mut out, stop)
 }
 
 // `nothing`
-fn nothing_line() -> bool {
+fn nothing_line(rt: &impl Print) -> bool {
     let mut out = [0u8; 16];
     let end = octets::put(&mut out, 0, b"nothing");
-    line(&mut out, end)
+    line(rt, &mut out, end)
 }
 
 // The pair of a bad row, its digit and its string, or that there is nothing to show, or the fault.
-pub fn shown(degree: Degree, answer: Shown, string: &[u8; 9]) -> bool {
+pub fn shown(rt: &impl Print, degree: Degree, answer: Shown, string: &[u8; 9]) -> bool {
     match answer {
-        Shown::Row(row) => row_line(degree, row, string),
-        Shown::Nothing => nothing_line(),
-        Shown::Refused(fault) => fault_line(fault),
+        Shown::Row(row) => row_line(rt, degree, row, string),
+        Shown::Nothing => nothing_line(rt),
+        Shown::Refused(fault) => fault_line(rt, fault),
     }
 }
