@@ -24,6 +24,21 @@ def norm(s):
     return s.replace("_", "-") if s else s
 
 
+def pick(fields, digits):
+    """Which clause a path into nested pairs names, and what is left of the path; None for a path that ends between clauses."""
+    k, i = 0, 0
+    while k < len(fields) - 1:
+        if i >= len(digits) or not digits[i].isdigit():
+            return None
+        if digits[i] == "0":
+            return fields[k], digits[i + 1:]
+        if int(digits[i]) > 1:
+            k = min(k + int(digits[i]), len(fields) - 1)
+            return fields[k], digits[i + 1:]
+        k, i = k + 1, i + 1
+    return fields[k], digits[i:]
+
+
 class Fn:
     def __init__(self, data):
         self.d = data
@@ -179,9 +194,9 @@ class Turner:
             if rest == ["ensures"] and c and c.get("fields") and len(c["fields"]) > 1:
                 return ["ensures", "\0" + ",".join(c["fields"])]
             if rest[0] == "ensures" and len(rest) > 1 and rest[1].isdigit() and c and c.get("fields"):
-                k = int(rest[1])
-                if k < len(c["fields"]) and len(c["fields"]) > 1:
-                    rest = [rest[0], c["fields"][k]] + rest[2:]
+                got = pick(c["fields"], rest[1:])
+                if got and len(c["fields"]) > 1:
+                    rest = [rest[0], got[0]] + got[1]
         return rest
 
     def chain(self, m, at, roots, need):
@@ -190,8 +205,9 @@ class Turner:
             sp = self.step_alias[root]
             if sp == "requires":
                 pre = (self.fn.d.get("pre") or {}).get("fields") or []
-                if len(pre) > 1 and tail[0].isdigit() and int(tail[0]) < len(pre):
-                    tail[0] = pre[int(tail[0])]
+                if len(pre) > 1 and tail[0].isdigit() and pick(pre, tail):
+                    got = pick(pre, tail)
+                    tail = [got[0]] + got[1]
                 return ".".join([root] + tail)
             rest = self.fields(at, sp, tail)
             if rest and rest[-1].startswith("\0"):
@@ -217,8 +233,9 @@ class Turner:
                 rest[1] = self.fn.args.get((rest[0], rest[1]), rest[1])
             pre = (self.fn.d.get("pre") or {}).get("fields") or []
             if rest[0] == "requires" and pre:
-                if len(rest) > 1 and rest[1].isdigit() and len(pre) > 1 and int(rest[1]) < len(pre):
-                    rest[1] = pre[int(rest[1])]
+                if len(rest) > 1 and rest[1].isdigit() and len(pre) > 1 and pick(pre, rest[1:]):
+                    got = pick(pre, rest[1:])
+                    rest = ["requires", got[0]] + got[1]
                 elif len(pre) == 1 and rest[1:2] != pre:
                     rest = ["requires", pre[0]] + rest[1:]
                 elif len(rest) == 1 and len(pre) > 1:

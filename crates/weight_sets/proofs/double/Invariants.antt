@@ -10,7 +10,7 @@ use mathlib.Core.List.{List}
 use Rattle.weight_sets.proofs.double.Given as goal
 
 abbrev pub invariant-loop-leaf : goal.invariant-loop-leaf
-invariant-loop-leaf l = (l.leaf ≤ l.count) × (length l.sets ≡ length l.initial.sets) × ((numbers : List ℕ) → Covers numbers l.initial.sets l.count l.step → (l k : ℕ) → k < l.step + l.step → l + k < l.count → l < l.leaf → Has (get_or l.sets l 0) (get_or numbers (l + k) 0)) × ((l : ℕ) → l.leaf ≤ l → get_or l.sets l 0 ≡ get_or l.initial.sets l 0)
+invariant-loop-leaf l = (l.leaf ≤ l.count) × (length l.sets ≡ length l.initial.sets) × ((numbers : List ℕ) → Covers numbers l.initial.sets l.count l.step → (i k : ℕ) → k < l.step + l.step → i + k < l.count → i < l.leaf → Has (get_or l.sets i 0) (get_or numbers (i + k) 0)) × ((i : ℕ) → l.leaf ≤ i → get_or l.sets i 0 ≡ get_or l.initial.sets i 0)
 
 abbrev pub decreases-loop-leaf : goal.decreases-loop-leaf
 decreases-loop-leaf l = l.count - l.leaf

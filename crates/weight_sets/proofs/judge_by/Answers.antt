@@ -7,6 +7,3 @@ returns-in-Two c = rw c.in-Two.is c.judge_at_two.ensures
 
 pub judge_at_two-requires-clause-part : goal.judge_at_two-requires-clause-part
 judge_at_two-requires-clause-part c = rw c.in-Two.is at c.requires.part
-
-pub judge_at_two-requires-clause-weights : goal.judge_at_two-requires-clause-weights
-judge_at_two-requires-clause-weights c = rw c.in-Two.is at c.requires.weights
