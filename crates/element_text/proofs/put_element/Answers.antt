@@ -18,18 +18,37 @@ emptied : (s t a : List ℕ) (p q : ℕ) → Put s t p q a → length a ≡ 0 �
 emptied s t [] p q w h = w.1 ∙ overwrite_none s p
 emptied s t (b ∷ a) p q w h = absurd (omega arith)
 
-pub put_parts-end-requires : goal.put_parts-end-requires
-put_parts-end-requires c = record { room = omega (arith, element_room c.args.x, c.requires.room); parts = c.requires.parts }
-
 pub put-requires : goal.put-requires
 unfolding bytes_of
-put-requires c = omega (arith, c.requires.room, ap length (nothing c c.if-end-at.true))
+put-requires c =
+    let none : (taken : c.put_parts-end.result ≡ c.args.at) → length (parts_text c.args.x 4) ≡ 0 = λ taken. omega (arith, c.put_parts-end.ensures.end) in
+    let nothing : (taken : c.put_parts-end.result ≡ c.args.at) → element_text c.args.x ≡ bytes_of "0" = λ taken. element_none c.args.x (none taken) in
+    omega (arith, c.requires.room, ap length (nothing c.if-end-at.true))
 
-pub returns-then-end-at : goal.returns-then-end-at
+pub put_parts-end-requires-clause-room : goal.put_parts-end-requires-clause-room
+put_parts-end-requires-clause-room c = omega (arith, element_room c.args.x, c.requires.room)
+
+pub put_parts-end-requires-clause-parts : goal.put_parts-end-requires-clause-parts
+put_parts-end-requires-clause-parts c = c.requires.parts
+
+pub returns-then-end-at-clause-end : goal.returns-then-end-at-clause-end
 unfolding bytes_of
-returns-then-end-at c =
-    let same = emptied c.args.out.now _ (parts_text c.args.x 4) c.args.at _ (c.put_parts-end.ensures.end, c.put_parts-end.ensures.buffer) (none c c.if-end-at.true) in
-    rw (nothing c c.if-end-at.true) (record { end = rw same at c.put.ensures.next; buffer = rw same at c.put.ensures.written })
+returns-then-end-at-clause-end c =
+    let none : (taken : c.put_parts-end.result ≡ c.args.at) → length (parts_text c.args.x 4) ≡ 0 = λ taken. omega (arith, c.put_parts-end.ensures.end) in
+    let nothing : (taken : c.put_parts-end.result ≡ c.args.at) → element_text c.args.x ≡ bytes_of "0" = λ taken. element_none c.args.x (none taken) in
+    let same = emptied c.args.out.now _ (parts_text c.args.x 4) c.args.at _ (c.put_parts-end.ensures.end, c.put_parts-end.ensures.buffer) (none c.if-end-at.true) in
+    rw (nothing c.if-end-at.true) c.put.ensures.next
 
-pub returns : goal.returns
-returns c = rw (element_some c.args.x (λ z. c.if-end-at.false (omega (arith, c.put_parts-end.ensures.end)))) (c.put_parts-end.ensures.end, c.put_parts-end.ensures.buffer)
+pub returns-then-end-at-clause-buffer : goal.returns-then-end-at-clause-buffer
+unfolding bytes_of
+returns-then-end-at-clause-buffer c =
+    let none : (taken : c.put_parts-end.result ≡ c.args.at) → length (parts_text c.args.x 4) ≡ 0 = λ taken. omega (arith, c.put_parts-end.ensures.end) in
+    let nothing : (taken : c.put_parts-end.result ≡ c.args.at) → element_text c.args.x ≡ bytes_of "0" = λ taken. element_none c.args.x (none taken) in
+    let same = emptied c.args.out.now _ (parts_text c.args.x 4) c.args.at _ (c.put_parts-end.ensures.end, c.put_parts-end.ensures.buffer) (none c.if-end-at.true) in
+    rw (nothing c.if-end-at.true) (rw same at c.put.ensures.written)
+
+pub returns-clause-end : goal.returns-clause-end
+returns-clause-end c = rw (element_some c.args.x (λ z. c.if-end-at.false (omega (arith, c.put_parts-end.ensures.end)))) (c.put_parts-end.ensures.end)
+
+pub returns-clause-buffer : goal.returns-clause-buffer
+returns-clause-buffer c = rw (element_some c.args.x (λ z. c.if-end-at.false (omega (arith, c.put_parts-end.ensures.end)))) (c.put_parts-end.ensures.buffer)

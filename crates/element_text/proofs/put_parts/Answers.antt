@@ -16,12 +16,6 @@ use Rattle.listing_rules.proofs.Element.{parts_next, parts_before}
 use Rattle.lists.proofs.Pieces.{Put, put_none, put_more}
 use Rattle.integers.proofs.Machine.{stored_is, stored_below}
 use Rattle.element_text.proofs.put_parts.Goals as goal
-use Rattle.element_text.proofs.put_parts.Tie as tie
-use Rattle.element_text.proofs.put_parts.Lts as lts
-use Rattle.element_text.proofs.put_parts.Reads as reads
-
-abbrev Start : Type 0
-Start = lts.Start tie.the-claims reads.Pre reads.Post goal.the-invariant-loop-k goal.the-decreases-loop-k
 
 pub loop-k-init : goal.loop-k-init
 unfolding parts_text
@@ -30,30 +24,36 @@ loop-k-init c = (omega arith, put_none c.args.out.now c.args.at, refl)
 pub overflow_sub-end : goal.overflow_sub-end
 overflow_sub-end c = omega (arith, c.loop-k.invariant.1.0)
 
-pub put_part-end-requires : goal.put_part-end-requires
-put_part-end-requires c =
-    let st : Start = c in
-    let x : List ℤ = st.args.t3 in
-    let k : ℕ = c.loop-k.k in
-    let here : part_text (c.loop-k.end - st.args.at) (to_z w64 (of_z w64 (part x k))) k ≡ part_text (length (parts_text x k)) (part x k) k = let passed : c.loop-k.end - st.args.at ≡ length (parts_text x k) = omega (arith, c.loop-k.invariant.1.0) in ap₂ (λ (n : ℕ) (a : ℤ). part_text n a k) passed (stored_is w64 (entry (2 ^ 62) x st.pre.1 k) refl) in
-    let room : length (parts_text x k) + length (part_text (length (parts_text x k)) (part x k) k) ≤ length (parts_text x 4) = parts_before x k 4 c.loop-k-test.true in
-    let d = c in
-    record { room = rw (here) (omega (arith, c.requires.room, c.loop-k.invariant.1.0, c.loop-k.invariant.2, room)); size = stored_below w64 (entry (2 ^ 62) (x) c.requires.parts (k)) refl }
-
 pub loop-k-preserved : goal.loop-k-preserved
 loop-k-preserved c =
-    let st : Start = c in
-    let x : List ℤ = st.args.t3 in
+    let x : List ℤ = c.args.x in
     let k : ℕ = c.loop-k.k in
-    let here : part_text (c.loop-k.end - st.args.at) (to_z w64 (of_z w64 (part x k))) k ≡ part_text (length (parts_text x k)) (part x k) k = let passed : c.loop-k.end - st.args.at ≡ length (parts_text x k) = omega (arith, c.loop-k.invariant.1.0) in ap₂ (λ (n : ℕ) (a : ℤ). part_text n a k) passed (stored_is w64 (entry (2 ^ 62) x st.pre.1 k) refl) in
+    let here : part_text (c.loop-k.end - c.args.at) (to_z w64 (of_z w64 (part x k))) k ≡ part_text (length (parts_text x k)) (part x k) k = let passed : c.loop-k.end - c.args.at ≡ length (parts_text x k) = omega (arith, c.loop-k.invariant.1.0) in ap₂ (λ (n : ℕ) (a : ℤ). part_text n a k) passed (stored_is w64 (entry (2 ^ 62) x c.requires.parts k) refl) in
     let room : length (parts_text x k) + length (part_text (length (parts_text x k)) (part x k) k) ≤ length (parts_text x 4) = parts_before x k 4 c.loop-k-test.true in
     let d = c in
-    let one = (rw (here) at c.put_part-end.ensures.end, rw (here) at c.put_part-end.ensures.buffer) in
-    let more = put_more c.args.out.now _ _ (parts_text (x) (k)) _ c.args.at _ _ c.loop-k.invariant.1 one (omega (arith, room, c.requires.room)) in
+    let more = put_more c.args.out.now _ _ (parts_text (x) (k)) _ c.args.at _ _ c.loop-k.invariant.1 (rw (here) at c.put_part-end.ensures.end, rw (here) at c.put_part-end.ensures.buffer) (omega (arith, room, c.requires.room)) in
     (omega arith, rw (parts_next (x) (k)) more, search rules)
 
 pub shape_of-out : goal.shape_of-out
 shape_of-out c = c.loop-k.invariant.2
+
+pub put_part-end-requires-clause-room : goal.put_part-end-requires-clause-room
+put_part-end-requires-clause-room c =
+    let x : List ℤ = c.args.x in
+    let k : ℕ = c.loop-k.k in
+    let here : part_text (c.loop-k.end - c.args.at) (to_z w64 (of_z w64 (part x k))) k ≡ part_text (length (parts_text x k)) (part x k) k = let passed : c.loop-k.end - c.args.at ≡ length (parts_text x k) = omega (arith, c.loop-k.invariant.1.0) in ap₂ (λ (n : ℕ) (a : ℤ). part_text n a k) passed (stored_is w64 (entry (2 ^ 62) x c.requires.parts k) refl) in
+    let room : length (parts_text x k) + length (part_text (length (parts_text x k)) (part x k) k) ≤ length (parts_text x 4) = parts_before x k 4 c.loop-k-test.true in
+    let d = c in
+    rw (here) (omega (arith, c.requires.room, c.loop-k.invariant.1.0, c.loop-k.invariant.2, room))
+
+pub put_part-end-requires-clause-size : goal.put_part-end-requires-clause-size
+put_part-end-requires-clause-size c =
+    let x : List ℤ = c.args.x in
+    let k : ℕ = c.loop-k.k in
+    let here : part_text (c.loop-k.end - c.args.at) (to_z w64 (of_z w64 (part x k))) k ≡ part_text (length (parts_text x k)) (part x k) k = let passed : c.loop-k.end - c.args.at ≡ length (parts_text x k) = omega (arith, c.loop-k.invariant.1.0) in ap₂ (λ (n : ℕ) (a : ℤ). part_text n a k) passed (stored_is w64 (entry (2 ^ 62) x c.requires.parts k) refl) in
+    let room : length (parts_text x k) + length (part_text (length (parts_text x k)) (part x k) k) ≤ length (parts_text x 4) = parts_before x k 4 c.loop-k-test.true in
+    let d = c in
+    stored_below w64 (entry (2 ^ 62) (x) c.requires.parts (k)) refl
 
 pub returns-clause-end : goal.returns-clause-end
 returns-clause-end c = let all : c.loop-k.k ≡ 4 = omega arith in rw all at c.loop-k.invariant.1.0

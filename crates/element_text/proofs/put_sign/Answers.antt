@@ -21,22 +21,22 @@ put-requires-2 c = omega (arith, ap length (sign_above c.args.written c.args.a (
 
 pub returns-then-a-lt0-clause-end : goal.returns-then-a-lt0-clause-end
 unfolding bytes_of
-returns-then-a-lt0-clause-end c = rw (sign_below (c.args.written c.args.a (sign_test w64 c.args.a true c.ranges.a c.if-a-lt0.true)) (c.put.ensures.next, c.put.ensures.written)).0
+returns-then-a-lt0-clause-end c = rw (sign_below c.args.written c.args.a (sign_test w64 c.args.a true c.ranges.a c.if-a-lt0.true)) (c.put.ensures.next)
 
 pub returns-then-a-lt0-clause-buffer : goal.returns-then-a-lt0-clause-buffer
 unfolding bytes_of
-returns-then-a-lt0-clause-buffer c = rw (sign_below (c.args.written c.args.a (sign_test w64 c.args.a true c.ranges.a c.if-a-lt0.true)) (c.put.ensures.next, c.put.ensures.written)).1
+returns-then-a-lt0-clause-buffer c = rw (sign_below c.args.written c.args.a (sign_test w64 c.args.a true c.ranges.a c.if-a-lt0.true)) (c.put.ensures.written)
+
+pub returns-then-written-eq0-clause-end : goal.returns-then-written-eq0-clause-end
+returns-then-written-eq0-clause-end c = rw (sign_none c.args.written c.args.a (sign_test w64 c.args.a false c.ranges.a c.if-a-lt0.false) c.if-written-eq0.true) (put_none c.args.out.now c.args.at).0
+
+pub returns-then-written-eq0-clause-buffer : goal.returns-then-written-eq0-clause-buffer
+returns-then-written-eq0-clause-buffer c = rw (sign_none c.args.written c.args.a (sign_test w64 c.args.a false c.ranges.a c.if-a-lt0.false) c.if-written-eq0.true) (put_none c.args.out.now c.args.at).1
 
 pub returns-clause-end : goal.returns-clause-end
 unfolding bytes_of
-returns-clause-end c = rw (sign_above (c.args.written c.args.a (sign_test w64 c.args.a false c.ranges.a c.if-a-lt0.false) c.if-written-eq0.false) (c.put-2.ensures.next, c.put-2.ensures.written)).0
+returns-clause-end c = rw (sign_above c.args.written c.args.a (sign_test w64 c.args.a false c.ranges.a c.if-a-lt0.false) c.if-written-eq0.false) (c.put-2.ensures.next)
 
 pub returns-clause-buffer : goal.returns-clause-buffer
 unfolding bytes_of
-returns-clause-buffer c = rw (sign_above (c.args.written c.args.a (sign_test w64 c.args.a false c.ranges.a c.if-a-lt0.false) c.if-written-eq0.false) (c.put-2.ensures.next, c.put-2.ensures.written)).1
-
-pub returns-then-written-eq0-clause-end : goal.returns-then-written-eq0-clause-end
-returns-then-written-eq0-clause-end c = rw (sign_none (c.args.written c.args.a (sign_test w64 c.args.a false c.ranges.a c.if-a-lt0.false) c.if-written-eq0.true) (put_none c.args.out.now c.args.at)).0
-
-pub returns-then-written-eq0-clause-buffer : goal.returns-then-written-eq0-clause-buffer
-returns-then-written-eq0-clause-buffer c = rw (sign_none (c.args.written c.args.a (sign_test w64 c.args.a false c.ranges.a c.if-a-lt0.false) c.if-written-eq0.true) (put_none c.args.out.now c.args.at)).1
+returns-clause-buffer c = rw (sign_above c.args.written c.args.a (sign_test w64 c.args.a false c.ranges.a c.if-a-lt0.false) c.if-written-eq0.false) (c.put-2.ensures.written)

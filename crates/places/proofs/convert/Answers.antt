@@ -74,14 +74,6 @@ out_index_by-index-requires c =
 pub shape_of-out-then-size-index : goal.shape_of-out-then-size-index
 shape_of-out-then-size-index c = c.loop-k.invariant.0.long
 
-pub returns-then-size-index : goal.returns-then-size-index
-returns-then-size-index c =
-    let own : (let a = c.args in weight_given (of_degree a.degree a.leaves.now) c.leaf_tried-upper.result.leaf ≡ weight_into (code_of (of_degree a.degree a.leaves.now) a.words.now) a.row.now (a.from + c.loop-k.k + 1)) = let a = c.args in leaf_weight (of_degree a.degree a.leaves.now) a.words.now a.row.now _ _ _ c.leaf_tried-upper.ensures.leaf in
-    let at : (let a = c.args in c.out_index_by-index.result ≡ index_at (elements (part_count a.degree) a.base) (of_degree a.degree a.alphabet.now) (of_degree a.degree a.inputs.now) (of_degree a.degree a.leaves.now) a.words.now a.row.now (a.from + c.loop-k.k)) = let a = c.args in let leaves = of_degree a.degree a.leaves.now in let loop = c.loop-k in let byte_at = c.byte_at-first in index_from (elements (part_count a.degree) a.base) (of_degree a.degree a.alphabet.now) (of_degree a.degree a.inputs.now) leaves a.words.now a.row.now (a.from + loop.k) byte_at.result c.out_index_by-index.result (weight_given leaves loop.below) (weight_given leaves c.leaf_tried-upper.result.leaf) byte_at.ensures loop.invariant.0.weight (own) c.out_index_by-index.ensures.index in
-    let a = c.args in
-    let loop = c.loop-k in
-    converted_here (elements (part_count a.degree) a.base) (of_degree a.degree a.alphabet.now) (of_degree a.degree a.inputs.now) (of_degree a.degree a.leaves.now) a.words.now a.row.now a.from a.count a.out.now loop.out loop.below loop.reach loop.k loop.invariant.0 c.out_index_by-index.result c.loop-k-test.true (at) (subst (λ (n : ℕ). n ≤ c.out_index_by-index.result) c.record_count-size.ensures c.if-size-index.true)
-
 pub overflow_cast-out : goal.overflow_cast-out
 overflow_cast-out c =
     let record-count = c.record_count-size in
@@ -93,6 +85,21 @@ bounds-out-k c = omega (arith, c.requires.6, c.loop-k.invariant.0.long)
 
 pub overflow_add-k : goal.overflow_add-k
 overflow_add-k c = omega (arith, c.requires.5)
+
+pub shape_of-out : goal.shape_of-out
+shape_of-out c = c.loop-k.invariant.0.long
+
+pub returns-then-size-index-clause-count : goal.returns-then-size-index-clause-count
+returns-then-size-index-clause-count c =
+    let own : (let a = c.args in weight_given (of_degree a.degree a.leaves.now) c.leaf_tried-upper.result.leaf ≡ weight_into (code_of (of_degree a.degree a.leaves.now) a.words.now) a.row.now (a.from + c.loop-k.k + 1)) = let a = c.args in leaf_weight (of_degree a.degree a.leaves.now) a.words.now a.row.now _ _ _ c.leaf_tried-upper.ensures.leaf in
+    let at : (let a = c.args in c.out_index_by-index.result ≡ index_at (elements (part_count a.degree) a.base) (of_degree a.degree a.alphabet.now) (of_degree a.degree a.inputs.now) (of_degree a.degree a.leaves.now) a.words.now a.row.now (a.from + c.loop-k.k)) = let a = c.args in let leaves = of_degree a.degree a.leaves.now in let loop = c.loop-k in let byte_at = c.byte_at-first in index_from (elements (part_count a.degree) a.base) (of_degree a.degree a.alphabet.now) (of_degree a.degree a.inputs.now) leaves a.words.now a.row.now (a.from + loop.k) byte_at.result c.out_index_by-index.result (weight_given leaves loop.below) (weight_given leaves c.leaf_tried-upper.result.leaf) byte_at.ensures loop.invariant.0.weight (own) c.out_index_by-index.ensures.index in
+    let a = c.args in
+    let loop = c.loop-k in (converted_here (elements (part_count a.degree) a.base) (of_degree a.degree a.alphabet.now) (of_degree a.degree a.inputs.now) (of_degree a.degree a.leaves.now) a.words.now a.row.now a.from a.count a.out.now loop.out loop.below loop.reach loop.k loop.invariant.0 c.out_index_by-index.result c.loop-k-test.true (at) (subst (λ (n : ℕ). n ≤ c.out_index_by-index.result) c.record_count-size.ensures c.if-size-index.true)).0
+
+pub returns-clause-count : goal.returns-clause-count
+returns-clause-count c =
+    let a = c.args in
+    let loop = c.loop-k in (converted_end (elements (part_count a.degree) a.base) (of_degree a.degree a.alphabet.now) (of_degree a.degree a.inputs.now) (of_degree a.degree a.leaves.now) a.words.now a.row.now a.from a.count a.out.now loop.out loop.below loop.reach loop.k loop.invariant.0 c.loop-k-test.false).0
 
 pub loop-k-preserved : goal.loop-k-preserved
 loop-k-preserved c =
@@ -107,16 +114,7 @@ loop-k-preserved c =
     let leaf-tried = c.leaf_tried-upper in (
       converted_next (elements (part_count a.degree) a.base) (of_degree a.degree a.alphabet.now) (of_degree a.degree a.inputs.now) leaves words row a.from a.count a.out.now loop.out loop.below loop.reach loop.k
           loop.invariant.0 leaf-tried.result.leaf out-index.result _ leaf-tried.result.reach c.loop-k-test.true c.requires.6 (at)
-          (subst (λ (n : ℕ). out-index.result < n) c.record_count-size.ensures c.if-size-index.false) (own) leaf-tried.ensures.leaf.listed (leaf_size leaves words row _ _ _ leaf-tried.ensures.leaf) leaf-tried.ensures.reach.0,
+          (subst (λ (n : ℕ). out-index.result < n) c.record_count-size.ensures c.if-size-index.false) (own) leaf-tried.ensures.leaf.listed (leaf_size leaves words row _ _ _ leaf-tried.ensures.leaf) leaf-tried.ensures.reach,
       out-index.ensures.slots,
-      leaf-tried.ensures.reach.1,
+      leaf-tried.ensures.found,
     )
-
-pub shape_of-out : goal.shape_of-out
-shape_of-out c = c.loop-k.invariant.0.long
-
-pub returns : goal.returns
-returns c =
-    let a = c.args in
-    let loop = c.loop-k in
-    converted_end (elements (part_count a.degree) a.base) (of_degree a.degree a.alphabet.now) (of_degree a.degree a.inputs.now) (of_degree a.degree a.leaves.now) a.words.now a.row.now a.from a.count a.out.now loop.out loop.below loop.reach loop.k loop.invariant.0 c.loop-k-test.false
