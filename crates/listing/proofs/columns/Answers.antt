@@ -15,14 +15,6 @@ pub loop-leaf-init : goal.loop-leaf-init
 unfolding largest
 loop-leaf-init c = (omega arith, refl, omega arith)
 
-pub loop-leaf-preserved : goal.loop-leaf-preserved
-loop-leaf-preserved c =
-    let a = c.args in
-    let next = largest_next (λ k. length (word_shown (of_degree a.degree a.leaves.now) a.words.now k)) c.loop-leaf.leaf in
-    let here = ap length c.word_shown-length.ensures.word in
-    let short = c.word_shown-length.ensures.within in
-    (omega arith, ⊎_elim (λ w. omega (arith, next, here)) (λ w. omega (arith, next, here)) c.if-most-length.branch, ⊎_elim (λ w. omega (arith, short)) (λ w. omega arith) c.if-most-length.branch)
-
 pub returns : goal.returns
 unfolding columns_for
 returns c =

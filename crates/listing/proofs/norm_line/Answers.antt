@@ -17,23 +17,14 @@ returns-in-Two-clause-count c = rw (ap (λ (d : Degree). norm_line_of (of_degree
 pub returns-in-Two-clause-buffer : goal.returns-in-Two-clause-buffer
 returns-in-Two-clause-buffer c = rw (ap (λ (d : Degree). norm_line_of (of_degree d c.args.base.now)) c.in-Two.is) (c.trace_line.ensures.buffer)
 
-pub returns-in-Two-clause-within : goal.returns-in-Two-clause-within
-returns-in-Two-clause-within c = rw (ap (λ (d : Degree). norm_line_of (of_degree d c.args.base.now)) c.in-Two.is) (c.trace_line.ensures.within)
-
 pub returns-in-Three-clause-count : goal.returns-in-Three-clause-count
 returns-in-Three-clause-count c = rw (norm_three (of_degree c.args.degree c.args.base.now) c.in-Three.is) (c.determinant_line.ensures.count)
 
 pub returns-in-Three-clause-buffer : goal.returns-in-Three-clause-buffer
 returns-in-Three-clause-buffer c = rw (norm_three (of_degree c.args.degree c.args.base.now) c.in-Three.is) (c.determinant_line.ensures.buffer)
 
-pub returns-in-Three-clause-within : goal.returns-in-Three-clause-within
-returns-in-Three-clause-within c = rw (norm_three (of_degree c.args.degree c.args.base.now) c.in-Three.is) (c.determinant_line.ensures.within)
-
 pub returns-in-Four-clause-count : goal.returns-in-Four-clause-count
 returns-in-Four-clause-count c = rw (norm_four (of_degree c.args.degree c.args.base.now) c.in-Four.is) (c.determinant_line-in-Four.ensures.count)
 
 pub returns-in-Four-clause-buffer : goal.returns-in-Four-clause-buffer
 returns-in-Four-clause-buffer c = rw (norm_four (of_degree c.args.degree c.args.base.now) c.in-Four.is) (c.determinant_line-in-Four.ensures.buffer)
-
-pub returns-in-Four-clause-within : goal.returns-in-Four-clause-within
-returns-in-Four-clause-within c = rw (norm_four (of_degree c.args.degree c.args.base.now) c.in-Four.is) (c.determinant_line-in-Four.ensures.within)
