@@ -10,76 +10,35 @@ use lib.ListN.{length, length-append}
 use lib.IntN.{nat_abs}
 use Rattle.listing_rules.specs.Element.{power_text, factor_text, sign_text, part_text}
 use Rattle.listing_rules.proofs.Element.{part_none, part_some}
-use Rattle.lists.proofs.Pieces.{last, next, put_none, put_all}
+use Rattle.lists.proofs.Pieces.{Put, last, next, put_none, put_all}
 use borrow.Author.Rules.{rules}
 use Rattle.element_text.proofs.put_part.Goals as goal
 
+-- the text is of the size of the part, as it was found
+module _ (written k n : ℕ) (a : ℤ) (size : n ≡ nat_abs a) where
+  none : n ≡ 0 → part_text written a k ≡ []
+  none zero = part_none written a k (sym size ∙ zero)
+
+  lengths : (n ≡ 0 → ⊥) → length (part_text written a k) ≡ length (sign_text written a) + (length (factor_text n k) + length (power_text k))
+  lengths left =
+      ap length (part_some written a k n size left) ∙ length-append (sign_text written a) (factor_text n k ++ power_text k) ∙ ap (λ (m : ℕ). length (sign_text written a) + m) (length-append (factor_text n k) (power_text k))
+
+  written_all : (n ≡ 0 → ⊥) → (s t u v : List ℕ) (at p q r : ℕ) → Put s t at p (sign_text written a) → Put t u p q (factor_text n k) → Put u v q r (power_text k) → at + length (part_text written a k) ≤ length s → Put s v at r (part_text written a k)
+  written_all left s t u v at p q r one two three room =
+      let text = part_some written a k n size left in
+      rw text (put_all (next s t v (sign_text written a) _ at p r one (next t u v (factor_text n k) (power_text k) p q r two (last u v _ q r three))) (rw text at room))
+
+pub returns-then-n-eq0 : goal.returns-then-n-eq0
+returns-then-n-eq0 c = let h = c.size-n.ensures in ?
+
 pub put_sign-factor-requires : goal.put_sign-factor-requires
-put_sign-factor-requires c =
-    let held : to_z w64 (of_z w64 c.args.a) ≡ c.args.a = to_z-of_z w64 c.args.a c.ranges.a in
-    let size_is : c.size-n.result ≡ nat_abs c.args.a = c.size-n.ensures ∙ ap nat_abs held in
-    let sign : List ℕ = sign_text c.args.written c.args.a in
-    let factor : List ℕ = factor_text c.size-n.result c.args.k in
-    let power : List ℕ = power_text c.args.k in
-    let some : (left : c.size-n.result ≡ 0 → ⊥) → part_text c.args.written c.args.a c.args.k ≡ sign ++ (factor ++ power) = λ left. part_some c.args.written c.args.a c.args.k c.size-n.result size_is left in
-    let lengths : (left : c.size-n.result ≡ 0 → ⊥) → length (part_text c.args.written c.args.a c.args.k) ≡ length sign + (length factor + length power) = λ left. ap length (some left) ∙ length-append sign (factor ++ power) ∙ ap (λ (k : ℕ). length sign + k) (length-append factor power) in
-    rw (held) (omega (arith, c.requires.room, lengths c.if-n-eq0.false))
+put_sign-factor-requires c = ?
 
 pub put_factor-power-requires : goal.put_factor-power-requires
-put_factor-power-requires c =
-    let held : to_z w64 (of_z w64 c.args.a) ≡ c.args.a = to_z-of_z w64 c.args.a c.ranges.a in
-    let size_is : c.size-n.result ≡ nat_abs c.args.a = c.size-n.ensures ∙ ap nat_abs held in
-    let sign : List ℕ = sign_text c.args.written c.args.a in
-    let factor : List ℕ = factor_text c.size-n.result c.args.k in
-    let power : List ℕ = power_text c.args.k in
-    let some : (left : c.size-n.result ≡ 0 → ⊥) → part_text c.args.written c.args.a c.args.k ≡ sign ++ (factor ++ power) = λ left. part_some c.args.written c.args.a c.args.k c.size-n.result size_is left in
-    let lengths : (left : c.size-n.result ≡ 0 → ⊥) → length (part_text c.args.written c.args.a c.args.k) ≡ length sign + (length factor + length power) = λ left. ap length (some left) ∙ length-append sign (factor ++ power) ∙ ap (λ (k : ℕ). length sign + k) (length-append factor power) in
-    let first = rw (held) at c.put_sign-factor.ensures.end in omega (arith, c.requires.room, lengths c.if-n-eq0.false, first)
+put_factor-power-requires c = ?
 
 pub put_power-requires : goal.put_power-requires
-put_power-requires c =
-    let held : to_z w64 (of_z w64 c.args.a) ≡ c.args.a = to_z-of_z w64 c.args.a c.ranges.a in
-    let size_is : c.size-n.result ≡ nat_abs c.args.a = c.size-n.ensures ∙ ap nat_abs held in
-    let sign : List ℕ = sign_text c.args.written c.args.a in
-    let factor : List ℕ = factor_text c.size-n.result c.args.k in
-    let power : List ℕ = power_text c.args.k in
-    let some : (left : c.size-n.result ≡ 0 → ⊥) → part_text c.args.written c.args.a c.args.k ≡ sign ++ (factor ++ power) = λ left. part_some c.args.written c.args.a c.args.k c.size-n.result size_is left in
-    let lengths : (left : c.size-n.result ≡ 0 → ⊥) → length (part_text c.args.written c.args.a c.args.k) ≡ length sign + (length factor + length power) = λ left. ap length (some left) ∙ length-append sign (factor ++ power) ∙ ap (λ (k : ℕ). length sign + k) (length-append factor power) in
-    let first = rw (held) at c.put_sign-factor.ensures.end in
-    omega (arith, c.requires.room, lengths c.if-n-eq0.false, first, c.put_factor-power.ensures.end)
+put_power-requires c = ?
 
-pub returns-then-n-eq0-clause-end : goal.returns-then-n-eq0-clause-end
-returns-then-n-eq0-clause-end c =
-    let held : to_z w64 (of_z w64 c.args.a) ≡ c.args.a = to_z-of_z w64 c.args.a c.ranges.a in
-    let size_is : c.size-n.result ≡ nat_abs c.args.a = c.size-n.ensures ∙ ap nat_abs held in
-    let none : c.size-n.result ≡ 0 → part_text c.args.written c.args.a c.args.k ≡ [] = λ zero. part_none c.args.written c.args.a c.args.k (sym size_is ∙ zero) in rw (none c.if-n-eq0.true) (put_none c.args.out.now c.args.at).0
-
-pub returns-then-n-eq0-clause-buffer : goal.returns-then-n-eq0-clause-buffer
-returns-then-n-eq0-clause-buffer c =
-    let held : to_z w64 (of_z w64 c.args.a) ≡ c.args.a = to_z-of_z w64 c.args.a c.ranges.a in
-    let size_is : c.size-n.result ≡ nat_abs c.args.a = c.size-n.ensures ∙ ap nat_abs held in
-    let none : c.size-n.result ≡ 0 → part_text c.args.written c.args.a c.args.k ≡ [] = λ zero. part_none c.args.written c.args.a c.args.k (sym size_is ∙ zero) in rw (none c.if-n-eq0.true) (put_none c.args.out.now c.args.at).1
-
-pub returns-clause-end : goal.returns-clause-end
-returns-clause-end c =
-    let held : to_z w64 (of_z w64 c.args.a) ≡ c.args.a = to_z-of_z w64 c.args.a c.ranges.a in
-    let size_is : c.size-n.result ≡ nat_abs c.args.a = c.size-n.ensures ∙ ap nat_abs held in
-    let sign : List ℕ = sign_text c.args.written c.args.a in
-    let factor : List ℕ = factor_text c.size-n.result c.args.k in
-    let power : List ℕ = power_text c.args.k in
-    let some : (left : c.size-n.result ≡ 0 → ⊥) → part_text c.args.written c.args.a c.args.k ≡ sign ++ (factor ++ power) = λ left. part_some c.args.written c.args.a c.args.k c.size-n.result size_is left in
-    let d = c in
-    let text = some c.if-n-eq0.false in
-    let tail = next _ _ _ (factor) (power) _ _ _ (c.put_factor-power.ensures.end, c.put_factor-power.ensures.buffer) (last _ _ _ _ _ (c.put_power.ensures.end, c.put_power.ensures.buffer)) in rw text (put_all (next c.args.out.now _ _ (sign) _ c.args.at _ _ (rw held at c.put_sign-factor.ensures.end, rw held at c.put_sign-factor.ensures.buffer) tail) (rw text at c.requires.room)).0
-
-pub returns-clause-buffer : goal.returns-clause-buffer
-returns-clause-buffer c =
-    let held : to_z w64 (of_z w64 c.args.a) ≡ c.args.a = to_z-of_z w64 c.args.a c.ranges.a in
-    let size_is : c.size-n.result ≡ nat_abs c.args.a = c.size-n.ensures ∙ ap nat_abs held in
-    let sign : List ℕ = sign_text c.args.written c.args.a in
-    let factor : List ℕ = factor_text c.size-n.result c.args.k in
-    let power : List ℕ = power_text c.args.k in
-    let some : (left : c.size-n.result ≡ 0 → ⊥) → part_text c.args.written c.args.a c.args.k ≡ sign ++ (factor ++ power) = λ left. part_some c.args.written c.args.a c.args.k c.size-n.result size_is left in
-    let d = c in
-    let text = some c.if-n-eq0.false in
-    let tail = next _ _ _ (factor) (power) _ _ _ (c.put_factor-power.ensures.end, c.put_factor-power.ensures.buffer) (last _ _ _ _ _ (c.put_power.ensures.end, c.put_power.ensures.buffer)) in rw text (put_all (next c.args.out.now _ _ (sign) _ c.args.at _ _ (rw held at c.put_sign-factor.ensures.end, rw held at c.put_sign-factor.ensures.buffer) tail) (rw text at c.requires.room)).1
+pub returns : goal.returns
+returns c = let f = c.put_sign-factor.ensures.end in ?
