@@ -109,6 +109,50 @@ def blocks(text):
     return [(l, "\n".join(b).rstrip()) for l, b in out], lead
 
 
+def nested(n, of):
+    """The path to the n-th of so many in pairs of pairs."""
+    return ".1" * n + (".0" if n < of - 1 else "")
+
+
+def balanced(s, i):
+    """The place behind the bracket that closes the one at place i."""
+    depth = 0
+    for j in range(i, len(s)):
+        depth += s[j] in "([{"
+        depth -= s[j] in ")]}"
+        if depth == 0:
+            return j + 1
+    return len(s)
+
+
+def spread_rw_at(s):
+    """`rw E at (a, b)` as `(rw E at a, rw E at b)`."""
+    pos = 0
+    while True:
+        m = re.compile(r"(?<![A-Za-z0-9_'-])rw ").search(s, pos)
+        if not m:
+            return s
+        i = m.end()
+        j = balanced(s, i) if i < len(s) and s[i] == "(" else i + len(re.match(r"\S*", s[i:]).group(0))
+        k = re.compile(r" at \(").match(s, j)
+        if k:
+            end = balanced(s, k.end() - 1)
+            parts = [p.strip() for p in split_top(s[k.end():end - 1], ",")]
+            if len(parts) > 1:
+                s = s[:m.start()] + "(" + ", ".join(f"{s[m.start():j]} at {p}" for p in parts) + ")" + s[end:]
+        pos = m.end()
+
+
+def parts_of_pairs(s):
+    """`(a, b).0` as `a`, where a and b are paths."""
+    path = r"[A-Za-z_][A-Za-z0-9_'.-]*"
+
+    def one(m):
+        parts = [x.strip() for x in m.group(1).split(",")]
+        return parts[int(m.group(2))] if int(m.group(2)) < len(parts) else m.group(0)
+    return re.sub(r"\((" + path + r"(?:, " + path + r")+)\)\.(\d)", one, s)
+
+
 def inline_pairs(s):
     """Puts a pair that a `let` names without a type where it is used."""
     while True:
@@ -357,9 +401,11 @@ class Turner:
         out = re.sub(r"\s*\(" + MARK + r"\)", "", out)
         out = re.sub(r"\s*" + MARK, "", out)
         out = self.types(out)
+        for name in getattr(self, "place_alias", {}):
+            out = out.replace(f"({name})", "c")
+        out = parts_of_pairs(out)
         # a clause each, where two were rewritten at once
-        out = re.sub(r"\brw (\S+|\([^()]*\)) at \((c\.[^\s,()]+), (c\.[^\s,()]+)\)", r"(rw \1 at \2, rw \1 at \3)", out)
-        out = re.sub(r"\brw (\S+|\([^()]*\)) at \((c\.[^\s,()]+), (c\.[^\s,()]+), (c\.[^\s,()]+)\)", r"(rw \1 at \2, rw \1 at \3, rw \1 at \4)", out)
+        out = spread_rw_at(out)
         out = inline_pairs(out)
         out = re.sub(r"\(not-(?:false|true) _ (c\.if-not-[A-Za-z0-9_-]+\.(?:false|true))\)", r"\1", out)
         out = re.sub(r"not-(?:false|true) _ (c\.if-not-[A-Za-z0-9_-]+\.(?:false|true))", r"\1", out)
@@ -598,7 +644,8 @@ class Turner:
                     tt = tail_tuple(body)
                     while tt and len(tt[1]) < len(asked) and tail_tuple(tt[1][-1]) and not tail_tuple(tt[1][-1])[0].strip():
                         tt = (tt[0], tt[1][:-1] + tail_tuple(tt[1][-1])[1])
-                    simple = re.search(r"(?:^|\bin|=)\s*(" + ID + r"(?:\.[A-Za-z0-9_'₀-₉-]+)*)\s*$", body)
+                    cut0 = last_in(body)
+                    simple = re.compile(r"\s*(" + ID + r"(?:\.[A-Za-z0-9_'₀-₉-]+)*)\s*$").match(body, cut0)
                     if tt and len(tt[1]) == len(asked):
                         fields = "; ".join(f"{f} = {p}" for f, p in zip(asked, tt[1]))
                         rewrites = ends_with_rw(tt[0])
@@ -631,7 +678,7 @@ class Turner:
                                 pre, e = pre + "at ", e[3:].strip()
                         if e and "∙" not in re.sub(r"\(.*\)", "", e) and " in " not in re.sub(r"\(.*\)", "", e):
                             e = e if re.match(r"^(\(.*\)|[A-Za-z_.-]+)$", e, re.S) else f"({e})"
-                            by_clause = (body[:cut].rstrip() + " " * bool(cut) + pre, [(f, f"{e}.{n}") for n, f in enumerate(asked)])
+                            by_clause = (body[:cut].rstrip() + " " * bool(cut) + pre, [(f, e + nested(n, len(asked))) for n, f in enumerate(asked)])
                         self.say(f"clauses of {new}: {asked}")
                 sep = "\n" if body.startswith("\n") or body.startswith("    ") else " "
                 if body.startswith("\n"):

@@ -1,4 +1,6 @@
 // A bad row to show: the two leaves that rule 14 names, the digit that they give, and a string of input digits that gives it in every row.
+#![tactic(auto)]
+
 ghost use Rattle.std.specs.Prelude.{◌≡◌, ◌<◌, ◌≤◌, length};
 ghost use Rattle.lists.specs.Overwrite.{overwrite};
 ghost use Rattle.faults.specs.Outcome.{facts};

@@ -1,4 +1,4 @@
--- TERN and BIN are mirrored: negating every digit of a word negates the weight (mirrored-result of adder_rules says what follows). By computation.
+-- TERN and BIN are mirrored: negating every digit of a word negates the weight (mirrored_result of adder_rules says what follows). By computation.
 use mathlib.Core.Path.{refl}
 use Rattle.lists.specs.Scan.{first_failing, every}
 use Rattle.lists.specs.Span.{span}

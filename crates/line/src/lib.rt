@@ -1,4 +1,6 @@
 // The line of the program `check`: the check's answer as text.
+#![tactic(auto)]
+
 ghost use Rattle.std.specs.Prelude.{◌≡◌, length, ◌≤◌, ◌<◌};
 ghost use Rattle.lists.specs.Overwrite.{overwrite};
 ghost use Rattle.table_rules.specs.Check.{check_outcome};

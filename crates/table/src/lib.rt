@@ -1,4 +1,6 @@
 // The check of a table.
+#![tactic(auto)]
+
 ghost use Rattle.std.specs.Prelude.{◌≡◌, ◌≤◌};
 ghost use Rattle.leaf_rules.specs.Leaf.{leaf_count};
 ghost use Rattle.numeration.specs.PairCount.{pair_count};

@@ -1,4 +1,6 @@
 // The lines of the program `why`: the rule that a table breaks, and what stands at its place; of rule 14 the two leaves and their digit.
+#![tactic(auto)]
+
 ghost use Rattle.std.specs.Prelude.{◌≡◌, ◌+◌, ◌≤◌, ◌^◌, length};
 ghost use Rattle.lists.specs.Overwrite.{overwrite};
 ghost use Rattle.layout_rules.specs.Section.{of_degree};

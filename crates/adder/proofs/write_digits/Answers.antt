@@ -47,31 +47,6 @@ returns-then-found-places c =
     let is = digits_refused a.operation a.table.now a.first.now a.second.now row (held).1 a.places s.requires.places d.result.count d.ensures.count c.if-found-places.true in
     record { outcome = is; out = exit_lent (digits_outcome a.operation a.table.now a.first.now a.second.now) author 27 d.result.count a.out.now (overwrite a.out.now 0 (result_row a.operation a.table.now a.first.now a.second.now)) is }
 
-pub slice_bounds-digits-end : goal.slice_bounds-digits-end
-slice_bounds-digits-end c =
-    let held : (let a = c.args in Inputs (input_count a.table.now) c.inputs_of-row.result × ((k : ℕ) → get_or c.inputs_of-row.result k 0 ≡ get_or (input_row a.operation a.table.now a.first.now a.second.now) k 0)) = let s = c in let a = s.args in row_held a.operation a.table.now a.first.now a.second.now (length a.out.now) s.requires.table s.requires.asked s.requires.rows c.no_change.result c.inputs_of-row.result c.no_change.ensures c.inputs_of-row.ensures in
-    let room : place_count c.args.table.now c.args.first.now ≤ 264 = few_places c.args.table.now c.args.first.now c.args.second.now (length c.args.out.now) c.requires.table c.requires.rows in
-    let long : length c.digits_of-found.new.1.1.1.1.0 ≡ 264 = let s = c in let a = s.args in let row = c.inputs_of-row.result in let d = c.digits_of-found in ap length d.ensures.digits ∙ digits_room a.operation a.table.now a.first.now a.second.now row (held).1 a.places s.requires.places d.result.count d.ensures.count (replicate 264 0) (omega (arith, length-replicate {A = ℕ} 264 0, s.requires.places, room)) ∙ length-replicate {A = ℕ} 264 0 in
-    let s = c in
-    omega (arith, long, s.requires.places, room)
-
-pub slice_bounds-put-end : goal.slice_bounds-put-end
-slice_bounds-put-end c =
-    let held : (let a = c.args in Inputs (input_count a.table.now) c.inputs_of-row.result × ((k : ℕ) → get_or c.inputs_of-row.result k 0 ≡ get_or (input_row a.operation a.table.now a.first.now a.second.now) k 0)) = let s = c in let a = s.args in row_held a.operation a.table.now a.first.now a.second.now (length a.out.now) s.requires.table s.requires.asked s.requires.rows c.no_change.result c.inputs_of-row.result c.no_change.ensures c.inputs_of-row.ensures in
-    let room : place_count c.args.table.now c.args.first.now ≤ 264 = few_places c.args.table.now c.args.first.now c.args.second.now (length c.args.out.now) c.requires.table c.requires.rows in
-    let long : length c.digits_of-found.new.1.1.1.1.0 ≡ 264 = let s = c in let a = s.args in let row = c.inputs_of-row.result in let d = c.digits_of-found in ap length d.ensures.digits ∙ digits_room a.operation a.table.now a.first.now a.second.now row (held).1 a.places s.requires.places d.result.count d.ensures.count (replicate 264 0) (omega (arith, length-replicate {A = ℕ} 264 0, s.requires.places, room)) ∙ length-replicate {A = ℕ} 264 0 in
-    let s = c in
-    sym (length-take-le s.args.places c.digits_of-found.new.1.1.1.1.0 (omega (arith, long, s.requires.places, room)))
-
-pub put-requires : goal.put-requires
-put-requires c =
-    let held : (let a = c.args in Inputs (input_count a.table.now) c.inputs_of-row.result × ((k : ℕ) → get_or c.inputs_of-row.result k 0 ≡ get_or (input_row a.operation a.table.now a.first.now a.second.now) k 0)) = let s = c in let a = s.args in row_held a.operation a.table.now a.first.now a.second.now (length a.out.now) s.requires.table s.requires.asked s.requires.rows c.no_change.result c.inputs_of-row.result c.no_change.ensures c.inputs_of-row.ensures in
-    let room : place_count c.args.table.now c.args.first.now ≤ 264 = few_places c.args.table.now c.args.first.now c.args.second.now (length c.args.out.now) c.requires.table c.requires.rows in
-    let long : length c.digits_of-found.new.1.1.1.1.0 ≡ 264 = let s = c in let a = s.args in let row = c.inputs_of-row.result in let d = c.digits_of-found in ap length d.ensures.digits ∙ digits_room a.operation a.table.now a.first.now a.second.now row (held).1 a.places s.requires.places d.result.count d.ensures.count (replicate 264 0) (omega (arith, length-replicate {A = ℕ} 264 0, s.requires.places, room)) ∙ length-replicate {A = ℕ} 264 0 in
-    let s = c in
-    let taken = length-take-le s.args.places c.digits_of-found.new.1.1.1.1.0 (omega (arith, long, s.requires.places, room)) in
-    omega (arith, taken, s.requires.places, s.requires.rows.room)
-
 pub returns : goal.returns
 returns c =
     let held : (let a = c.args in Inputs (input_count a.table.now) c.inputs_of-row.result × ((k : ℕ) → get_or c.inputs_of-row.result k 0 ≡ get_or (input_row a.operation a.table.now a.first.now a.second.now) k 0)) = let s = c in let a = s.args in row_held a.operation a.table.now a.first.now a.second.now (length a.out.now) s.requires.table s.requires.asked s.requires.rows c.no_change.result c.inputs_of-row.result c.no_change.ensures c.inputs_of-row.ensures in
@@ -87,3 +62,19 @@ returns c =
     let outcome = digits_outcome a.operation a.table.now a.first.now a.second.now in
     let written = overwrite a.out.now 0 (result_row a.operation a.table.now a.first.now a.second.now) in
     record { outcome = is; out = c.put.ensures.written ∙ ap (overwrite a.out.now 0) bytes ∙ exit_written outcome (record { places = a.places; reach = d.result.reach }) a.out.now written is }
+
+pub slice_bounds-digits-end : goal.slice_bounds-digits-end
+slice_bounds-digits-end c =
+    let held : (let a = c.args in Inputs (input_count a.table.now) c.inputs_of-row.result × ((k : ℕ) → get_or c.inputs_of-row.result k 0 ≡ get_or (input_row a.operation a.table.now a.first.now a.second.now) k 0)) = let s = c in let a = s.args in row_held a.operation a.table.now a.first.now a.second.now (length a.out.now) s.requires.table s.requires.asked s.requires.rows c.no_change.result c.inputs_of-row.result c.no_change.ensures c.inputs_of-row.ensures in
+    let room : place_count c.args.table.now c.args.first.now ≤ 264 = few_places c.args.table.now c.args.first.now c.args.second.now (length c.args.out.now) c.requires.table c.requires.rows in
+    let long : length c.digits_of-found.new.out ≡ 264 = let s = c in let a = s.args in let row = c.inputs_of-row.result in let d = c.digits_of-found in ap length d.ensures.digits ∙ digits_room a.operation a.table.now a.first.now a.second.now row (held).1 a.places s.requires.places d.result.count d.ensures.count (replicate 264 0) (omega (arith, length-replicate {A = ℕ} 264 0, s.requires.places, room)) ∙ length-replicate {A = ℕ} 264 0 in
+    let s = c in
+    omega (arith, long, s.requires.places, room)
+
+pub slice_bounds-put-end : goal.slice_bounds-put-end
+slice_bounds-put-end c =
+    let held : (let a = c.args in Inputs (input_count a.table.now) c.inputs_of-row.result × ((k : ℕ) → get_or c.inputs_of-row.result k 0 ≡ get_or (input_row a.operation a.table.now a.first.now a.second.now) k 0)) = let s = c in let a = s.args in row_held a.operation a.table.now a.first.now a.second.now (length a.out.now) s.requires.table s.requires.asked s.requires.rows c.no_change.result c.inputs_of-row.result c.no_change.ensures c.inputs_of-row.ensures in
+    let room : place_count c.args.table.now c.args.first.now ≤ 264 = few_places c.args.table.now c.args.first.now c.args.second.now (length c.args.out.now) c.requires.table c.requires.rows in
+    let long : length c.digits_of-found.new.out ≡ 264 = let s = c in let a = s.args in let row = c.inputs_of-row.result in let d = c.digits_of-found in ap length d.ensures.digits ∙ digits_room a.operation a.table.now a.first.now a.second.now row (held).1 a.places s.requires.places d.result.count d.ensures.count (replicate 264 0) (omega (arith, length-replicate {A = ℕ} 264 0, s.requires.places, room)) ∙ length-replicate {A = ℕ} 264 0 in
+    let s = c in
+    sym (length-take-le s.args.places c.digits_of-found.new.out (omega (arith, long, s.requires.places, room)))

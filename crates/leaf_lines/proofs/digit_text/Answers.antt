@@ -23,3 +23,9 @@ returns-clause-count c = rw (digit_past (of_degree c.args.degree c.args.inputs.n
 
 pub returns-clause-buffer : goal.returns-clause-buffer
 returns-clause-buffer c = rw (digit_past (of_degree c.args.degree c.args.inputs.now) c.args.word.now c.args.i c.if-i-word.false c.if-i-eq0.false) (sym (overwrite_none c.args.out.now 0))
+
+pub returns-then-i-eq0 : goal.returns-then-i-eq0
+unfolding bytes_of
+returns-then-i-eq0 c =
+    let a = c.args in
+    rw (digit_unread (of_degree a.degree a.inputs.now) a.word.now a.i c.if-i-word.false c.if-i-eq0.true) (record { count = omega (arith, c.put.ensures.next); buffer = c.put.ensures.written })

@@ -19,3 +19,9 @@ returns-clause-count c = rw (input_missing (of_degree c.args.degree c.args.input
 pub returns-clause-buffer : goal.returns-clause-buffer
 unfolding bytes_of
 returns-clause-buffer c = rw (input_missing (of_degree c.args.degree c.args.inputs.now) c.args.k (omega arith)) (c.put.ensures.written)
+
+pub returns-then-k-record_count : goal.returns-then-k-record_count
+returns-then-k-record_count c =
+    let put = c.put_element.ensures in
+    let element = c.record_at.ensures.element in
+    rw (input_there (of_degree c.args.degree c.args.inputs.now) c.args.k (omega arith)) (record { count = omega (arith, rw element at put.end); buffer = rw element at put.buffer })

@@ -24,3 +24,8 @@ pub put_right-requires : goal.put_right-requires
 put_right-requires c =
     let made = c.put_element-end in
     rw (put_taken _ _ (element_text c.args.x) made.result (omega (arith, made.ensures.end)) made.ensures.buffer) c.requires.room
+
+pub returns : goal.returns
+returns c =
+    let made = c.put_element-end in
+    record { end = rw (put_taken _ _ (element_text c.args.x) made.result (omega (arith, made.ensures.end)) made.ensures.buffer) at c.put_right.ensures.end; buffer = rw (put_taken _ _ (element_text c.args.x) made.result (omega (arith, made.ensures.end)) made.ensures.buffer) at c.put_right.ensures.buffer }

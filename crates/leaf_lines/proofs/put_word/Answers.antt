@@ -34,7 +34,7 @@ pub shape_of-out : goal.shape_of-out
 shape_of-out c = c.loop-i.invariant.2
 
 pub returns-clause-end : goal.returns-clause-end
-returns-clause-end c = let all : c.loop-i.i ≡ c.args.columns = omega arith in rw all at c.loop-i.invariant.1.0
+returns-clause-end c = let all : c.loop-i.i ≡ c.args.columns = omega arith in rw all at (c.loop-i.invariant.1).0
 
 pub returns-clause-buffer : goal.returns-clause-buffer
-returns-clause-buffer c = let all : c.loop-i.i ≡ c.args.columns = omega arith in rw all at c.loop-i.invariant.1.1
+returns-clause-buffer c = let all : c.loop-i.i ≡ c.args.columns = omega arith in rw all at (c.loop-i.invariant.1).1

@@ -10,10 +10,19 @@ use Prim.Native.Nat.{◌-◌, ◌≤◌, max}
 use mathlib.Core.Logic.{⊎_elim}
 use mathlib.Core.Path.{◌≡◌, refl, ap}
 use Rattle.listing.proofs.columns.Goals as goal
+use Rattle.listing.proofs.columns.Goals.{then-most-length, else-most-length}
 
 pub loop-leaf-init : goal.loop-leaf-init
 unfolding largest
 loop-leaf-init c = (omega arith, refl, omega arith)
+
+pub loop-leaf-preserved : goal.loop-leaf-preserved
+loop-leaf-preserved c =
+    let a = c.args in
+    let next = largest_next (λ k. length (word_shown (of_degree a.degree a.leaves.now) a.words.now k)) c.loop-leaf.leaf in
+    let here = ap length c.word_shown-length.ensures.word in
+    let short = c.word_shown-length.ensures.within in
+    (omega arith, elim c.if-most-length.branch [ then-most-length w ↦ omega (arith, next, here) | else-most-length w ↦ omega (arith, next, here) ], elim c.if-most-length.branch [ then-most-length w ↦ omega (arith, short) | else-most-length w ↦ omega arith ])
 
 pub returns : goal.returns
 unfolding columns_for

@@ -21,3 +21,13 @@ pub returns-clause-count : goal.returns-clause-count
 unfolding bytes_of item_text
 returns-clause-count c =
     let all = put_more c.args.out.now _ _ (bytes_of " ") _ 0 _ _ (c.put-at.ensures.next, c.put-at.ensures.written) (c.put_element.ensures.end, c.put_element.ensures.buffer) (omega arith) in (put_line c.args.out.now _ _ _ _ 32 all (ap (λ x. bytes_of " " ++ element_text x) c.record_at.ensures.element) (omega (arith, element_short _ c.record_at.ensures.within))).0
+
+pub returns-clause-buffer : goal.returns-clause-buffer
+unfolding bytes_of item_text
+returns-clause-buffer c =
+    let all = put_more c.args.out.now _ _ (bytes_of " ") _ 0 _ _ (c.put-at.ensures.next, c.put-at.ensures.written) (c.put_element.ensures.end, c.put_element.ensures.buffer) (omega arith) in (put_line c.args.out.now _ _ _ _ 32 all (ap (λ x. bytes_of " " ++ element_text x) c.record_at.ensures.element) (omega (arith, element_short _ c.record_at.ensures.within))).1.0
+
+pub returns-clause-within : goal.returns-clause-within
+unfolding bytes_of item_text
+returns-clause-within c =
+    let all = put_more c.args.out.now _ _ (bytes_of " ") _ 0 _ _ (c.put-at.ensures.next, c.put-at.ensures.written) (c.put_element.ensures.end, c.put_element.ensures.buffer) (omega arith) in (put_line c.args.out.now _ _ _ _ 32 all (ap (λ x. bytes_of " " ++ element_text x) c.record_at.ensures.element) (omega (arith, element_short _ c.record_at.ensures.within))).1.1

@@ -118,3 +118,57 @@ returns-clause-count c =
     let all = put_all pieces (omega (arith, one, small, large, front, middle, back, c.requires.1)) in
     let beta = ap element_text (c.record_at-2.ensures.element ∙ beta_record (base)) ∙ element_padded (beta_of (base)) in
     let text = ap (λ (k : ℕ). line k first second) c.part_count.ensures.count ∙ ap₂ (line (part_count (base).degree)) (power-text) beta in (put_line out _ _ _ _ 80 all text (omega (arith, one, small, large, front, middle, back))).0
+
+pub returns-clause-buffer : goal.returns-clause-buffer
+unfolding bytes_of ring_line
+returns-clause-buffer c =
+    let base : Section = of_degree c.args.degree c.args.base.now in
+    let power : List ℤ = c.turned-omega.result in
+    let power-is : power ≡ padded (omega_of base) = c.turned-omega.ensures ∙ ap (λ x. padded (span (λ k. part x (part_count base.degree - 1 - k)) 0 (part_count base.degree))) c.record_at.ensures.element ∙ sym (omega_turned base) in
+    let power-text : element_text power ≡ element_text (omega_of base) = ap element_text power-is ∙ element_padded (omega_of base) in
+    let power_small : Within 32768 power = rw c.turned-omega.ensures (within_padded 32768 _ (within_span 32768 _ 0 (part_count base.degree) (λ k l. within_part 32768 c.record_at.result c.record_at.ensures.within (part_count base.degree - 1 - (0 + k))))) in
+    let power-short : length (element_text power) ≤ 31 = element_short power power_small in
+    let d = c in
+    let out = c.args.out.now in
+    let n = c.part_count.result in
+    let y = c.record_at-2.result in
+    let one = count_short n c.part_count.ensures.within in
+    let small = power-short in
+    let large = element_short y c.record_at-2.ensures.within in
+    let first = element_text (power) in
+    let second = element_text y in
+    let front = length-append (decimal n) (bytes_of " = " ++ (first ++ (bytes_of ", base " ++ (second ++ bytes_of "\n")))) in
+    let middle = length-append first (bytes_of ", base " ++ (second ++ bytes_of "\n")) in
+    let back = length-append second (bytes_of "\n") in
+    let tail = next _ _ _ (bytes_of ", base ") _ _ _ _ (c.put-number.ensures.next, c.put-number.ensures.written) (next _ _ _ second (bytes_of "\n") _ _ _ (c.put_element-end.ensures.end, c.put_element-end.ensures.buffer) (last _ _ _ _ _ (c.put.ensures.next, c.put.ensures.written))) in
+    let pieces = next out _ _ (bytes_of "omega^" ++ decimal n) _ 0 _ _ (c.put_item-equals.ensures.end, c.put_item-equals.ensures.buffer) (next _ _ _ (bytes_of " = ") _ _ _ _ (c.put-ring.ensures.next, c.put-ring.ensures.written) (next _ _ _ first _ _ _ _ (c.put_element-comma.ensures.end, c.put_element-comma.ensures.buffer) tail)) in
+    let all = put_all pieces (omega (arith, one, small, large, front, middle, back, c.requires.1)) in
+    let beta = ap element_text (c.record_at-2.ensures.element ∙ beta_record (base)) ∙ element_padded (beta_of (base)) in
+    let text = ap (λ (k : ℕ). line k first second) c.part_count.ensures.count ∙ ap₂ (line (part_count (base).degree)) (power-text) beta in (put_line out _ _ _ _ 80 all text (omega (arith, one, small, large, front, middle, back))).1.0
+
+pub returns-clause-within : goal.returns-clause-within
+unfolding bytes_of ring_line
+returns-clause-within c =
+    let base : Section = of_degree c.args.degree c.args.base.now in
+    let power : List ℤ = c.turned-omega.result in
+    let power-is : power ≡ padded (omega_of base) = c.turned-omega.ensures ∙ ap (λ x. padded (span (λ k. part x (part_count base.degree - 1 - k)) 0 (part_count base.degree))) c.record_at.ensures.element ∙ sym (omega_turned base) in
+    let power-text : element_text power ≡ element_text (omega_of base) = ap element_text power-is ∙ element_padded (omega_of base) in
+    let power_small : Within 32768 power = rw c.turned-omega.ensures (within_padded 32768 _ (within_span 32768 _ 0 (part_count base.degree) (λ k l. within_part 32768 c.record_at.result c.record_at.ensures.within (part_count base.degree - 1 - (0 + k))))) in
+    let power-short : length (element_text power) ≤ 31 = element_short power power_small in
+    let d = c in
+    let out = c.args.out.now in
+    let n = c.part_count.result in
+    let y = c.record_at-2.result in
+    let one = count_short n c.part_count.ensures.within in
+    let small = power-short in
+    let large = element_short y c.record_at-2.ensures.within in
+    let first = element_text (power) in
+    let second = element_text y in
+    let front = length-append (decimal n) (bytes_of " = " ++ (first ++ (bytes_of ", base " ++ (second ++ bytes_of "\n")))) in
+    let middle = length-append first (bytes_of ", base " ++ (second ++ bytes_of "\n")) in
+    let back = length-append second (bytes_of "\n") in
+    let tail = next _ _ _ (bytes_of ", base ") _ _ _ _ (c.put-number.ensures.next, c.put-number.ensures.written) (next _ _ _ second (bytes_of "\n") _ _ _ (c.put_element-end.ensures.end, c.put_element-end.ensures.buffer) (last _ _ _ _ _ (c.put.ensures.next, c.put.ensures.written))) in
+    let pieces = next out _ _ (bytes_of "omega^" ++ decimal n) _ 0 _ _ (c.put_item-equals.ensures.end, c.put_item-equals.ensures.buffer) (next _ _ _ (bytes_of " = ") _ _ _ _ (c.put-ring.ensures.next, c.put-ring.ensures.written) (next _ _ _ first _ _ _ _ (c.put_element-comma.ensures.end, c.put_element-comma.ensures.buffer) tail)) in
+    let all = put_all pieces (omega (arith, one, small, large, front, middle, back, c.requires.1)) in
+    let beta = ap element_text (c.record_at-2.ensures.element ∙ beta_record (base)) ∙ element_padded (beta_of (base)) in
+    let text = ap (λ (k : ℕ). line k first second) c.part_count.ensures.count ∙ ap₂ (line (part_count (base).degree)) (power-text) beta in (put_line out _ _ _ _ 80 all text (omega (arith, one, small, large, front, middle, back))).1.1

@@ -222,3 +222,73 @@ returns-clause-count c =
     let tail = next _ _ _ (bytes_of ", N = ") _ _ _ _ (c.put-norm.ensures.next, c.put-norm.ensures.written) (next _ _ _ N word _ _ _ (rw (norm-cast _ c.base_norm.ensures) at c.put_signed-end.ensures.end, rw (norm-cast _ c.base_norm.ensures) at c.put_signed-end.ensures.buffer) (last _ _ _ _ _ (rw (expanding-is _ c.is_expanding.ensures) at c.put_expanding.ensures.end, rw (expanding-is _ c.is_expanding.ensures) at c.put_expanding.ensures.buffer))) in
     let pieces = next out _ _ (bytes_of "T = ") _ 0 _ _ (c.put-trace.ensures.next, c.put-trace.ensures.written) (next _ _ _ T _ _ _ _ (rw (trace-cast _ c.base_trace.ensures) at c.put_signed-comma.ensures.end, rw (trace-cast _ c.base_trace.ensures) at c.put_signed-comma.ensures.buffer) tail) in
     let all = put_all pieces (omega (arith, tall, long, end, front, back, room)) in (put_line out _ _ _ _ 64 all refl (omega (arith, tall, long, end, front, back))).0
+
+pub returns-clause-buffer : goal.returns-clause-buffer
+unfolding bytes_of norm_line norm_line_of element_at parts_at padded span
+returns-clause-buffer c =
+    let base : Section = of_degree Two c.args.base.now in
+    let trace : ℤ = base_trace (sOf (base)) (uOf (base)) (vOf (base)) in
+    let norm : ℤ = base_norm (sOf (base)) (tOf (base)) (uOf (base)) (vOf (base)) in
+    let expands : Bool = expanding (sOf (base)) (tOf (base)) (uOf (base)) (vOf (base)) in
+    let s : ℤ = held c.signed-s.result in
+    let t : ℤ = held c.signed-t.result in
+    let u : ℤ = held c.signed-u.result in
+    let v : ℤ = held c.signed-v.result in
+    let small : BaseLimits (sOf (base)) (tOf (base)) (uOf (base)) (vOf (base)) = base_limits (base).bytes c.requires.0 in
+    let trace-small : nat_abs (trace) ≤ 528384 = omega (arith, trace_size (sOf (base)) (uOf (base)) (vOf (base)) small.of_s small.of_u small.of_v) in
+    let trace-short : length (decimal_z (trace)) ≤ 7 = whole_short 5 (trace) (omega (arith, trace-small)) in
+    let norm-short : length (decimal_z (norm)) ≤ 7 = whole_short 5 (norm) (omega (arith, norm_size small)) in
+    let trace-is : (z : ℤ) → (given : z ≡ base_trace (s) (u) (v)) → z ≡ trace = λ z given. rw (passed_on _ _ (c.signed-s.ensures.number, c.signed-s.ensures.within), passed_on _ _ (c.signed-u.ensures.number, c.signed-u.ensures.within), passed_on _ _ (c.signed-v.ensures.number, c.signed-v.ensures.within)) at given in
+    let trace-cast : (z : ℤ) → (given : z ≡ base_trace (s) (u) (v)) → to_z w32 (of_z w32 (held z)) ≡ trace = λ z given. narrow z (trace) (trace-is z given) trace-small in
+    let norm-is : (z : ℤ) → (given : z ≡ base_norm (s) (t) (u) (v)) → z ≡ norm = λ z given. rw (passed_on _ _ (c.signed-s.ensures.number, c.signed-s.ensures.within), passed_on _ _ (c.signed-t.ensures.number, c.signed-t.ensures.within), passed_on _ _ (c.signed-u.ensures.number, c.signed-u.ensures.within), passed_on _ _ (c.signed-v.ensures.number, c.signed-v.ensures.within)) at given in
+    let norm-cast : (z : ℤ) → (given : z ≡ base_norm (s) (t) (u) (v)) → to_z w32 (of_z w32 (held z)) ≡ norm = λ z given. narrow z (norm) (norm-is z given) (norm_size small) in
+    let expanding-is : (b : Bool) → b ≡ expanding (s) (t) (u) (v) → b ≡ expands = λ b given. rw (passed_on _ _ (c.signed-s.ensures.number, c.signed-s.ensures.within), passed_on _ _ (c.signed-t.ensures.number, c.signed-t.ensures.within), passed_on _ _ (c.signed-u.ensures.number, c.signed-u.ensures.within), passed_on _ _ (c.signed-v.ensures.number, c.signed-v.ensures.within)) at given in
+    let d = c in
+    let out = c.args.out.now in
+    let room = c.requires.1 in
+    let T = decimal_z (trace) in
+    let N = decimal_z (norm) in
+    let word = expanding_word (expands) in
+    let front = length-append T (bytes_of ", N = " ++ (N ++ word)) in
+    let back = length-append N word in
+    let tall = trace-short in
+    let long = norm-short in
+    let end = expanding_short (expands) in
+    let tail = next _ _ _ (bytes_of ", N = ") _ _ _ _ (c.put-norm.ensures.next, c.put-norm.ensures.written) (next _ _ _ N word _ _ _ (rw (norm-cast _ c.base_norm.ensures) at c.put_signed-end.ensures.end, rw (norm-cast _ c.base_norm.ensures) at c.put_signed-end.ensures.buffer) (last _ _ _ _ _ (rw (expanding-is _ c.is_expanding.ensures) at c.put_expanding.ensures.end, rw (expanding-is _ c.is_expanding.ensures) at c.put_expanding.ensures.buffer))) in
+    let pieces = next out _ _ (bytes_of "T = ") _ 0 _ _ (c.put-trace.ensures.next, c.put-trace.ensures.written) (next _ _ _ T _ _ _ _ (rw (trace-cast _ c.base_trace.ensures) at c.put_signed-comma.ensures.end, rw (trace-cast _ c.base_trace.ensures) at c.put_signed-comma.ensures.buffer) tail) in
+    let all = put_all pieces (omega (arith, tall, long, end, front, back, room)) in (put_line out _ _ _ _ 64 all refl (omega (arith, tall, long, end, front, back))).1.0
+
+pub returns-clause-within : goal.returns-clause-within
+unfolding bytes_of norm_line norm_line_of element_at parts_at padded span
+returns-clause-within c =
+    let base : Section = of_degree Two c.args.base.now in
+    let trace : ℤ = base_trace (sOf (base)) (uOf (base)) (vOf (base)) in
+    let norm : ℤ = base_norm (sOf (base)) (tOf (base)) (uOf (base)) (vOf (base)) in
+    let expands : Bool = expanding (sOf (base)) (tOf (base)) (uOf (base)) (vOf (base)) in
+    let s : ℤ = held c.signed-s.result in
+    let t : ℤ = held c.signed-t.result in
+    let u : ℤ = held c.signed-u.result in
+    let v : ℤ = held c.signed-v.result in
+    let small : BaseLimits (sOf (base)) (tOf (base)) (uOf (base)) (vOf (base)) = base_limits (base).bytes c.requires.0 in
+    let trace-small : nat_abs (trace) ≤ 528384 = omega (arith, trace_size (sOf (base)) (uOf (base)) (vOf (base)) small.of_s small.of_u small.of_v) in
+    let trace-short : length (decimal_z (trace)) ≤ 7 = whole_short 5 (trace) (omega (arith, trace-small)) in
+    let norm-short : length (decimal_z (norm)) ≤ 7 = whole_short 5 (norm) (omega (arith, norm_size small)) in
+    let trace-is : (z : ℤ) → (given : z ≡ base_trace (s) (u) (v)) → z ≡ trace = λ z given. rw (passed_on _ _ (c.signed-s.ensures.number, c.signed-s.ensures.within), passed_on _ _ (c.signed-u.ensures.number, c.signed-u.ensures.within), passed_on _ _ (c.signed-v.ensures.number, c.signed-v.ensures.within)) at given in
+    let trace-cast : (z : ℤ) → (given : z ≡ base_trace (s) (u) (v)) → to_z w32 (of_z w32 (held z)) ≡ trace = λ z given. narrow z (trace) (trace-is z given) trace-small in
+    let norm-is : (z : ℤ) → (given : z ≡ base_norm (s) (t) (u) (v)) → z ≡ norm = λ z given. rw (passed_on _ _ (c.signed-s.ensures.number, c.signed-s.ensures.within), passed_on _ _ (c.signed-t.ensures.number, c.signed-t.ensures.within), passed_on _ _ (c.signed-u.ensures.number, c.signed-u.ensures.within), passed_on _ _ (c.signed-v.ensures.number, c.signed-v.ensures.within)) at given in
+    let norm-cast : (z : ℤ) → (given : z ≡ base_norm (s) (t) (u) (v)) → to_z w32 (of_z w32 (held z)) ≡ norm = λ z given. narrow z (norm) (norm-is z given) (norm_size small) in
+    let expanding-is : (b : Bool) → b ≡ expanding (s) (t) (u) (v) → b ≡ expands = λ b given. rw (passed_on _ _ (c.signed-s.ensures.number, c.signed-s.ensures.within), passed_on _ _ (c.signed-t.ensures.number, c.signed-t.ensures.within), passed_on _ _ (c.signed-u.ensures.number, c.signed-u.ensures.within), passed_on _ _ (c.signed-v.ensures.number, c.signed-v.ensures.within)) at given in
+    let d = c in
+    let out = c.args.out.now in
+    let room = c.requires.1 in
+    let T = decimal_z (trace) in
+    let N = decimal_z (norm) in
+    let word = expanding_word (expands) in
+    let front = length-append T (bytes_of ", N = " ++ (N ++ word)) in
+    let back = length-append N word in
+    let tall = trace-short in
+    let long = norm-short in
+    let end = expanding_short (expands) in
+    let tail = next _ _ _ (bytes_of ", N = ") _ _ _ _ (c.put-norm.ensures.next, c.put-norm.ensures.written) (next _ _ _ N word _ _ _ (rw (norm-cast _ c.base_norm.ensures) at c.put_signed-end.ensures.end, rw (norm-cast _ c.base_norm.ensures) at c.put_signed-end.ensures.buffer) (last _ _ _ _ _ (rw (expanding-is _ c.is_expanding.ensures) at c.put_expanding.ensures.end, rw (expanding-is _ c.is_expanding.ensures) at c.put_expanding.ensures.buffer))) in
+    let pieces = next out _ _ (bytes_of "T = ") _ 0 _ _ (c.put-trace.ensures.next, c.put-trace.ensures.written) (next _ _ _ T _ _ _ _ (rw (trace-cast _ c.base_trace.ensures) at c.put_signed-comma.ensures.end, rw (trace-cast _ c.base_trace.ensures) at c.put_signed-comma.ensures.buffer) tail) in
+    let all = put_all pieces (omega (arith, tall, long, end, front, back, room)) in (put_line out _ _ _ _ 64 all refl (omega (arith, tall, long, end, front, back))).1.1

@@ -16,6 +16,7 @@ use Rattle.layout_rules.proofs.Limit.{element_held}
 use Rattle.layout_rules.proofs.Length.{sized}
 use Rattle.digit_rules.specs.Record.{element_at}
 use Rattle.listing.proofs.width.Goals as goal
+use Rattle.listing.proofs.width.Goals.{then-longest-length, else-longest-length}
 
 pub overflow_sub-skip : goal.overflow_sub-skip
 overflow_sub-skip c = omega (arith, element_held c.args.degree c.args.section c.requires, c.size_of_record-size.ensures, c.element_size.ensures)
@@ -53,6 +54,15 @@ text_length-length-requires c = c.element.ensures.within
 
 pub overflow_add-k-in-loop-k : goal.overflow_add-k-in-loop-k
 overflow_add-k-in-loop-k c = omega (arith, div-le_self (length c.args.part.now) c.size_of_record-size.result)
+
+pub loop-k-preserved : goal.loop-k-preserved
+loop-k-preserved c =
+    let size : ℕ = c.size_of_record-size.result in
+    let here : c.loop-k.k * size + (size - c.element_size.result) ≡ element_start c.args.degree c.args.section c.loop-k.k = ap₂ (λ (n e : ℕ). c.loop-k.k * n + (n - e)) c.size_of_record-size.ensures c.element_size.ensures in
+    let next = largest_next (λ i. length (element_text (element_at (of_degree c.args.degree c.args.part.now) (element_start c.args.degree c.args.section i)))) c.loop-k.k in
+    let read = c.element.ensures.element ∙ ap (element_at (of_degree c.args.degree c.args.part.now)) (here) in
+    let length-is = c.text_length-length.ensures.count ∙ ap (λ x. length (element_text x)) read in
+    (omega arith, elim c.if-longest-length.branch [ then-longest-length w ↦ omega (arith, next, length-is) | else-longest-length w ↦ omega (arith, next, length-is) ], elim c.if-longest-length.branch [ then-longest-length w ↦ omega (arith, c.text_length-length.ensures.within) | else-longest-length w ↦ omega arith ])
 
 pub returns : goal.returns
 unfolding widest

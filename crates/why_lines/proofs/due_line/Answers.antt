@@ -1,0 +1,22 @@
+-- Two numbers and the word behind them.
+use Rattle.why_rules.specs.Why.{numbered, due_line}
+use Rattle.text_rules.specs.Bytes.{bytes_of}
+use Rattle.lists.proofs.Pieces.{last, next, put_all, put_line}
+use lib.ListN.{length-append}
+use mathlib.Core.Path.{refl}
+use native.Mathlib.Omega.{arith}
+use borrow.Author.Rules.{rules}
+use Rattle.why_lines.proofs.due_line.Goals as goal
+
+pub put-requires : goal.put-requires
+unfolding bytes_of
+put-requires c = omega (arith, c.requires.0, c.requires.1, c.put_numbers-end.ensures.within)
+
+pub returns : goal.returns
+unfolding bytes_of due_line
+returns c =
+    let a = c.args in
+    let front = numbered (bytes_of "  the offset has to be ") a.start a.name.now a.size in
+    let total = length-append front (bytes_of " bytes\n") in
+    let all = put_all (next a.out.now _ _ front (bytes_of " bytes\n") 0 _ _ ((c.put_numbers-end.ensures.end, c.put_numbers-end.ensures.buffer, c.put_numbers-end.ensures.within).0, (c.put_numbers-end.ensures.end, c.put_numbers-end.ensures.buffer, c.put_numbers-end.ensures.within).1.0) (last _ _ _ _ _ (c.put.ensures.next, c.put.ensures.written))) (omega (arith, c.requires.0, c.requires.1, (c.put_numbers-end.ensures.end, c.put_numbers-end.ensures.buffer, c.put_numbers-end.ensures.within).0, (c.put_numbers-end.ensures.end, c.put_numbers-end.ensures.buffer, c.put_numbers-end.ensures.within).1.1, total)) in
+    put_line a.out.now _ _ _ _ 240 all refl (omega (arith, c.requires.0, (c.put_numbers-end.ensures.end, c.put_numbers-end.ensures.buffer, c.put_numbers-end.ensures.within).0, (c.put_numbers-end.ensures.end, c.put_numbers-end.ensures.buffer, c.put_numbers-end.ensures.within).1.1, total))
