@@ -114,6 +114,11 @@ def nested(n, of):
     return ".1" * n + (".0" if n < of - 1 else "")
 
 
+def pair_of(parts):
+    """Pairs of pairs."""
+    return f"({parts[0]}, {parts[1] if len(parts) == 2 else pair_of(parts[1:])})"
+
+
 def balanced(s, i):
     """The place behind the bracket that closes the one at place i."""
     depth = 0
@@ -292,8 +297,8 @@ class Turner:
             rest = self.fields(at, sp, tail)
             if rest and rest[-1].startswith("\0"):
                 e = root + ".ensures"
-                parts = ", ".join(f"{e}.{f}" for f in rest[-1][1:].split(","))
-                return parts if in_list(m.string, m.start()) else f"({parts})"
+                parts = [f"{e}.{f}" for f in rest[-1][1:].split(",")]
+                return ", ".join(parts) if in_list(m.string, m.start()) else pair_of(parts)
             return ".".join([root] + rest)
         if root not in roots and root in getattr(self, "place_alias", {}) and (tail or root not in self.helpers):
             roots = dict(roots)
@@ -325,7 +330,7 @@ class Turner:
                 elif len(pre) == 1 and rest[1:2] != pre:
                     rest = ["requires", pre[0]] + rest[1:]
                 elif len(rest) == 1 and len(pre) > 1:
-                    return "(" + ", ".join(f"{out}.requires.{f}" for f in pre) + ")"
+                    return pair_of([f"{out}.requires.{f}" for f in pre])
             return ".".join([out] + rest)
         new, sp = self.fn.step(place, rest[0])
         if new is None:
@@ -341,7 +346,7 @@ class Turner:
             e = ".".join([out, new, "ensures"])
             if in_list(m.string, m.start()):
                 return ", ".join(f"{e}.{f}" for f in rest2[-1][1:].split(","))
-            return "(" + ", ".join(f"{e}.{f}" for f in rest2[-1][1:].split(",")) + ")"
+            return pair_of([f"{e}.{f}" for f in rest2[-1][1:].split(",")])
         return ".".join([out, new] + rest2)
 
     def whole(self, m, root, place, befores, at, need):

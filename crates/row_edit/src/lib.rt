@@ -1,4 +1,6 @@
 // The digit edit on rows that pass 20 to 26.
+#![tactic(auto)]
+
 ghost use Rattle.std.specs.Prelude.{◌≡◌, ℕ, ◌+◌, ◌-◌, ◌≤◌, ◌<◌, length};
 ghost use Rattle.faults.specs.Outcome.{rows};
 ghost use Rattle.reader_rules.specs.TableFacts.{table_facts};

@@ -18,5 +18,6 @@ returns c =
     let a = c.args in
     let front = numbered (bytes_of "  byte ") a.k (bytes_of " of section 4 is ") a.byte in
     let total = length-append front (bytes_of "\n") in
-    let all = put_all (next a.out.now _ _ front (bytes_of "\n") 0 _ _ ((c.put_numbers-end.ensures.end, c.put_numbers-end.ensures.buffer, c.put_numbers-end.ensures.within).0, (c.put_numbers-end.ensures.end, c.put_numbers-end.ensures.buffer, c.put_numbers-end.ensures.within).1.0) (last _ _ _ _ _ (c.put.ensures.next, c.put.ensures.written))) (omega (arith, c.requires, (c.put_numbers-end.ensures.end, c.put_numbers-end.ensures.buffer, c.put_numbers-end.ensures.within).0, (c.put_numbers-end.ensures.end, c.put_numbers-end.ensures.buffer, c.put_numbers-end.ensures.within).1.1, total)) in
-    put_line a.out.now _ _ _ _ 240 all refl (omega (arith, (c.put_numbers-end.ensures.end, c.put_numbers-end.ensures.buffer, c.put_numbers-end.ensures.within).0, (c.put_numbers-end.ensures.end, c.put_numbers-end.ensures.buffer, c.put_numbers-end.ensures.within).1.1, total))
+    let all = put_all (next a.out.now _ _ front (bytes_of "\n") 0 _ _ (c.put_numbers-end.ensures.end, c.put_numbers-end.ensures.buffer) (last _ _ _ _ _ (c.put.ensures.next, c.put.ensures.written))) (omega (arith, c.requires, c.put_numbers-end.ensures.end, c.put_numbers-end.ensures.within, total)) in
+    let made = put_line a.out.now _ _ _ _ 240 all refl (omega (arith, c.put_numbers-end.ensures.end, c.put_numbers-end.ensures.within, total)) in
+    record { count = made.0; buffer = made.1.0; within = made.1.1 }

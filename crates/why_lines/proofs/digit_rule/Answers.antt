@@ -9,53 +9,29 @@ use native.Mathlib.Omega.{arith}
 use borrow.Author.Rules.{rules}
 use Rattle.why_lines.proofs.digit_rule.Goals as goal
 
-pub returns-then-number-eq5-clause-count : goal.returns-then-number-eq5-clause-count
+pub returns-then-number-eq5 : goal.returns-then-number-eq5
 unfolding bytes_of digit_rule
-returns-then-number-eq5-clause-count c = (put_line c.args.out.now _ _ _ _ 240 (c.put.ensures.next, c.put.ensures.written) (sym (ap digit_rule c.if-number-eq5.true)) (omega arith)).0
+returns-then-number-eq5 c =
+    let made = put_line c.args.out.now _ _ _ _ 240 (c.put.ensures.next, c.put.ensures.written) (sym (ap digit_rule c.if-number-eq5.true)) (omega arith) in
+    record { count = made.0; buffer = made.1.0; within = made.1.1 }
 
-pub returns-then-number-eq5-clause-buffer : goal.returns-then-number-eq5-clause-buffer
+pub returns-then-number-eq6 : goal.returns-then-number-eq6
 unfolding bytes_of digit_rule
-returns-then-number-eq5-clause-buffer c = (put_line c.args.out.now _ _ _ _ 240 (c.put.ensures.next, c.put.ensures.written) (sym (ap digit_rule c.if-number-eq5.true)) (omega arith)).1.0
+returns-then-number-eq6 c =
+    let made = put_line c.args.out.now _ _ _ _ 240 (c.put-then-number-eq6.ensures.next, c.put-then-number-eq6.ensures.written) (sym (ap digit_rule c.if-number-eq6.true)) (omega arith) in
+    record { count = made.0; buffer = made.1.0; within = made.1.1 }
 
-pub returns-then-number-eq5-clause-within : goal.returns-then-number-eq5-clause-within
+pub returns-then-number-eq7 : goal.returns-then-number-eq7
 unfolding bytes_of digit_rule
-returns-then-number-eq5-clause-within c = (put_line c.args.out.now _ _ _ _ 240 (c.put.ensures.next, c.put.ensures.written) (sym (ap digit_rule c.if-number-eq5.true)) (omega arith)).1.1
+returns-then-number-eq7 c =
+    let made = put_line c.args.out.now _ _ _ _ 240 (c.put-then-number-eq7.ensures.next, c.put-then-number-eq7.ensures.written) (sym (ap digit_rule c.if-number-eq7.true)) (omega arith) in
+    record { count = made.0; buffer = made.1.0; within = made.1.1 }
 
-pub returns-then-number-eq6-clause-count : goal.returns-then-number-eq6-clause-count
+pub returns-then-number-eq8 : goal.returns-then-number-eq8
 unfolding bytes_of digit_rule
-returns-then-number-eq6-clause-count c = (put_line c.args.out.now _ _ _ _ 240 (c.put-then-number-eq6.ensures.next, c.put-then-number-eq6.ensures.written) (sym (ap digit_rule c.if-number-eq6.true)) (omega arith)).0
-
-pub returns-then-number-eq6-clause-buffer : goal.returns-then-number-eq6-clause-buffer
-unfolding bytes_of digit_rule
-returns-then-number-eq6-clause-buffer c = (put_line c.args.out.now _ _ _ _ 240 (c.put-then-number-eq6.ensures.next, c.put-then-number-eq6.ensures.written) (sym (ap digit_rule c.if-number-eq6.true)) (omega arith)).1.0
-
-pub returns-then-number-eq6-clause-within : goal.returns-then-number-eq6-clause-within
-unfolding bytes_of digit_rule
-returns-then-number-eq6-clause-within c = (put_line c.args.out.now _ _ _ _ 240 (c.put-then-number-eq6.ensures.next, c.put-then-number-eq6.ensures.written) (sym (ap digit_rule c.if-number-eq6.true)) (omega arith)).1.1
-
-pub returns-then-number-eq7-clause-count : goal.returns-then-number-eq7-clause-count
-unfolding bytes_of digit_rule
-returns-then-number-eq7-clause-count c = (put_line c.args.out.now _ _ _ _ 240 (c.put-then-number-eq7.ensures.next, c.put-then-number-eq7.ensures.written) (sym (ap digit_rule c.if-number-eq7.true)) (omega arith)).0
-
-pub returns-then-number-eq7-clause-buffer : goal.returns-then-number-eq7-clause-buffer
-unfolding bytes_of digit_rule
-returns-then-number-eq7-clause-buffer c = (put_line c.args.out.now _ _ _ _ 240 (c.put-then-number-eq7.ensures.next, c.put-then-number-eq7.ensures.written) (sym (ap digit_rule c.if-number-eq7.true)) (omega arith)).1.0
-
-pub returns-then-number-eq7-clause-within : goal.returns-then-number-eq7-clause-within
-unfolding bytes_of digit_rule
-returns-then-number-eq7-clause-within c = (put_line c.args.out.now _ _ _ _ 240 (c.put-then-number-eq7.ensures.next, c.put-then-number-eq7.ensures.written) (sym (ap digit_rule c.if-number-eq7.true)) (omega arith)).1.1
-
-pub returns-then-number-eq8-clause-count : goal.returns-then-number-eq8-clause-count
-unfolding bytes_of digit_rule
-returns-then-number-eq8-clause-count c = (put_line c.args.out.now _ _ _ _ 240 (c.put-then-number-eq8.ensures.next, c.put-then-number-eq8.ensures.written) (sym (ap digit_rule c.if-number-eq8.true)) (omega arith)).0
-
-pub returns-then-number-eq8-clause-buffer : goal.returns-then-number-eq8-clause-buffer
-unfolding bytes_of digit_rule
-returns-then-number-eq8-clause-buffer c = (put_line c.args.out.now _ _ _ _ 240 (c.put-then-number-eq8.ensures.next, c.put-then-number-eq8.ensures.written) (sym (ap digit_rule c.if-number-eq8.true)) (omega arith)).1.0
-
-pub returns-then-number-eq8-clause-within : goal.returns-then-number-eq8-clause-within
-unfolding bytes_of digit_rule
-returns-then-number-eq8-clause-within c = (put_line c.args.out.now _ _ _ _ 240 (c.put-then-number-eq8.ensures.next, c.put-then-number-eq8.ensures.written) (sym (ap digit_rule c.if-number-eq8.true)) (omega arith)).1.1
+returns-then-number-eq8 c =
+    let made = put_line c.args.out.now _ _ _ _ 240 (c.put-then-number-eq8.ensures.next, c.put-then-number-eq8.ensures.written) (sym (ap digit_rule c.if-number-eq8.true)) (omega arith) in
+    record { count = made.0; buffer = made.1.0; within = made.1.1 }
 
 pub returns-clause-count : goal.returns-clause-count
 returns-clause-count c = rw (digit_none c.args.number c.if-number-eq5.false c.if-number-eq6.false c.if-number-eq7.false c.if-number-eq8.false) (refl)

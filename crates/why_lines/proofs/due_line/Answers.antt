@@ -18,5 +18,6 @@ returns c =
     let a = c.args in
     let front = numbered (bytes_of "  the offset has to be ") a.start a.name.now a.size in
     let total = length-append front (bytes_of " bytes\n") in
-    let all = put_all (next a.out.now _ _ front (bytes_of " bytes\n") 0 _ _ ((c.put_numbers-end.ensures.end, c.put_numbers-end.ensures.buffer, c.put_numbers-end.ensures.within).0, (c.put_numbers-end.ensures.end, c.put_numbers-end.ensures.buffer, c.put_numbers-end.ensures.within).1.0) (last _ _ _ _ _ (c.put.ensures.next, c.put.ensures.written))) (omega (arith, c.requires.0, c.requires.1, (c.put_numbers-end.ensures.end, c.put_numbers-end.ensures.buffer, c.put_numbers-end.ensures.within).0, (c.put_numbers-end.ensures.end, c.put_numbers-end.ensures.buffer, c.put_numbers-end.ensures.within).1.1, total)) in
-    put_line a.out.now _ _ _ _ 240 all refl (omega (arith, c.requires.0, (c.put_numbers-end.ensures.end, c.put_numbers-end.ensures.buffer, c.put_numbers-end.ensures.within).0, (c.put_numbers-end.ensures.end, c.put_numbers-end.ensures.buffer, c.put_numbers-end.ensures.within).1.1, total))
+    let all = put_all (next a.out.now _ _ front (bytes_of " bytes\n") 0 _ _ (c.put_numbers-end.ensures.end, c.put_numbers-end.ensures.buffer) (last _ _ _ _ _ (c.put.ensures.next, c.put.ensures.written))) (omega (arith, c.requires.0, c.requires.1, c.put_numbers-end.ensures.end, c.put_numbers-end.ensures.within, total)) in
+    let made = put_line a.out.now _ _ _ _ 240 all refl (omega (arith, c.requires.0, c.put_numbers-end.ensures.end, c.put_numbers-end.ensures.within, total)) in
+    record { count = made.0; buffer = made.1.0; within = made.1.1 }

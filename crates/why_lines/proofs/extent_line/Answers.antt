@@ -29,5 +29,6 @@ returns c =
     let total = length-append front (back ++ bytes_of "\n") in
     let rest = length-append back (bytes_of "\n") in
     let tail = next _ _ _ back (bytes_of "\n") _ _ _ (c.put_item-end.ensures.end, c.put_item-end.ensures.buffer) (last _ _ _ _ _ (c.put.ensures.next, c.put.ensures.written)) in
-    let all = put_all (next a.out.now _ _ front _ 0 _ _ ((c.put_numbers-at.ensures.end, c.put_numbers-at.ensures.buffer, c.put_numbers-at.ensures.within).0, (c.put_numbers-at.ensures.end, c.put_numbers-at.ensures.buffer, c.put_numbers-at.ensures.within).1.0) tail) (omega (arith, c.requires.0, c.requires.1, (c.put_numbers-at.ensures.end, c.put_numbers-at.ensures.buffer, c.put_numbers-at.ensures.within).0, (c.put_numbers-at.ensures.end, c.put_numbers-at.ensures.buffer, c.put_numbers-at.ensures.within).1.1, one, total, rest)) in
-    put_line a.out.now _ _ _ _ 240 all refl (omega (arith, c.requires.0, (c.put_numbers-at.ensures.end, c.put_numbers-at.ensures.buffer, c.put_numbers-at.ensures.within).0, (c.put_numbers-at.ensures.end, c.put_numbers-at.ensures.buffer, c.put_numbers-at.ensures.within).1.1, one, total, rest))
+    let all = put_all (next a.out.now _ _ front _ 0 _ _ (c.put_numbers-at.ensures.end, c.put_numbers-at.ensures.buffer) tail) (omega (arith, c.requires.0, c.requires.1, c.put_numbers-at.ensures.end, c.put_numbers-at.ensures.within, one, total, rest)) in
+    let made = put_line a.out.now _ _ _ _ 240 all refl (omega (arith, c.requires.0, c.put_numbers-at.ensures.end, c.put_numbers-at.ensures.within, one, total, rest)) in
+    record { count = made.0; buffer = made.1.0; within = made.1.1 }

@@ -11,17 +11,11 @@ use native.Mathlib.Omega.{arith}
 use borrow.Author.Rules.{rules}
 use Rattle.why_lines.proofs.file_line.Goals as goal
 
-pub returns-then-n-gt65535-clause-count : goal.returns-then-n-gt65535-clause-count
+pub returns-then-n-gt65535 : goal.returns-then-n-gt65535
 unfolding bytes_of
-returns-then-n-gt65535-clause-count c = (put_line c.args.out.now _ _ _ _ 240 (c.put.ensures.next, c.put.ensures.written) (sym (file_large c.args.n c.if-n-gt65535.true)) (omega arith)).0
-
-pub returns-then-n-gt65535-clause-buffer : goal.returns-then-n-gt65535-clause-buffer
-unfolding bytes_of
-returns-then-n-gt65535-clause-buffer c = (put_line c.args.out.now _ _ _ _ 240 (c.put.ensures.next, c.put.ensures.written) (sym (file_large c.args.n c.if-n-gt65535.true)) (omega arith)).1.0
-
-pub returns-then-n-gt65535-clause-within : goal.returns-then-n-gt65535-clause-within
-unfolding bytes_of
-returns-then-n-gt65535-clause-within c = (put_line c.args.out.now _ _ _ _ 240 (c.put.ensures.next, c.put.ensures.written) (sym (file_large c.args.n c.if-n-gt65535.true)) (omega arith)).1.1
+returns-then-n-gt65535 c =
+    let made = put_line c.args.out.now _ _ _ _ 240 (c.put.ensures.next, c.put.ensures.written) (sym (file_large c.args.n c.if-n-gt65535.true)) (omega arith) in
+    record { count = made.0; buffer = made.1.0; within = made.1.1 }
 
 pub put_item-at-requires : goal.put_item-at-requires
 unfolding bytes_of

@@ -9,65 +9,35 @@ use native.Mathlib.Omega.{arith}
 use borrow.Author.Rules.{rules}
 use Rattle.why_lines.proofs.file_rule.Goals as goal
 
-pub returns-then-number-eq0-clause-count : goal.returns-then-number-eq0-clause-count
+pub returns-then-number-eq0 : goal.returns-then-number-eq0
 unfolding bytes_of file_rule
-returns-then-number-eq0-clause-count c = (put_line c.args.out.now _ _ _ _ 240 (c.put.ensures.next, c.put.ensures.written) (sym (ap file_rule c.if-number-eq0.true)) (omega arith)).0
+returns-then-number-eq0 c =
+    let made = put_line c.args.out.now _ _ _ _ 240 (c.put.ensures.next, c.put.ensures.written) (sym (ap file_rule c.if-number-eq0.true)) (omega arith) in
+    record { count = made.0; buffer = made.1.0; within = made.1.1 }
 
-pub returns-then-number-eq0-clause-buffer : goal.returns-then-number-eq0-clause-buffer
+pub returns-then-number-eq1 : goal.returns-then-number-eq1
 unfolding bytes_of file_rule
-returns-then-number-eq0-clause-buffer c = (put_line c.args.out.now _ _ _ _ 240 (c.put.ensures.next, c.put.ensures.written) (sym (ap file_rule c.if-number-eq0.true)) (omega arith)).1.0
+returns-then-number-eq1 c =
+    let made = put_line c.args.out.now _ _ _ _ 240 (c.put-then-number-eq1.ensures.next, c.put-then-number-eq1.ensures.written) (sym (ap file_rule c.if-number-eq1.true)) (omega arith) in
+    record { count = made.0; buffer = made.1.0; within = made.1.1 }
 
-pub returns-then-number-eq0-clause-within : goal.returns-then-number-eq0-clause-within
+pub returns-then-number-eq2 : goal.returns-then-number-eq2
 unfolding bytes_of file_rule
-returns-then-number-eq0-clause-within c = (put_line c.args.out.now _ _ _ _ 240 (c.put.ensures.next, c.put.ensures.written) (sym (ap file_rule c.if-number-eq0.true)) (omega arith)).1.1
+returns-then-number-eq2 c =
+    let made = put_line c.args.out.now _ _ _ _ 240 (c.put-then-number-eq2.ensures.next, c.put-then-number-eq2.ensures.written) (sym (ap file_rule c.if-number-eq2.true)) (omega arith) in
+    record { count = made.0; buffer = made.1.0; within = made.1.1 }
 
-pub returns-then-number-eq1-clause-count : goal.returns-then-number-eq1-clause-count
+pub returns-then-number-eq3 : goal.returns-then-number-eq3
 unfolding bytes_of file_rule
-returns-then-number-eq1-clause-count c = (put_line c.args.out.now _ _ _ _ 240 (c.put-then-number-eq1.ensures.next, c.put-then-number-eq1.ensures.written) (sym (ap file_rule c.if-number-eq1.true)) (omega arith)).0
+returns-then-number-eq3 c =
+    let made = put_line c.args.out.now _ _ _ _ 240 (c.put-then-number-eq3.ensures.next, c.put-then-number-eq3.ensures.written) (sym (ap file_rule c.if-number-eq3.true)) (omega arith) in
+    record { count = made.0; buffer = made.1.0; within = made.1.1 }
 
-pub returns-then-number-eq1-clause-buffer : goal.returns-then-number-eq1-clause-buffer
+pub returns-then-number-eq4 : goal.returns-then-number-eq4
 unfolding bytes_of file_rule
-returns-then-number-eq1-clause-buffer c = (put_line c.args.out.now _ _ _ _ 240 (c.put-then-number-eq1.ensures.next, c.put-then-number-eq1.ensures.written) (sym (ap file_rule c.if-number-eq1.true)) (omega arith)).1.0
-
-pub returns-then-number-eq1-clause-within : goal.returns-then-number-eq1-clause-within
-unfolding bytes_of file_rule
-returns-then-number-eq1-clause-within c = (put_line c.args.out.now _ _ _ _ 240 (c.put-then-number-eq1.ensures.next, c.put-then-number-eq1.ensures.written) (sym (ap file_rule c.if-number-eq1.true)) (omega arith)).1.1
-
-pub returns-then-number-eq2-clause-count : goal.returns-then-number-eq2-clause-count
-unfolding bytes_of file_rule
-returns-then-number-eq2-clause-count c = (put_line c.args.out.now _ _ _ _ 240 (c.put-then-number-eq2.ensures.next, c.put-then-number-eq2.ensures.written) (sym (ap file_rule c.if-number-eq2.true)) (omega arith)).0
-
-pub returns-then-number-eq2-clause-buffer : goal.returns-then-number-eq2-clause-buffer
-unfolding bytes_of file_rule
-returns-then-number-eq2-clause-buffer c = (put_line c.args.out.now _ _ _ _ 240 (c.put-then-number-eq2.ensures.next, c.put-then-number-eq2.ensures.written) (sym (ap file_rule c.if-number-eq2.true)) (omega arith)).1.0
-
-pub returns-then-number-eq2-clause-within : goal.returns-then-number-eq2-clause-within
-unfolding bytes_of file_rule
-returns-then-number-eq2-clause-within c = (put_line c.args.out.now _ _ _ _ 240 (c.put-then-number-eq2.ensures.next, c.put-then-number-eq2.ensures.written) (sym (ap file_rule c.if-number-eq2.true)) (omega arith)).1.1
-
-pub returns-then-number-eq3-clause-count : goal.returns-then-number-eq3-clause-count
-unfolding bytes_of file_rule
-returns-then-number-eq3-clause-count c = (put_line c.args.out.now _ _ _ _ 240 (c.put-then-number-eq3.ensures.next, c.put-then-number-eq3.ensures.written) (sym (ap file_rule c.if-number-eq3.true)) (omega arith)).0
-
-pub returns-then-number-eq3-clause-buffer : goal.returns-then-number-eq3-clause-buffer
-unfolding bytes_of file_rule
-returns-then-number-eq3-clause-buffer c = (put_line c.args.out.now _ _ _ _ 240 (c.put-then-number-eq3.ensures.next, c.put-then-number-eq3.ensures.written) (sym (ap file_rule c.if-number-eq3.true)) (omega arith)).1.0
-
-pub returns-then-number-eq3-clause-within : goal.returns-then-number-eq3-clause-within
-unfolding bytes_of file_rule
-returns-then-number-eq3-clause-within c = (put_line c.args.out.now _ _ _ _ 240 (c.put-then-number-eq3.ensures.next, c.put-then-number-eq3.ensures.written) (sym (ap file_rule c.if-number-eq3.true)) (omega arith)).1.1
-
-pub returns-then-number-eq4-clause-count : goal.returns-then-number-eq4-clause-count
-unfolding bytes_of file_rule
-returns-then-number-eq4-clause-count c = (put_line c.args.out.now _ _ _ _ 240 (c.put-then-number-eq4.ensures.next, c.put-then-number-eq4.ensures.written) (sym (ap file_rule c.if-number-eq4.true)) (omega arith)).0
-
-pub returns-then-number-eq4-clause-buffer : goal.returns-then-number-eq4-clause-buffer
-unfolding bytes_of file_rule
-returns-then-number-eq4-clause-buffer c = (put_line c.args.out.now _ _ _ _ 240 (c.put-then-number-eq4.ensures.next, c.put-then-number-eq4.ensures.written) (sym (ap file_rule c.if-number-eq4.true)) (omega arith)).1.0
-
-pub returns-then-number-eq4-clause-within : goal.returns-then-number-eq4-clause-within
-unfolding bytes_of file_rule
-returns-then-number-eq4-clause-within c = (put_line c.args.out.now _ _ _ _ 240 (c.put-then-number-eq4.ensures.next, c.put-then-number-eq4.ensures.written) (sym (ap file_rule c.if-number-eq4.true)) (omega arith)).1.1
+returns-then-number-eq4 c =
+    let made = put_line c.args.out.now _ _ _ _ 240 (c.put-then-number-eq4.ensures.next, c.put-then-number-eq4.ensures.written) (sym (ap file_rule c.if-number-eq4.true)) (omega arith) in
+    record { count = made.0; buffer = made.1.0; within = made.1.1 }
 
 pub returns-clause-count : goal.returns-clause-count
 returns-clause-count c = rw (file_none c.args.number c.if-number-eq0.false c.if-number-eq1.false c.if-number-eq2.false c.if-number-eq3.false c.if-number-eq4.false) (refl)

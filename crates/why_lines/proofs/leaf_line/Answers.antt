@@ -55,7 +55,8 @@ returns c =
     let weight = weight_text c.args.weight in
     let front = length-append (number) (bytes_of ": word" ++ (word ++ weight)) in
     let back = length-append (word) weight in
-    let tail = next _ _ _ (word) weight _ _ _ (c.put_word-comma.ensures.end, c.put_word-comma.ensures.buffer) (last _ _ _ _ _ ((c.put_weight.ensures.end, c.put_weight.ensures.buffer, c.put_weight.ensures.within).0, (c.put_weight.ensures.end, c.put_weight.ensures.buffer, c.put_weight.ensures.within).1.0)) in
+    let tail = next _ _ _ (word) weight _ _ _ (c.put_word-comma.ensures.end, c.put_word-comma.ensures.buffer) (last _ _ _ _ _ (c.put_weight.ensures.end, c.put_weight.ensures.buffer)) in
     let pieces = next out _ _ (number) _ 0 _ _ (c.put_item-colon.ensures.end, c.put_item-colon.ensures.buffer) (next _ _ _ (bytes_of ": word") _ _ _ _ (c.put-at.ensures.next, c.put-at.ensures.written) tail) in
-    let all = put_all pieces (omega (arith, number-room, word_room, (c.put_weight.ensures.end, c.put_weight.ensures.buffer, c.put_weight.ensures.within).1.1, front, back, c.requires.room.2)) in
-    put_line out _ _ _ _ 480 all refl (omega (arith, number-room, word_room, (c.put_weight.ensures.end, c.put_weight.ensures.buffer, c.put_weight.ensures.within).1.1, front, back))
+    let all = put_all pieces (omega (arith, number-room, word_room, c.put_weight.ensures.within, front, back, c.requires.room.2)) in
+    let made = put_line out _ _ _ _ 480 all refl (omega (arith, number-room, word_room, c.put_weight.ensures.within, front, back)) in
+    record { count = made.0; buffer = made.1.0; within = made.1.1 }

@@ -52,9 +52,10 @@ put-requires c =
     let product-room : length product ≤ 84 = omega (arith, bracketed_length (bytes_of " - (") c.args.product, element_limit 16 c.args.product (2 ^ 55) c.requires.parts.2 (lit≤ tt)) in
     let s = c in omega (arith, c.requires.room, first-room, lower-room, product-room, c.put_bracketed-plus.ensures.end, c.put_bracketed-minus.ensures.end, c.put_bracketed-end.ensures.end)
 
-pub returns-clause-count : goal.returns-clause-count
+pub returns : goal.returns
 unfolding bytes_of product_line
-returns-clause-count c = (let first : List ℕ = bracketed (bytes_of "    = (") c.args.first in
+returns c =
+    let first : List ℕ = bracketed (bytes_of "    = (") c.args.first in
     let lower : List ℕ = bracketed (bytes_of " + (") c.args.lower in
     let product : List ℕ = bracketed (bytes_of " - (") c.args.product in
     let first-room : length first ≤ 39 = omega (arith, bracketed_length (bytes_of "    = (") c.args.first, element_short c.args.first c.requires.parts.0) in
@@ -68,40 +69,5 @@ returns-clause-count c = (let first : List ℕ = bracketed (bytes_of "    = (") 
     let tail = next _ _ _ (product) (bytes_of "\n") _ _ _ (c.put_bracketed-end.ensures.end, c.put_bracketed-end.ensures.buffer) (last _ _ _ _ _ (c.put.ensures.next, c.put.ensures.written)) in
     let pieces = next out _ _ (first) _ 0 _ _ (c.put_bracketed-plus.ensures.end, c.put_bracketed-plus.ensures.buffer) (next _ _ _ (lower) _ _ _ _ (c.put_bracketed-minus.ensures.end, c.put_bracketed-minus.ensures.buffer) tail) in
     let all = put_all pieces (omega (arith, c.requires.room, first-room, lower-room, product-room, front, second, third)) in
-    put_line out _ _ _ _ 480 all refl (omega (arith, first-room, lower-room, product-room, front, second, third))).0
-
-pub returns-clause-buffer : goal.returns-clause-buffer
-unfolding bytes_of product_line
-returns-clause-buffer c = (let first : List ℕ = bracketed (bytes_of "    = (") c.args.first in
-    let lower : List ℕ = bracketed (bytes_of " + (") c.args.lower in
-    let product : List ℕ = bracketed (bytes_of " - (") c.args.product in
-    let first-room : length first ≤ 39 = omega (arith, bracketed_length (bytes_of "    = (") c.args.first, element_short c.args.first c.requires.parts.0) in
-    let lower-room : length lower ≤ 36 = omega (arith, bracketed_length (bytes_of " + (") c.args.lower, element_short c.args.lower c.requires.parts.1) in
-    let product-room : length product ≤ 84 = omega (arith, bracketed_length (bytes_of " - (") c.args.product, element_limit 16 c.args.product (2 ^ 55) c.requires.parts.2 (lit≤ tt)) in
-    let s = c in
-    let out = c.args.out.now in
-    let front = length-append (first) (lower ++ (product ++ bytes_of "\n")) in
-    let second = length-append (lower) (product ++ bytes_of "\n") in
-    let third = length-append (product) (bytes_of "\n") in
-    let tail = next _ _ _ (product) (bytes_of "\n") _ _ _ (c.put_bracketed-end.ensures.end, c.put_bracketed-end.ensures.buffer) (last _ _ _ _ _ (c.put.ensures.next, c.put.ensures.written)) in
-    let pieces = next out _ _ (first) _ 0 _ _ (c.put_bracketed-plus.ensures.end, c.put_bracketed-plus.ensures.buffer) (next _ _ _ (lower) _ _ _ _ (c.put_bracketed-minus.ensures.end, c.put_bracketed-minus.ensures.buffer) tail) in
-    let all = put_all pieces (omega (arith, c.requires.room, first-room, lower-room, product-room, front, second, third)) in
-    put_line out _ _ _ _ 480 all refl (omega (arith, first-room, lower-room, product-room, front, second, third))).1.0
-
-pub returns-clause-within : goal.returns-clause-within
-unfolding bytes_of product_line
-returns-clause-within c = (let first : List ℕ = bracketed (bytes_of "    = (") c.args.first in
-    let lower : List ℕ = bracketed (bytes_of " + (") c.args.lower in
-    let product : List ℕ = bracketed (bytes_of " - (") c.args.product in
-    let first-room : length first ≤ 39 = omega (arith, bracketed_length (bytes_of "    = (") c.args.first, element_short c.args.first c.requires.parts.0) in
-    let lower-room : length lower ≤ 36 = omega (arith, bracketed_length (bytes_of " + (") c.args.lower, element_short c.args.lower c.requires.parts.1) in
-    let product-room : length product ≤ 84 = omega (arith, bracketed_length (bytes_of " - (") c.args.product, element_limit 16 c.args.product (2 ^ 55) c.requires.parts.2 (lit≤ tt)) in
-    let s = c in
-    let out = c.args.out.now in
-    let front = length-append (first) (lower ++ (product ++ bytes_of "\n")) in
-    let second = length-append (lower) (product ++ bytes_of "\n") in
-    let third = length-append (product) (bytes_of "\n") in
-    let tail = next _ _ _ (product) (bytes_of "\n") _ _ _ (c.put_bracketed-end.ensures.end, c.put_bracketed-end.ensures.buffer) (last _ _ _ _ _ (c.put.ensures.next, c.put.ensures.written)) in
-    let pieces = next out _ _ (first) _ 0 _ _ (c.put_bracketed-plus.ensures.end, c.put_bracketed-plus.ensures.buffer) (next _ _ _ (lower) _ _ _ _ (c.put_bracketed-minus.ensures.end, c.put_bracketed-minus.ensures.buffer) tail) in
-    let all = put_all pieces (omega (arith, c.requires.room, first-room, lower-room, product-room, front, second, third)) in
-    put_line out _ _ _ _ 480 all refl (omega (arith, first-room, lower-room, product-room, front, second, third))).1.1
+    let made = put_line out _ _ _ _ 480 all refl (omega (arith, first-room, lower-room, product-room, front, second, third)) in
+    record { count = made.0; buffer = made.1.0; within = made.1.1 }

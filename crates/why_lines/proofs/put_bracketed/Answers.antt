@@ -17,10 +17,8 @@ put_element-end-requires c = record { room = omega (arith, c.requires.room, brac
 pub put-requires : goal.put-requires
 put-requires c = omega (arith, c.requires.room, bracketed_length c.args.before.now c.args.x, c.put-start.ensures.next, c.put_element-end.ensures.end)
 
-pub returns-clause-end : goal.returns-clause-end
+pub returns : goal.returns
 unfolding bytes_of bracketed
-returns-clause-end c = (put_all (next c.args.out.now _ _ c.args.before.now _ c.args.at _ _ (c.put-start.ensures.next, c.put-start.ensures.written) (next _ _ _ (element_text c.args.x) (bytes_of ")") _ _ _ (c.put_element-end.ensures.end, c.put_element-end.ensures.buffer) (last _ _ _ _ _ (c.put.ensures.next, c.put.ensures.written)))) c.requires.room).0
-
-pub returns-clause-buffer : goal.returns-clause-buffer
-unfolding bytes_of bracketed
-returns-clause-buffer c = (put_all (next c.args.out.now _ _ c.args.before.now _ c.args.at _ _ (c.put-start.ensures.next, c.put-start.ensures.written) (next _ _ _ (element_text c.args.x) (bytes_of ")") _ _ _ (c.put_element-end.ensures.end, c.put_element-end.ensures.buffer) (last _ _ _ _ _ (c.put.ensures.next, c.put.ensures.written)))) c.requires.room).1
+returns c =
+    let made = put_all (next c.args.out.now _ _ c.args.before.now _ c.args.at _ _ (c.put-start.ensures.next, c.put-start.ensures.written) (next _ _ _ (element_text c.args.x) (bytes_of ")") _ _ _ (c.put_element-end.ensures.end, c.put_element-end.ensures.buffer) (last _ _ _ _ _ (c.put.ensures.next, c.put.ensures.written)))) c.requires.room in
+    record { end = made.0; buffer = made.1 }

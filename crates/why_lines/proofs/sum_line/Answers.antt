@@ -68,9 +68,10 @@ put-requires c =
     let upper-room : length upper ≤ 36 = omega (arith, bracketed_length (bytes_of "*(") c.args.upper, element_short c.args.upper c.requires.parts.3) in
     let s = c in omega (arith, c.requires.room, first-room, lower-room, base-room, upper-room, c.put_bracketed-plus.ensures.end, c.put_bracketed-minus.ensures.end, c.put_bracketed-times.ensures.end, c.put_bracketed-end.ensures.end)
 
-pub returns-clause-count : goal.returns-clause-count
+pub returns : goal.returns
 unfolding bytes_of sum_line
-returns-clause-count c = (let first : List ℕ = bracketed (bytes_of "  digit at the top place = U's first digit + L's weight - base * U's weight\n    = (") c.args.first in
+returns c =
+    let first : List ℕ = bracketed (bytes_of "  digit at the top place = U's first digit + L's weight - base * U's weight\n    = (") c.args.first in
     let lower : List ℕ = bracketed (bytes_of " + (") c.args.lower in
     let base : List ℕ = bracketed (bytes_of " - (") c.args.base in
     let upper : List ℕ = bracketed (bytes_of "*(") c.args.upper in
@@ -87,46 +88,5 @@ returns-clause-count c = (let first : List ℕ = bracketed (bytes_of "  digit at
     let tail = next _ _ _ (base) _ _ _ _ (c.put_bracketed-times.ensures.end, c.put_bracketed-times.ensures.buffer) (next _ _ _ (upper) (bytes_of "\n") _ _ _ (c.put_bracketed-end.ensures.end, c.put_bracketed-end.ensures.buffer) (last _ _ _ _ _ (c.put.ensures.next, c.put.ensures.written))) in
     let pieces = next out _ _ (first) _ 0 _ _ (c.put_bracketed-plus.ensures.end, c.put_bracketed-plus.ensures.buffer) (next _ _ _ (lower) _ _ _ _ (c.put_bracketed-minus.ensures.end, c.put_bracketed-minus.ensures.buffer) tail) in
     let all = put_all pieces (omega (arith, c.requires.room, first-room, lower-room, base-room, upper-room, front, second, third, fourth)) in
-    put_line out _ _ _ _ 480 all refl (omega (arith, first-room, lower-room, base-room, upper-room, front, second, third, fourth))).0
-
-pub returns-clause-buffer : goal.returns-clause-buffer
-unfolding bytes_of sum_line
-returns-clause-buffer c = (let first : List ℕ = bracketed (bytes_of "  digit at the top place = U's first digit + L's weight - base * U's weight\n    = (") c.args.first in
-    let lower : List ℕ = bracketed (bytes_of " + (") c.args.lower in
-    let base : List ℕ = bracketed (bytes_of " - (") c.args.base in
-    let upper : List ℕ = bracketed (bytes_of "*(") c.args.upper in
-    let first-room : length first ≤ 120 = omega (arith, bracketed_length (bytes_of "  digit at the top place = U's first digit + L's weight - base * U's weight\n    = (") c.args.first, element_short c.args.first c.requires.parts.0) in
-    let lower-room : length lower ≤ 36 = omega (arith, bracketed_length (bytes_of " + (") c.args.lower, element_short c.args.lower c.requires.parts.1) in
-    let base-room : length base ≤ 36 = omega (arith, bracketed_length (bytes_of " - (") c.args.base, element_short c.args.base c.requires.parts.2) in
-    let upper-room : length upper ≤ 36 = omega (arith, bracketed_length (bytes_of "*(") c.args.upper, element_short c.args.upper c.requires.parts.3) in
-    let s = c in
-    let out = c.args.out.now in
-    let front = length-append (first) (lower ++ (base ++ (upper ++ bytes_of "\n"))) in
-    let second = length-append (lower) (base ++ (upper ++ bytes_of "\n")) in
-    let third = length-append (base) (upper ++ bytes_of "\n") in
-    let fourth = length-append (upper) (bytes_of "\n") in
-    let tail = next _ _ _ (base) _ _ _ _ (c.put_bracketed-times.ensures.end, c.put_bracketed-times.ensures.buffer) (next _ _ _ (upper) (bytes_of "\n") _ _ _ (c.put_bracketed-end.ensures.end, c.put_bracketed-end.ensures.buffer) (last _ _ _ _ _ (c.put.ensures.next, c.put.ensures.written))) in
-    let pieces = next out _ _ (first) _ 0 _ _ (c.put_bracketed-plus.ensures.end, c.put_bracketed-plus.ensures.buffer) (next _ _ _ (lower) _ _ _ _ (c.put_bracketed-minus.ensures.end, c.put_bracketed-minus.ensures.buffer) tail) in
-    let all = put_all pieces (omega (arith, c.requires.room, first-room, lower-room, base-room, upper-room, front, second, third, fourth)) in
-    put_line out _ _ _ _ 480 all refl (omega (arith, first-room, lower-room, base-room, upper-room, front, second, third, fourth))).1.0
-
-pub returns-clause-within : goal.returns-clause-within
-unfolding bytes_of sum_line
-returns-clause-within c = (let first : List ℕ = bracketed (bytes_of "  digit at the top place = U's first digit + L's weight - base * U's weight\n    = (") c.args.first in
-    let lower : List ℕ = bracketed (bytes_of " + (") c.args.lower in
-    let base : List ℕ = bracketed (bytes_of " - (") c.args.base in
-    let upper : List ℕ = bracketed (bytes_of "*(") c.args.upper in
-    let first-room : length first ≤ 120 = omega (arith, bracketed_length (bytes_of "  digit at the top place = U's first digit + L's weight - base * U's weight\n    = (") c.args.first, element_short c.args.first c.requires.parts.0) in
-    let lower-room : length lower ≤ 36 = omega (arith, bracketed_length (bytes_of " + (") c.args.lower, element_short c.args.lower c.requires.parts.1) in
-    let base-room : length base ≤ 36 = omega (arith, bracketed_length (bytes_of " - (") c.args.base, element_short c.args.base c.requires.parts.2) in
-    let upper-room : length upper ≤ 36 = omega (arith, bracketed_length (bytes_of "*(") c.args.upper, element_short c.args.upper c.requires.parts.3) in
-    let s = c in
-    let out = c.args.out.now in
-    let front = length-append (first) (lower ++ (base ++ (upper ++ bytes_of "\n"))) in
-    let second = length-append (lower) (base ++ (upper ++ bytes_of "\n")) in
-    let third = length-append (base) (upper ++ bytes_of "\n") in
-    let fourth = length-append (upper) (bytes_of "\n") in
-    let tail = next _ _ _ (base) _ _ _ _ (c.put_bracketed-times.ensures.end, c.put_bracketed-times.ensures.buffer) (next _ _ _ (upper) (bytes_of "\n") _ _ _ (c.put_bracketed-end.ensures.end, c.put_bracketed-end.ensures.buffer) (last _ _ _ _ _ (c.put.ensures.next, c.put.ensures.written))) in
-    let pieces = next out _ _ (first) _ 0 _ _ (c.put_bracketed-plus.ensures.end, c.put_bracketed-plus.ensures.buffer) (next _ _ _ (lower) _ _ _ _ (c.put_bracketed-minus.ensures.end, c.put_bracketed-minus.ensures.buffer) tail) in
-    let all = put_all pieces (omega (arith, c.requires.room, first-room, lower-room, base-room, upper-room, front, second, third, fourth)) in
-    put_line out _ _ _ _ 480 all refl (omega (arith, first-room, lower-room, base-room, upper-room, front, second, third, fourth))).1.1
+    let made = put_line out _ _ _ _ 480 all refl (omega (arith, first-room, lower-room, base-room, upper-room, front, second, third, fourth)) in
+    record { count = made.0; buffer = made.1.0; within = made.1.1 }

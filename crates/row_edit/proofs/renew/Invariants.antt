@@ -1,0 +1,17 @@
+-- After k bytes the first k are the new digits, and the count is of those that differ.
+use Rattle.edit_rules.proofs.Written.{next_written, all_written, count_more, count_on, count_start, count_end}
+use Rattle.edit_rules.specs.Count.{differing}
+use Rattle.lists.proofs.Overwrite.{overwrite_none}
+use Rattle.lists.specs.Overwrite.{overwrite}
+use lib.ListN.{length, take, get_or, length-set}
+use native.Mathlib.Omega.{arith}
+use Prim.Native.Nat.{ℕ, ◌+◌, ◌-◌, ◌<◌, ◌≤◌}
+use mathlib.Core.Logic.{⊎_elim}
+use mathlib.Core.Path.{◌≡◌, refl, sym, ap, ◌∙◌}
+use Rattle.row_edit.proofs.renew.Given as goal
+
+abbrev pub invariant-loop-k : goal.invariant-loop-k
+invariant-loop-k l = (l.k ≤ length l.initial.part) × (l.part ≡ overwrite l.initial.part 0 (take l.k l.digits)) × (length l.part ≡ length l.initial.part) × (l.count ≤ l.k) × (l.count + differing l.initial.part l.digits l.k (length l.initial.part - l.k) ≡ differing l.initial.part l.digits 0 (length l.initial.part))
+
+abbrev pub decreases-loop-k : goal.decreases-loop-k
+decreases-loop-k l = length l.initial.part - l.k
