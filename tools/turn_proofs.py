@@ -13,6 +13,7 @@ import sys
 
 ID = r"[A-Za-z_μκ◌][A-Za-z0-9_'₀-₉-]*"
 CHAIN = re.compile(r"(?<![A-Za-z0-9_'₀-₉.-])(" + ID + r")((?:\.[A-Za-z0-9_'₀-₉-]+)*)")
+MARK = "\x01"
 KEEP = {"args", "requires", "ranges", "lifetimes", "type_inv", "well_formed", "utf8"}
 
 
@@ -36,6 +37,11 @@ class Fn:
                 before = [j for j in self.index[norm(p[1])] if j < i]
                 self.parent.append(before[-1] if before else self.index[norm(p[1])][0])
         self.needs = data["needs"]
+        self.args = {}
+        for a, b in data["args"]:
+            x, y = a.split(), b.split()
+            if len(x) == 2 and len(y) == 2:
+                self.args[(x[0].strip("."), x[1].strip("."))] = y[1].strip(".")
         self.asked = data["asked_at"]
 
     def place(self, old):
@@ -85,6 +91,32 @@ def blocks(text):
     return [(l, "\n".join(b).rstrip()) for l, b in out], lead
 
 
+def last_in(s):
+    """The place behind the last `in` that stands in no brackets."""
+    depth, at = 0, 0
+    for m in re.finditer(r"[(\[{]|[)\]}]|\bin\b", s):
+        if m.group(0) in "([{":
+            depth += 1
+        elif m.group(0) in ")]}":
+            depth -= 1
+        elif depth == 0:
+            at = m.end()
+    return at
+
+
+def in_list(s, i):
+    """Whether place i is an element of a tactic's own list."""
+    depth = 0
+    for j in range(i - 1, -1, -1):
+        if s[j] in ")]}":
+            depth += 1
+        elif s[j] in "([{":
+            if depth == 0:
+                return bool(re.search(r"\b(omega|search|grind|cc)\s*$", s[:j]))
+            depth -= 1
+    return False
+
+
 def split_top(s, sep):
     parts, depth, cur = [], 0, ""
     for ch in s:
@@ -115,7 +147,7 @@ def tail_tuple(body):
             if depth == 0:
                 break
     head = s[:i]
-    if head.strip() and not re.search(r"(\bin|=)\s*$", head):
+    if head.strip() and not re.search(r"(\bin|=|\brw (\S+|\([^()]*\)))\s*$", head):
         return None
     parts = [p.strip() for p in split_top(s[i + 1:-1], ",")]
     if parts and not parts[-1]:
@@ -130,6 +162,7 @@ class Turner:
         self.said = []
         self.helpers = {}
         self.used_places = set()
+        self.as_c = {"c"}
 
     def say(self, what):
         self.said.append(f"{self.crate}::{self.fname}: {what}")
@@ -138,6 +171,8 @@ class Turner:
         """Fields after a step: clause numbers become clause names."""
         if rest and step_place is not None:
             c = self.fn.d["clauses"][step_place]
+            if rest[0] == "ensures" and c and c.get("fields") and len(c["fields"]) == 1 and rest[1:2] != c["fields"]:
+                return ["ensures", c["fields"][0]] + rest[1:]
             if rest == ["ensures"] and c and c.get("fields") and len(c["fields"]) > 1:
                 return ["ensures", "\0" + ",".join(c["fields"])]
             if rest[0] == "ensures" and len(rest) > 1 and rest[1].isdigit() and c and c.get("fields"):
@@ -148,6 +183,19 @@ class Turner:
 
     def chain(self, m, at, roots, need):
         root, tail = m.group(1), [x for x in m.group(2).split(".") if x]
+        if root in getattr(self, "step_alias", {}) and tail:
+            sp = self.step_alias[root]
+            if sp == "requires":
+                pre = (self.fn.d.get("pre") or {}).get("fields") or []
+                if len(pre) > 1 and tail[0].isdigit() and int(tail[0]) < len(pre):
+                    tail[0] = pre[int(tail[0])]
+                return ".".join([root] + tail)
+            rest = self.fields(at, sp, tail)
+            if rest and rest[-1].startswith("\0"):
+                e = root + ".ensures"
+                parts = ", ".join(f"{e}.{f}" for f in rest[-1][1:].split(","))
+                return parts if in_list(m.string, m.start()) else f"({parts})"
+            return ".".join([root] + rest)
         if root not in roots:
             return m.group(0)
         place = roots[root]
@@ -158,16 +206,35 @@ class Turner:
         rest = tail[k:]
         if not rest:
             return self.whole(m, root, place, k, at, need)
-        out = root if root == "c" else root
+        out = "c" if root in self.as_c else root
+        if rest[0] == "pre":
+            rest = ["requires"] + rest[1:]
         if rest[0] in KEEP:
+            if len(rest) > 1:
+                rest[1] = self.fn.args.get((rest[0], rest[1]), rest[1])
+            pre = (self.fn.d.get("pre") or {}).get("fields") or []
+            if rest[0] == "requires" and pre:
+                if len(rest) > 1 and rest[1].isdigit() and len(pre) > 1 and int(rest[1]) < len(pre):
+                    rest[1] = pre[int(rest[1])]
+                elif len(pre) == 1 and rest[1:2] != pre:
+                    rest = ["requires", pre[0]] + rest[1:]
+                elif len(rest) == 1 and len(pre) > 1:
+                    return "(" + ", ".join(f"{out}.requires.{f}" for f in pre) + ")"
             return ".".join([out] + rest)
         new, sp = self.fn.step(place, rest[0])
         if new is None:
             self.say(f"no step {rest[0]}")
             return ".".join([out] + rest)
+        arm = self.fn.d["arms"][sp]
+        if arm:
+            for field, olds, path in arm[2]:
+                if norm(olds) == norm(self.fn.places[sp][2][0]) and rest[1:1 + len(path)] == path and path:
+                    return ".".join([out, arm[0], field] + rest[1 + len(path):])
         rest2 = self.fields(at, sp, rest[1:])
         if rest2 and rest2[-1].startswith("\0"):
             e = ".".join([out, new, "ensures"])
+            if in_list(m.string, m.start()):
+                return ", ".join(f"{e}.{f}" for f in rest2[-1][1:].split(","))
             return "(" + ", ".join(f"{e}.{f}" for f in rest2[-1][1:].split(",")) + ")"
         return ".".join([out, new] + rest2)
 
@@ -175,10 +242,11 @@ class Turner:
         """A chain that stands for a place itself: an argument of a helper."""
         before = m.string[:m.start()].rstrip("( ")
         h = re.search(r"(" + ID + r")$", before)
-        if h and h.group(1) in self.helpers and self.helpers[h.group(1)] is not None:
-            place = self.helpers[h.group(1)]
+        if h and h.group(1) in self.helpers:
+            return MARK
         elif befores == 0:
-            return root
+            return "c" if root in self.as_c else root
+        return "c"
         if place == at and root == "c":
             return root
         chain = self.fn.up(at)
@@ -191,14 +259,30 @@ class Turner:
         # aliases of places: let s = c.before.before in
         roots = dict(roots)
         out, pos = "", 0
-        alias = re.compile(r"let (" + ID + r") = (" + ID + r")((?:\.before)*) in\b")
+        alias = re.compile(r"let (" + ID + r") = (" + ID + r")((?:\.before)*)((?:\.(?!before\b)[A-Za-z0-9_'₀-₉-]+)?) in\b")
+        self.step_alias = {}
         while True:
             m = alias.search(text, pos)
             piece = text[pos:m.start()] if m else text[pos:]
             out += CHAIN.sub(lambda k: self.chain(k, at, roots, need), piece)
             if not m:
                 break
-            if m.group(2) in roots:
+            if m.group(4):
+                whole = CHAIN.sub(lambda k: self.chain(k, at, roots, need), m.group(2) + m.group(3) + m.group(4))
+                if m.group(2) in roots:
+                    place = roots[m.group(2)]
+                    for _ in range(m.group(3).count(".before")):
+                        place = self.fn.parent[place] if self.fn.parent[place] is not None else place
+                    name = m.group(4)[1:]
+                    if name in ("requires", "pre"):
+                        self.step_alias[m.group(1)] = "requires"
+                        whole = "c.requires" if m.group(2) in self.as_c else m.group(2) + ".requires"
+                    else:
+                        new, sp = self.fn.step(place, name)
+                        if new is not None:
+                            self.step_alias[m.group(1)] = sp
+                out += f"let {m.group(1)} = {whole} in"
+            elif m.group(2) in roots:
                 place = roots[m.group(2)]
                 for _ in range(m.group(3).count(".before")):
                     place = self.fn.parent[place] if self.fn.parent[place] is not None else place
@@ -208,8 +292,40 @@ class Turner:
                 out += m.group(0)
             pos = m.end()
         # a where-local or a λ with a place's type
+        out = re.sub(r"\s*\(" + MARK + r"\)", "", out)
+        out = re.sub(r"\s*" + MARK, "", out)
         out = self.types(out)
+        out = re.sub(r"\(not-(?:false|true) _ (c\.if-not-[A-Za-z0-9_-]+\.(?:false|true))\)", r"\1", out)
+        out = re.sub(r"not-(?:false|true) _ (c\.if-not-[A-Za-z0-9_-]+\.(?:false|true))", r"\1", out)
         return out
+
+    def lets(self, text):
+        """The helpers that a text cites, each as a `let` over the answer's own record; and what they unfold."""
+        need, todo = set(), [text]
+        table = {h[0]: h for h in self.inline}
+        made = {}
+        while todo:
+            t = todo.pop()
+            for w in re.findall(r"(?<![A-Za-z0-9_'₀-₉.-])(" + ID + ")", t):
+                if w in table and w not in need:
+                    need.add(w)
+                    n, vs, place, typ, ps, body, unf = table[w]
+                    if "c" not in vs:
+                        bare = re.compile(r"(?<![A-Za-z0-9_'₀-₉.-])c(?![A-Za-z0-9_'₀-₉-])")
+                        ps = ["c'" if p == "c" else p for p in ps]
+                        body, typ = bare.sub("c'", body), bare.sub("c'", typ)
+                    self.as_c = {"c"} | set(vs)
+                    roots = {v: place for v in vs}
+                    if "c" not in ps:
+                        roots.setdefault("c", place)
+                    typ2 = self.body(typ, place, None, roots)
+                    body2 = self.body(body, place, None, roots)
+                    self.as_c = {"c"}
+                    lam = f"λ {' '.join(ps)}. " if ps else ""
+                    made[w] = f"let {n} : {typ2.strip()} = {lam}{body2.strip()} in"
+                    todo.append(made[w])
+        order = [h[0] for h in self.inline if h[0] in need]
+        return [made[n] for n in order], [u for h in self.inline if h[0] in need for u in h[6]]
 
     def types(self, text):
         def t(m):
@@ -241,6 +357,53 @@ class Turner:
         head = []
         self.pieces = {"answers": {}, "helpers": [], "places": [], "place_names": [], "uses": uses, "head": head}
         roots0 = {}
+        # helpers: (name, its own place's variable, place, the rest of its type, its further parameters, body, unfolding)
+        flat = []
+        for lead, b in items:
+            m = re.match(r"^module _ \((\w+) : tie\.((?:Start|After|Then|Else|In|At|Joined)[A-Za-z0-9_-]*)(?: invariant-\S+| decreases-\S+)*\) where\n", b)
+            if m:
+                inner = "\n".join(l[2:] for l in b[m.end():].split("\n"))
+                sub, _ = blocks(inner)
+                for lead2, b2 in sub:
+                    flat.append((m.group(1), self.fn.place(m.group(2)), True, lead2, b2))
+            else:
+                flat.append((None, None, False, lead, b))
+        self.inline = []
+        place_type = r"tie\.((?:Start|After|Then|Else|In|At|Joined)[A-Za-z0-9_-]*)(?: invariant-\S+| decreases-\S+)*"
+        for var, place, inmod, lead, b in flat:
+            sig = re.match(r"^((?:(?:abbrev|unfoldable|pub) )*)(" + ID + r") : ", b)
+            if not sig:
+                continue
+            lines = [re.sub(r"\s--\s.*$", "", l) for l in b.split("\n")]
+            k = next((i for i, l in enumerate(lines) if i and (l.startswith("unfolding ") or re.match(re.escape(sig.group(2)) + r"( [^=]*)? =( |$)", l))), None)
+            if k is None:
+                continue
+            typ = " ".join(x.strip() for x in lines[:k])[len(sig.group(0)):]
+            if not inmod:
+                m1 = re.match(r"\((\w+) : " + place_type + r"\) (?:→ )?", typ)
+                m2 = re.match(place_type + r" → ", typ)
+                if m1:
+                    var, place, rest = m1.group(1), self.fn.place(m1.group(2)), typ[m1.end():]
+                elif m2:
+                    var, place, rest = None, self.fn.place(m2.group(1)), typ[m2.end():]
+                else:
+                    continue
+            else:
+                rest = typ
+            unf = [w for l in lines[k:] if l.startswith("unfolding ") for w in l.split()[1:]]
+            d = " ".join(l.strip() for l in lines[k:] if not l.startswith("unfolding ") and l.strip())
+            dm = re.match(re.escape(sig.group(2)) + r"((?: [^\s=]+)*) =\s?", d)
+            if not dm:
+                self.say(f"helper {sig.group(2)} has another form")
+                continue
+            ps = dm.group(1).split()
+            if not inmod:
+                var2, ps = (ps[0], ps[1:]) if ps else ("c", [])
+            else:
+                var2 = var
+            self.inline.append((sig.group(2), [v for v in (var, var2) if v], place, rest, ps, d[dm.end():], unf))
+            self.helpers[sig.group(2)] = place
+        self.mod_helpers = {n for (v, pl, inmod, le, b), n in [((x), re.match(r"^(?:(?:abbrev|unfoldable|pub) )*(" + ID + r") : ", x[4]).group(1)) for x in flat if x[2] and re.match(r"^(?:(?:abbrev|unfoldable|pub) )*(" + ID + r") : ", x[4])]}
         # helpers' places first
         for lead, b in items:
             m = re.match(r"^(?:(?:abbrev|unfoldable|pub) )*(" + ID + r") : (?:\{[^}]*\} → )?\((\w+) : tie\.((?:Start|After|Then|Else|In|At|Joined)[A-Za-z0-9_-]*)", b)
@@ -257,10 +420,16 @@ class Turner:
                 head += lead
                 uses.append(b)
                 continue
+            if b.startswith("module _ (") and "tie." in b.split("\n")[0]:
+                continue
             sig = re.match(r"^((?:(?:abbrev|unfoldable|pub) )*)(" + ID + r") : (.*)$", b.split("\n")[0])
+            if sig and sig.group(2) in self.helpers and not sig.group(3).startswith("tie.Need-"):
+                continue
             if not sig:
                 self.say("block: " + b.split("\n")[0][:80])
                 ans.append("\n".join(lead + [b]))
+                for im in re.finditer(r"^  (?:(?:abbrev|unfoldable|pub) )*(" + ID + r") :", b, re.M):
+                    self.pieces["helpers"].append([im.group(1), ans[-1]])
                 continue
             name, typ = sig.group(2), sig.group(3)
             whole_typ = typ
@@ -305,10 +474,23 @@ class Turner:
                 body = self.body(body, at, new, {"c": at})
                 if where:
                     where = self.body(where, at, new, {"c": at})
+                lets, more = self.lets(body + where)
+                if lets:
+                    pre = "\n    " + "\n    ".join(lets) + "\n    "
+                    body = pre + body.lstrip()
+                    if where:
+                        self.say(f"{new} has a where and helpers")
+                if more:
+                    unf = ["unfolding " + " ".join(dict.fromkeys([w for l in unf for w in l.split()[1:]] + more))]
                 asked = self.fn.d["asked"].get(old)
                 by_clause = None
+                if asked and len(asked) == 1:
+                    by_clause = None
+                    body = f" record {{ {asked[0]} = ({body.strip()}) }}" if not lets else pre + f"record {{ {asked[0]} = ({body[len(pre):].strip()}) }}"
                 if asked and len(asked) > 1:
                     tt = tail_tuple(body)
+                    while tt and len(tt[1]) < len(asked) and tail_tuple(tt[1][-1]) and not tail_tuple(tt[1][-1])[0].strip():
+                        tt = (tt[0], tt[1][:-1] + tail_tuple(tt[1][-1])[1])
                     simple = re.search(r"(?:^|\bin|=)\s*(" + ID + r"(?:\.[A-Za-z0-9_'₀-₉-]+)*)\s*$", body)
                     if tt and len(tt[1]) == len(asked):
                         fields = "; ".join(f"{f} = {p}" for f, p in zip(asked, tt[1]))
@@ -319,18 +501,18 @@ class Turner:
                         by_clause = (body[:simple.start(1)], [(f, f"{e}.{n}") for n, f in enumerate(asked)])
                         fields = "; ".join(f"{f} = {e}.{n}" for n, f in enumerate(asked))
                         body = body[:simple.start(1)] + "record { " + fields + " }"
-                    elif "search" not in body:
+                    elif not re.match(r"\s*(search|grind|omega)\b", body[last_in(body):]):
                         # a pair that a lemma gives: its parts
-                        lm = re.search(r"(?:^|\bin)\s*((?:[^()]|\((?:[^()]|\((?:[^()]|\((?:[^()]|\([^()]*\))*\))*\))*\))*)$", body)
-                        e = lm.group(1).strip() if lm else ""
+                        cut = last_in(body)
+                        e = body[cut:].strip()
                         rm = re.match(r"rw (\S+|\((?:[^()]|\((?:[^()]|\((?:[^()]|\([^()]*\))*\))*\))*\)) (.*)$", e, re.S)
                         if rm:
                             pre, e = f"rw {rm.group(1)} ", rm.group(2)
                         else:
                             pre = ""
-                        if e and "∙" not in e and " in " not in e:
+                        if e and "∙" not in re.sub(r"\(.*\)", "", e) and " in " not in re.sub(r"\(.*\)", "", e):
                             e = e if re.match(r"^\(.*\)$", e, re.S) else f"({e})"
-                            by_clause = (body[:lm.start(1)] + pre if lm else pre, [(f, f"{e}.{n}") for n, f in enumerate(asked)])
+                            by_clause = (body[:cut].rstrip() + " " * bool(cut) + pre, [(f, f"{e}.{n}") for n, f in enumerate(asked)])
                         self.say(f"clauses of {new}: {asked}")
                 sep = "\n" if body.startswith("\n") or body.startswith("    ") else " "
                 if body.startswith("\n"):

@@ -1,4 +1,6 @@
 // What rules 5 and 6 ask of a base: at degree two in the words of document 01, and the determinant of its matrix at every degree.
+#![tactic(auto)]
+
 ghost use Rattle.std.specs.Prelude.{◌≡◌, ◌≤◌, ◌<◌, ◌^◌, leb, pos, nat_abs};
 ghost use Rattle.ring.specs.Base.{base_trace, base_norm, discriminant};
 ghost use Rattle.ring.specs.Degree.{part_count};

@@ -1,4 +1,6 @@
 // Conversion at one place.
+#![tactic(auto)]
+
 ghost use Rattle.std.specs.Prelude.{◌≡◌, ◌^◌};
 ghost use Rattle.ring.specs.Tests.{Within, RowsWithin};
 ghost use Rattle.ring.specs.Degree.{part_count};

@@ -1,5 +1,7 @@
 // Quick looks at rule 8 of document 01 and at 42 of document 02: what an operation makes of two alphabet digits is found among the input
 // digits by slots.
+#![tactic(auto)]
+
 ghost use Rattle.std.specs.Prelude.{◌≡◌, true, ℕ, ◌≤◌, ◌<◌, ◌^◌};
 ghost use Rattle.ring.specs.declared.Degree.TheVariants.{Two};
 ghost use Rattle.layout_rules.specs.Section.{of_degree};

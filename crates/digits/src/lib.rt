@@ -1,5 +1,7 @@
 // Elements as they stand in the sections of a table: records, the search among them, the base, and what an operation makes of two digits.
 // Each section is given as its bytes, of a file or not.
+#![tactic(auto)]
+
 ghost use Rattle.std.specs.Prelude.{◌≡◌, ◌+◌, ◌-◌, ◌≤◌, ◌<◌, length};
 ghost use Rattle.ring.specs.declared.Degree.TheVariants.{Two, Three, Four};
 ghost use Rattle.lists.specs.Span.{span};

@@ -1,4 +1,6 @@
 // Rules 1 to 3 of document 01, callable apart: `directory` is rules 1 and 2, `lengths` rule 3.
+#![tactic(auto)]
+
 ghost use Rattle.std.specs.Prelude.{◌≡◌, ◌≤◌, ◌<◌, length};
 ghost use Rattle.lists.specs.Scan.{first_failing};
 ghost use Rattle.layout_rules.specs.Directory.{expected_start, pair_allowed, directory_check};

@@ -1,4 +1,5 @@
 // No function: the edit as a definition, with demands 1 and 3 as theorems.
+#![tactic(auto)]
 
 // The facts of the edit: how many sum bytes it changed, and the longest word that was looked up.
 #[derive(Clone, Copy)]

@@ -1,4 +1,6 @@
 // The row of input indexes: w(j) of document 01, a sum of two digits at each place, or a difference.
+#![tactic(auto)]
+
 ghost use Rattle.std.specs.Prelude.{◌≡◌, ℕ, ◌+◌, ◌*◌, ◌≤◌, ◌<◌, get_or};
 ghost use Rattle.ring.specs.declared.Degree.TheVariants.{Two};
 ghost use Rattle.layout_rules.specs.Section.{of_degree};

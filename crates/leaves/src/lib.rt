@@ -1,4 +1,6 @@
 // The leaves of a table: their words and weights, and the depth. Sections 3 and 4 come as two parts, of a file or not.
+#![tactic(auto)]
+
 ghost use Rattle.std.specs.Prelude.{◌≡◌, List, ℕ, ◌+◌, ◌*◌, ◌≤◌, ◌<◌, length};
 ghost use Rattle.layout_rules.specs.Section.{leaf_size, of_degree};
 ghost use Rattle.ring.specs.Tests.{Within};

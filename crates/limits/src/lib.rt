@@ -1,4 +1,6 @@
 // Rule 4 of document 01: the numbers of a table are inside their size limits.
+#![tactic(auto)]
+
 ghost use Rattle.std.specs.Prelude.{◌≡◌, true, ℕ, ◌+◌, ◌*◌, ◌≤◌, ◌<◌, ◌^◌, length, nat_abs};
 ghost use Rattle.ring.specs.declared.Degree.TheVariants.{Two};
 ghost use Rattle.ring.specs.Degree.{part_count, base_limit};

@@ -1,4 +1,6 @@
 // The look-up: the leaf whose word begins a window, and the length of that word.
+#![tactic(auto)]
+
 ghost use Rattle.std.specs.Prelude.{◌≡◌, ◌+◌, ◌-◌, ◌<◌, ◌≤◌, true, eqb};
 ghost use lib.ListN.{length, get_or};
 ghost use Rattle.layout_rules.specs.Section.{of_degree};

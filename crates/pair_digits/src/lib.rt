@@ -1,4 +1,6 @@
 // The digit of a fitting pair, and whether it is an alphabet digit: rule 14 for one pair.
+#![tactic(auto)]
+
 ghost use Rattle.std.specs.Prelude.{◌≡◌, get_or, true, ◌+◌, ◌<◌, ◌^◌};
 ghost use Rattle.ring.specs.declared.Degree.TheVariants.{Two};
 ghost use Rattle.layout_rules.specs.Section.{of_degree};

@@ -1,5 +1,7 @@
 // The leaf that gives a place its weight from below: the window of input indexes below the place, and the leaf that begins it, with its
 // word's length.
+#![tactic(auto)]
+
 ghost use Rattle.std.specs.Prelude.{◌≡◌, true, ◌+◌, ◌<◌, ◌≤◌, max};
 ghost use Rattle.layout_rules.specs.Section.{of_degree};
 ghost use Rattle.lists.specs.Span.{span};

@@ -1,4 +1,6 @@
 // Rules 9 to 13 of document 01, each by a scan that names the place. Sections 3 and 4 come as two parts, of a file or not.
+#![tactic(auto)]
+
 ghost use Rattle.std.specs.Prelude.{◌≡◌, ◌+◌, ◌-◌, ◌≤◌, ◌<◌, true, length};
 ghost use Rattle.layout_rules.specs.Section.{of_degree};
 ghost use Rattle.numeration.specs.Prefix as prefixes;

@@ -1,4 +1,6 @@
 // The value of a row of digits, with rule 28 of document 01.
+#![tactic(auto)]
+
 ghost use Rattle.std.specs.Prelude.{◌≡◌, ℕ, ◌^◌, ◌≤◌, ◌<◌, length, nat_abs, leb};
 ghost use Rattle.ring.specs.Padded.{width};
 ghost use Rattle.ring.specs.Element.{zeros};

@@ -1,4 +1,6 @@
 // Words as numbers, and the runs of lower leaves that fit an upper one, as places among them.
+#![tactic(auto)]
+
 ghost use Rattle.std.specs.Prelude.{◌≡◌, true, List, ℕ, ◌+◌, ◌-◌, ◌<◌, ◌≤◌, ◌^◌, pred, length, get_or};
 ghost use Rattle.ring.specs.declared.Degree.TheVariants.{Two};
 ghost use Rattle.layout_rules.specs.Section.{of_degree};

@@ -1,0 +1,21 @@
+-- The places passed have their input indexes, and what is known stays true.
+use borrow.Author.Rules.{rules}
+use Rattle.layout_rules.specs.Section.{of_degree}
+use Rattle.digit_rules.specs.Digits.{pair_index}
+use mathlib.Core.Path.{◌≡◌, ap, ap₂, ◌∙◌}
+use Prim.Native.Nat.{◌≤◌, ◌-◌}
+use native.Mathlib.Nat.{le_antisymm}
+use native.Mathlib.Omega.{arith}
+use Rattle.row_rules.specs.Changed.{changed}
+use Rattle.input_rows.specs.Known.{Known}
+use Rattle.place_rules.specs.Helpers.{part_row}
+use Rattle.place_rules.specs.Place.{input_at}
+use Rattle.input_rows.proofs.Known.{known_none}
+use Rattle.place_rules.proofs.Part.{row_start, row_next}
+use Rattle.input_rows.proofs.input_row.Given as goal
+
+abbrev pub invariant-loop-place : goal.invariant-loop-place
+invariant-loop-place l = (l.from ≤ l.place) × (l.place ≤ l.end) × (l.row ≡ part_row (input_at l.operation (of_degree l.degree l.alphabet) (of_degree l.degree l.inputs) (changed l.change 0 l.first) (changed l.change 1 l.second)) l.from l.place) × Known l.operation (of_degree l.degree l.alphabet) (of_degree l.degree l.inputs) l.known
+
+abbrev pub decreases-loop-place : goal.decreases-loop-place
+decreases-loop-place l = l.end - l.place

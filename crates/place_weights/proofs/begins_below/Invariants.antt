@@ -1,0 +1,16 @@
+-- The word's digits passed are the window's; the first of them is given.
+use mathlib.Core.Path.{refl, ◌≡◌, sym, ap, ◌∙◌}
+use Rattle.numeration.specs.Conversion.{window}
+use Rattle.lists.proofs.Test.{clash}
+use borrow.Author.Count.{below_more}
+use lib.ListN.{get_or}
+use native.Mathlib.Omega.{arith}
+use native.Mathlib.Nat.{add-zero}
+use Prim.Native.Nat.{ℕ, ◌+◌, ◌-◌, ◌<◌, ◌≤◌}
+use Rattle.place_weights.proofs.begins_below.Given as goal
+
+abbrev pub invariant-loop-k : goal.invariant-loop-k
+invariant-loop-k l = (1 ≤ l.k) × ((i : ℕ) → i < l.k → get_or l.words (l.start + i) 0 ≡ window l.row l.place i)
+
+abbrev pub decreases-loop-k : goal.decreases-loop-k
+decreases-loop-k l = l.n - l.k

@@ -1,0 +1,16 @@
+use borrow.Author.Rules.{rules}
+use native.Mathlib.Omega.{arith}
+use Prim.Native.Nat.{◌≤◌, ◌-◌}
+use Rattle.place_weights.proofs.first_leaves.Goals as goal
+
+pub overflow_cast-digit : goal.overflow_cast-digit
+overflow_cast-digit c = omega (arith, c.if-inputs-gt255.false)
+
+pub bounds-starts-digit : goal.bounds-starts-digit
+bounds-starts-digit c = omega (arith, c.if-inputs-gt255.false)
+
+pub overflow_add-digit : goal.overflow_add-digit
+overflow_add-digit c = omega (arith, c.if-inputs-gt255.false)
+
+pub bounds-starts-inputs : goal.bounds-starts-inputs
+bounds-starts-inputs c = omega (arith, c.if-inputs-gt255.false)

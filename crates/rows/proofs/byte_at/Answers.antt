@@ -1,0 +1,20 @@
+-- One case for each answer.
+use mathlib.Core.List.{List}
+use mathlib.Core.Path.{sym, ap}
+use Prim.Native.Nat.{ℕ}
+use lib.ListN.{get_or}
+use borrow.Author.Rules.{rules}
+use Rattle.row_rules.proofs.Changed.{changed_other, changed_outside, changed_elsewhere, changed_here}
+use Rattle.rows.proofs.byte_at.Goals as goal
+
+pub returns-then-row-place : goal.returns-then-row-place
+returns-then-row-place c = sym (changed_outside _ _ _ _ c.if-row-place.true)
+
+pub returns-then-change-number : goal.returns-then-change-number
+returns-then-change-number c = sym (ap (λ (r : List ℕ). get_or r c.args.place 0) (changed_other _ _ _ c.if-change-number.true))
+
+pub returns-then-change-place : goal.returns-then-change-place
+returns-then-change-place c = sym (changed_elsewhere _ _ _ _ c.if-change-place.true)
+
+pub returns : goal.returns
+returns c = sym (changed_here _ _ _ _ c.if-change-number.false c.if-change-place.false c.if-row-place.false)
