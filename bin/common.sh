@@ -54,8 +54,8 @@ shown() { # FILE
 # Runs the command's program on a file, `-` being standard input, and writes what it says behind a label.
 # Status: 0 accepted, 1 refused, 2 trouble, which is told.
 answer() { # FILE LABEL
-    # The program takes an error of reading for the table's end. So another reads the file for it and says whether it could; one byte more
-    # than a table may have is as much as the program takes.
+    # An error of reading ends the program, and says nothing of the file. So another reads the file for it and says whether it could; one byte
+    # more than a table may have is as much as the program takes.
     said=$({ { head -c 65536 -- "$1" 2>/dev/null || echo unread >&3; } | "$here/../target/bin/table_$program"; } 3>&1)
     ended=$?
     case $ended:$said in

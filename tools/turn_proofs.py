@@ -14,11 +14,29 @@ import sys
 ID = r"[A-Za-z_μκ◌][A-Za-z0-9_'₀-₉-]*"
 CHAIN = re.compile(r"(?<![A-Za-z0-9_'₀-₉.-])(" + ID + r")((?:\.[A-Za-z0-9_'₀-₉-]+)*)")
 MARK = "\x01"
+FIELDS = """a-leaf all-answered all-sums alphabet-count alphabet-digits alphabet-lies alphabet-limits alphabet-zero asked-at asked-count author-fault base-lies base-limits bytes-are converted-end converted-here converted-next converted-start covered-complete covered-sound depth-high digit-is digit-records editor-fault element-base element-difference element-input element-none element-sum element-weight failing-first first-failing first-indexes fitting-pairs good-base handed-on in-digits in-element in-numbers in-places in-section in-values in-whose input-digits input-lies input-limits input-zero is-size keeps-base keeps-difference keeps-sum known-row leaf-lies leaf-records lower-begins lower-found lower-there lowers-pass lowest-lower lowest-upper no-square none-deeper none-longer of-beta of-element of-omega of-s of-t of-u of-v only-facts ordered-code pairs-are refused-lent rows-fault rows-stored runs-failing runs-passing same-facts second-indexes some-input some-leaf some-leaves the-leaf upper-begins upper-there uppers-pass value-add value-is value-lit value-mul value-zero weight-limits weight-zero word-lies zero-first""".split()
 KEEP = {"args", "requires", "ranges", "lifetimes", "type_inv", "well_formed", "utf8"}
 
 
 def norm(s):
+    # two names that tools/respell.py turned as fields, where they are steps
+    s = {"leaf_count_within": "leaf-count", "input_count_within": "input-count"}.get(s, s)
     return s.replace("_", "-") if s else s
+
+
+def pick(fields, digits):
+    """Which clause a path into nested pairs names, and what is left of the path; None for a path that ends between clauses."""
+    k, i = 0, 0
+    while k < len(fields) - 1:
+        if i >= len(digits) or not digits[i].isdigit():
+            return None
+        if digits[i] == "0":
+            return fields[k], digits[i + 1:]
+        if int(digits[i]) > 1:
+            k = min(k + int(digits[i]), len(fields) - 1)
+            return fields[k], digits[i + 1:]
+        k, i = k + 1, i + 1
+    return fields[k], digits[i:]
 
 
 class Fn:
@@ -91,10 +109,46 @@ def blocks(text):
     return [(l, "\n".join(b).rstrip()) for l, b in out], lead
 
 
+def inline_pairs(s):
+    """Puts a pair that a `let` names without a type where it is used."""
+    while True:
+        found = None
+        for m in re.finditer(r"let (" + ID + r") = \(", s):
+            depth, j = 1, m.end()
+            while j < len(s) and depth:
+                depth += s[j] == "("
+                depth -= s[j] == ")"
+                j += 1
+            if re.match(r"\s+in\b", s[j:]) and len(split_top(s[m.end():j - 1], ",")) > 1:
+                found = (m, j)
+                break
+        if not found:
+            return s
+        m, j = found
+        pair, name = s[m.end() - 1:j], m.group(1)
+        rest = re.sub(r"^\s+in\b", "", s[j:])
+        use = re.compile(r"(?<![A-Za-z0-9_'₀-₉.-])" + re.escape(name) + r"(?![A-Za-z0-9_'₀-₉-])")
+        s = s[:m.start()].rstrip() + use.sub(lambda _: pair, rest)
+
+
+def ends_with_rw(s):
+    """Whether a text ends with `rw E`, whose goal is still to come."""
+    s = s.rstrip()
+    if s.endswith(")"):
+        depth = 0
+        for i in range(len(s) - 1, -1, -1):
+            depth += s[i] == ")"
+            depth -= s[i] == "("
+            if depth == 0:
+                return bool(re.search(r"\brw\s*$", s[:i]))
+        return False
+    return bool(re.search(r"\brw \S+$", s))
+
+
 def last_in(s):
     """The place behind the last `in` that stands in no brackets."""
     depth, at = 0, 0
-    for m in re.finditer(r"[(\[{]|[)\]}]|\bin\b", s):
+    for m in re.finditer(r"[(\[{]|[)\]}]|(?<![\w.-])in(?![\w-])", s):
         if m.group(0) in "([{":
             depth += 1
         elif m.group(0) in ")]}":
@@ -147,7 +201,7 @@ def tail_tuple(body):
             if depth == 0:
                 break
     head = s[:i]
-    if head.strip() and not re.search(r"(\bin|=|\brw (\S+|\([^()]*\)))\s*$", head):
+    if head.strip() and not re.search(r"((?<![\w.-])in|=)\s*$", head) and not ends_with_rw(head):
         return None
     parts = [p.strip() for p in split_top(s[i + 1:-1], ",")]
     if parts and not parts[-1]:
@@ -176,9 +230,9 @@ class Turner:
             if rest == ["ensures"] and c and c.get("fields") and len(c["fields"]) > 1:
                 return ["ensures", "\0" + ",".join(c["fields"])]
             if rest[0] == "ensures" and len(rest) > 1 and rest[1].isdigit() and c and c.get("fields"):
-                k = int(rest[1])
-                if k < len(c["fields"]) and len(c["fields"]) > 1:
-                    rest = [rest[0], c["fields"][k]] + rest[2:]
+                got = pick(c["fields"], rest[1:])
+                if got and len(c["fields"]) > 1:
+                    rest = [rest[0], got[0]] + got[1]
         return rest
 
     def chain(self, m, at, roots, need):
@@ -187,8 +241,9 @@ class Turner:
             sp = self.step_alias[root]
             if sp == "requires":
                 pre = (self.fn.d.get("pre") or {}).get("fields") or []
-                if len(pre) > 1 and tail[0].isdigit() and int(tail[0]) < len(pre):
-                    tail[0] = pre[int(tail[0])]
+                if len(pre) > 1 and tail[0].isdigit() and pick(pre, tail):
+                    got = pick(pre, tail)
+                    tail = [got[0]] + got[1]
                 return ".".join([root] + tail)
             rest = self.fields(at, sp, tail)
             if rest and rest[-1].startswith("\0"):
@@ -196,6 +251,13 @@ class Turner:
                 parts = ", ".join(f"{e}.{f}" for f in rest[-1][1:].split(","))
                 return parts if in_list(m.string, m.start()) else f"({parts})"
             return ".".join([root] + rest)
+        if root not in roots and root in getattr(self, "place_alias", {}) and (tail or root not in self.helpers):
+            roots = dict(roots)
+            roots[root] = self.place_alias[root]
+            if tail:
+                m2 = CHAIN.match("c" + m.group(2))
+                root = "c"
+                roots["c"] = self.place_alias[m.group(1)]
         if root not in roots:
             return m.group(0)
         place = roots[root]
@@ -207,15 +269,15 @@ class Turner:
         if not rest:
             return self.whole(m, root, place, k, at, need)
         out = "c" if root in self.as_c else root
-        if rest[0] == "pre":
-            rest = ["requires"] + rest[1:]
+        rest = [{"pre": "requires", "fits": "ranges"}.get(rest[0], rest[0])] + rest[1:]
         if rest[0] in KEEP:
             if len(rest) > 1:
                 rest[1] = self.fn.args.get((rest[0], rest[1]), rest[1])
             pre = (self.fn.d.get("pre") or {}).get("fields") or []
             if rest[0] == "requires" and pre:
-                if len(rest) > 1 and rest[1].isdigit() and len(pre) > 1 and int(rest[1]) < len(pre):
-                    rest[1] = pre[int(rest[1])]
+                if len(rest) > 1 and rest[1].isdigit() and len(pre) > 1 and pick(pre, rest[1:]):
+                    got = pick(pre, rest[1:])
+                    rest = ["requires", got[0]] + got[1]
                 elif len(pre) == 1 and rest[1:2] != pre:
                     rest = ["requires", pre[0]] + rest[1:]
                 elif len(rest) == 1 and len(pre) > 1:
@@ -295,6 +357,10 @@ class Turner:
         out = re.sub(r"\s*\(" + MARK + r"\)", "", out)
         out = re.sub(r"\s*" + MARK, "", out)
         out = self.types(out)
+        # a clause each, where two were rewritten at once
+        out = re.sub(r"\brw (\S+|\([^()]*\)) at \((c\.[^\s,()]+), (c\.[^\s,()]+)\)", r"(rw \1 at \2, rw \1 at \3)", out)
+        out = re.sub(r"\brw (\S+|\([^()]*\)) at \((c\.[^\s,()]+), (c\.[^\s,()]+), (c\.[^\s,()]+)\)", r"(rw \1 at \2, rw \1 at \3, rw \1 at \4)", out)
+        out = inline_pairs(out)
         out = re.sub(r"\(not-(?:false|true) _ (c\.if-not-[A-Za-z0-9_-]+\.(?:false|true))\)", r"\1", out)
         out = re.sub(r"not-(?:false|true) _ (c\.if-not-[A-Za-z0-9_-]+\.(?:false|true))", r"\1", out)
         return out
@@ -314,6 +380,10 @@ class Turner:
                         bare = re.compile(r"(?<![A-Za-z0-9_'₀-₉.-])c(?![A-Za-z0-9_'₀-₉-])")
                         ps = ["c'" if p == "c" else p for p in ps]
                         body, typ = bare.sub("c'", body), bare.sub("c'", typ)
+                    mine = self.extra.get(w, [])
+                    for o, ns in self.extra.items():
+                        if o != w and all(x in mine for x in ns):
+                            body = re.sub(r"(?<![A-Za-z0-9_'₀-₉.-])" + re.escape(o) + r"(?![A-Za-z0-9_'₀-₉-])", f"({o} {' '.join(ns)})", body)
                     self.as_c = {"c"} | set(vs)
                     roots = {v: place for v in vs}
                     if "c" not in ps:
@@ -352,6 +422,9 @@ class Turner:
 
     def turn(self):
         text = open(os.path.join(self.folder, "Proof.antt"), encoding="utf-8").read()
+        # fields of our records, where a proof makes one
+        for f in FIELDS:
+            text = re.sub(r"(?<![A-Za-z0-9_'-])" + re.escape(f) + r"(?= =)", f.replace("-", "_"), text)
         items, tail = blocks(text)
         uses, inv, ans = [], [], []
         head = []
@@ -359,18 +432,44 @@ class Turner:
         roots0 = {}
         # helpers: (name, its own place's variable, place, the rest of its type, its further parameters, body, unfolding)
         flat = []
+
+        def module(lead, b, var, place, extra):
+            m = re.match(r"^module _ ((?:\([^\n]*\))) where\n", b)
+            if not m:
+                flat.append((var, place, var is not None, lead, b, extra))
+                return
+            groups, depth, cur = [], 0, ""
+            for ch in m.group(1):
+                depth += ch == "("
+                depth -= ch == ")"
+                cur += ch
+                if depth == 0 and ch == ")":
+                    groups.append(cur.strip()[1:-1])
+                    cur = ""
+            inner = "\n".join(l[2:] for l in b[m.end():].split("\n"))
+            more = list(extra)
+            for g in groups:
+                pm = re.match(r"(\w+) : tie\.((?:Start|After|Then|Else|In|At|Joined)[A-Za-z0-9_-]*)", g)
+                if pm and var is None:
+                    var, place = pm.group(1), self.fn.place(pm.group(2))
+                else:
+                    more.append((g.split(" : ")[0].split(), g))
+            if var is None:
+                flat.append((None, None, False, lead, b, []))
+                return
+            for lead2, b2 in blocks(inner)[0]:
+                module(lead2, b2, var, place, more)
+
         for lead, b in items:
-            m = re.match(r"^module _ \((\w+) : tie\.((?:Start|After|Then|Else|In|At|Joined)[A-Za-z0-9_-]*)(?: invariant-\S+| decreases-\S+)*\) where\n", b)
-            if m:
-                inner = "\n".join(l[2:] for l in b[m.end():].split("\n"))
-                sub, _ = blocks(inner)
-                for lead2, b2 in sub:
-                    flat.append((m.group(1), self.fn.place(m.group(2)), True, lead2, b2))
+            if b.startswith("module _"):
+                module(lead, b, None, None, [])
             else:
-                flat.append((None, None, False, lead, b))
+                flat.append((None, None, False, lead, b, []))
         self.inline = []
         place_type = r"tie\.((?:Start|After|Then|Else|In|At|Joined)[A-Za-z0-9_-]*)(?: invariant-\S+| decreases-\S+)*"
-        for var, place, inmod, lead, b in flat:
+        self.place_alias = {}
+        self.extra = {}
+        for var, place, inmod, lead, b, extra in flat:
             sig = re.match(r"^((?:(?:abbrev|unfoldable|pub) )*)(" + ID + r") : ", b)
             if not sig:
                 continue
@@ -390,6 +489,11 @@ class Turner:
                     continue
             else:
                 rest = typ
+            if re.fullmatch(place_type, typ) and not extra:
+                # a place by another name
+                self.place_alias[sig.group(2)] = self.fn.place(re.match(place_type, typ).group(1))
+                self.helpers[sig.group(2)] = place
+                continue
             unf = [w for l in lines[k:] if l.startswith("unfolding ") for w in l.split()[1:]]
             d = " ".join(l.strip() for l in lines[k:] if not l.startswith("unfolding ") and l.strip())
             dm = re.match(re.escape(sig.group(2)) + r"((?: [^\s=]+)*) =\s?", d)
@@ -401,9 +505,12 @@ class Turner:
                 var2, ps = (ps[0], ps[1:]) if ps else ("c", [])
             else:
                 var2 = var
+            if extra:
+                rest = "".join(f"({g}) → " for _, g in extra) + rest
+                ps = [n for ns, _ in extra for n in ns] + ps
+                self.extra[sig.group(2)] = [n for ns, _ in extra for n in ns]
             self.inline.append((sig.group(2), [v for v in (var, var2) if v], place, rest, ps, d[dm.end():], unf))
             self.helpers[sig.group(2)] = place
-        self.mod_helpers = {n for (v, pl, inmod, le, b), n in [((x), re.match(r"^(?:(?:abbrev|unfoldable|pub) )*(" + ID + r") : ", x[4]).group(1)) for x in flat if x[2] and re.match(r"^(?:(?:abbrev|unfoldable|pub) )*(" + ID + r") : ", x[4])]}
         # helpers' places first
         for lead, b in items:
             m = re.match(r"^(?:(?:abbrev|unfoldable|pub) )*(" + ID + r") : (?:\{[^}]*\} → )?\((\w+) : tie\.((?:Start|After|Then|Else|In|At|Joined)[A-Za-z0-9_-]*)", b)
@@ -420,7 +527,7 @@ class Turner:
                 head += lead
                 uses.append(b)
                 continue
-            if b.startswith("module _ (") and "tie." in b.split("\n")[0]:
+            if b.startswith("module _ (") and re.search(r": tie\.", b.split("\n")[0]):
                 continue
             sig = re.match(r"^((?:(?:abbrev|unfoldable|pub) )*)(" + ID + r") : (.*)$", b.split("\n")[0])
             if sig and sig.group(2) in self.helpers and not sig.group(3).startswith("tie.Need-"):
@@ -494,8 +601,9 @@ class Turner:
                     simple = re.search(r"(?:^|\bin|=)\s*(" + ID + r"(?:\.[A-Za-z0-9_'₀-₉-]+)*)\s*$", body)
                     if tt and len(tt[1]) == len(asked):
                         fields = "; ".join(f"{f} = {p}" for f, p in zip(asked, tt[1]))
-                        by_clause = (tt[0], list(zip(asked, tt[1])))
-                        body = tt[0] + "record { " + fields + " }"
+                        rewrites = ends_with_rw(tt[0])
+                        by_clause = (tt[0], [(f, f"({p})" if rewrites else p) for f, p in zip(asked, tt[1])])
+                        body = tt[0] + ("(record { " + fields + " })" if rewrites else "record { " + fields + " }")
                     elif simple:
                         e = simple.group(1)
                         by_clause = (body[:simple.start(1)], [(f, f"{e}.{n}") for n, f in enumerate(asked)])
@@ -505,13 +613,24 @@ class Turner:
                         # a pair that a lemma gives: its parts
                         cut = last_in(body)
                         e = body[cut:].strip()
-                        rm = re.match(r"rw (\S+|\((?:[^()]|\((?:[^()]|\((?:[^()]|\([^()]*\))*\))*\))*\)) (.*)$", e, re.S)
-                        if rm:
-                            pre, e = f"rw {rm.group(1)} ", rm.group(2)
-                        else:
-                            pre = ""
+                        pre = ""
+                        if e.startswith("rw "):
+                            n = 3
+                            if e[3] == "(":
+                                n, depth = 3, 0
+                                while n < len(e):
+                                    depth += e[n] == "("
+                                    depth -= e[n] == ")"
+                                    n += 1
+                                    if depth == 0:
+                                        break
+                            else:
+                                n = 3 + len(e[3:].split()[0])
+                            pre, e = e[:n] + " ", e[n:].strip()
+                            if e.startswith("at "):
+                                pre, e = pre + "at ", e[3:].strip()
                         if e and "∙" not in re.sub(r"\(.*\)", "", e) and " in " not in re.sub(r"\(.*\)", "", e):
-                            e = e if re.match(r"^\(.*\)$", e, re.S) else f"({e})"
+                            e = e if re.match(r"^(\(.*\)|[A-Za-z_.-]+)$", e, re.S) else f"({e})"
                             by_clause = (body[:cut].rstrip() + " " * bool(cut) + pre, [(f, f"{e}.{n}") for n, f in enumerate(asked)])
                         self.say(f"clauses of {new}: {asked}")
                 sep = "\n" if body.startswith("\n") or body.startswith("    ") else " "

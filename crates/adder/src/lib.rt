@@ -1,4 +1,6 @@
 // Addition and subtraction of two rows: one body, with the operation on two digits as a parameter.
+#![tactic(auto)]
+
 ghost use Rattle.std.specs.Prelude.{◌≡◌, ℕ, ◌+◌, ◌≤◌, ◌<◌, length, get_or};
 ghost use Rattle.lists.specs.Scan.{first_failing};
 ghost use Rattle.lists.specs.Overwrite.{overwrite};

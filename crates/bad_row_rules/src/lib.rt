@@ -1,4 +1,6 @@
 // No function: the call that shows a bad row as a definition, with demand 1 and what it shows as theorems.
+#![tactic(auto)]
+
 use faults::Fault;
 use midpoint::Element;
 

@@ -1,6 +1,8 @@
 // The tables TERN and BIN, carried as constant arrays and handed out as files. Directory and base are stored as they stand in the file; of
 // digits and leaves the non-negative half is: the digits from zero up, and the leaves whose words begin with one of these, each with its
 // length, its word, filled up with zeros to the longest, and its weight. The other half is formed by mirroring.
+#![tactic(auto)]
+
 ghost use Rattle.std.specs.Prelude.{◌≡◌};
 ghost use Rattle.carried.specs.Tables.{tern_file, bin_file};
 

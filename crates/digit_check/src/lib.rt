@@ -1,5 +1,7 @@
 // Rules 5 to 8 of document 01, on the base, the alphabet and the input digits, and 42 of document 02. Each section is given as its bytes,
 // of a file or not.
+#![tactic(auto)]
+
 ghost use Rattle.std.specs.Prelude.{◌≡◌, ◌<◌, ltb, nat_abs};
 ghost use Rattle.layout_rules.specs.Section.{of_degree};
 ghost use Rattle.lists.specs.Scan.{first_failing};

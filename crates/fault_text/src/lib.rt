@@ -1,4 +1,6 @@
 // Faults and buffers as text, as the programs write them into a lent buffer.
+#![tactic(auto)]
+
 ghost use Rattle.std.specs.Prelude.{◌≡◌, ◌++◌, ◌+◌, ◌≤◌, ◌<◌, length};
 ghost use Rattle.lists.specs.Overwrite.{overwrite};
 ghost use Rattle.text_rules.specs.Decimal.{decimal};

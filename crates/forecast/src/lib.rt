@@ -1,5 +1,7 @@
 // The forecast: the number of a table's fitting leaf pairs, and the bytes that the sum of two rows of so many digits needs. It judges no
 // pair's digit and adds nothing.
+#![tactic(auto)]
+
 ghost use Rattle.std.specs.Prelude.{◌≡◌, ◌+◌, ◌≤◌, ◌<◌};
 ghost use Rattle.numeration.specs.PairCount.{pair_count};
 ghost use Rattle.reader_rules.specs.Table.{leaves_in};

@@ -1,4 +1,6 @@
 // No function: the forecast as a definition, with demand 1 and what its facts are as theorems.
+#![tactic(auto)]
+
 use faults::Fault;
 
 // The facts of the forecast: the number of fitting leaf pairs, and the bytes that the sum of two rows needs.

@@ -1,4 +1,6 @@
 // The line of a leaf as the program `show` writes it: its number, its word in columns, its weight.
+#![tactic(auto)]
+
 ghost use Rattle.std.specs.Prelude.{◌≡◌, ◌+◌, ◌≤◌, ◌<◌, length};
 ghost use Rattle.lists.specs.Overwrite.{overwrite};
 ghost use Rattle.layout_rules.specs.Section.{of_degree};

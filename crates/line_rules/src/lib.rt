@@ -1,1 +1,2 @@
 // No function: the program's line as a definition, with whole lines computed.
+#![tactic(auto)]

@@ -1,4 +1,6 @@
 // The lines of a table as the program `show` writes them, each written from the start of a lent buffer.
+#![tactic(auto)]
+
 ghost use Rattle.std.specs.Prelude.{◌≡◌, ◌+◌, ◌*◌, ◌≤◌, ◌<◌, length};
 ghost use Rattle.lists.specs.Overwrite.{overwrite};
 ghost use Rattle.layout_rules.specs.Section.{of_degree};

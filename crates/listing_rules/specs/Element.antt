@@ -1,5 +1,5 @@
 -- For the programs' output only; a reader may skip this file. An element as people write it, `w` standing for ω: `-1`, `2+3w`,
--- `1+2w_w^2+3w^3`.
+-- `1+2w-w^2+3w^3`.
 use Rattle.std.specs.Prelude.{true, false, ◌&&◌, List, [], ◌++◌, ℕ, zero, suc, ◌-◌, eqb, ltb, ℤ, pos, nat_abs, length, replicate}
 use Rattle.std.specs.Int.Signed.{lt_z}
 use Rattle.ring.specs.Element.{part}

@@ -1,5 +1,7 @@
 // A table of whole numbers formed of its non-negative half: every digit, and every leaf with its word, is written twice, as it is stored and
 // as its mirror image. A store past the buffer's end is left out, so that no half asks for more than small numbers.
+#![tactic(auto)]
+
 ghost use Rattle.std.specs.Prelude.{◌≡◌, true, false, cond, ◌+◌, ◌*◌, ◌≤◌, ◌<◌, ltb, length, set};
 ghost use Rattle.mirror_rules.specs.Half.{mirror_index, stored_number, image_number, bits_of, put_number, put_digit, put_digits, mirrored_file};
 ghost use Rattle.mirror_rules.specs.Half.{word_digit, word_number, images_below, leaf_place, word_place, put_word, put_leaf, put_leaves};

@@ -1,5 +1,7 @@
 // Rule 14's quick look, by sets of weights: how many upper leaves, from the first on, are seen to give alphabet digits in all their pairs, and
 // how many pairs these are.
+#![tactic(auto)]
+
 ghost use Rattle.std.specs.Prelude.{◌≡◌, List, ℕ, ◌/◌, ◌<◌, ◌≤◌, ◌^◌, length, get_or};
 ghost use Rattle.layout_rules.specs.Section.{of_degree};
 ghost use Rattle.ring.specs.Tests.{RowsWithin};

@@ -1,4 +1,6 @@
 // Rule 14: the fitting pairs of leaves.
+#![tactic(auto)]
+
 ghost use Rattle.std.specs.Prelude.{◌≡◌, length, get_or, true, ◌+◌, ◌<◌, ◌≤◌, ◌^◌, min, pred};
 ghost use Rattle.ring.specs.Degree.{part_count};
 ghost use Rattle.ring.specs.Tests.{RowsWithin};

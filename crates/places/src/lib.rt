@@ -1,4 +1,6 @@
 // Conversion place by place: the alphabet indexes of the digits that come out of a row of input indexes.
+#![tactic(auto)]
+
 ghost use Rattle.std.specs.Prelude.{◌≡◌, ◌+◌, ◌≤◌, ◌<◌, ◌^◌, length};
 ghost use Rattle.ring.specs.Degree.{part_count};
 ghost use Rattle.lists.specs.Span.{span};

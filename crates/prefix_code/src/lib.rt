@@ -1,5 +1,7 @@
 // The leaves of a table as a complete prefix code: rules 9 to 13 of document 01 by a quick look that says yes or nothing, in front of the
 // scans. Sections 3 and 4 come as two parts, of a file or not.
+#![tactic(auto)]
+
 ghost use Rattle.std.specs.Prelude.{◌≡◌, ℕ, ◌+◌, ◌≤◌, ◌<◌, true, length, get_or};
 ghost use Rattle.layout_rules.specs.Section.{of_degree};
 ghost use Rattle.leaf_rules.specs.Leaf.{leaf_count, code_of};

@@ -1,4 +1,6 @@
 // The reader of a table: rules 1 to 13 of document 01, and the facts that addition, edit and value go by.
+#![tactic(auto)]
+
 ghost use Rattle.std.specs.Prelude.{◌≡◌, ◌<◌};
 ghost use Rattle.layout_rules.specs.Directory.{directory_check};
 ghost use Rattle.layout_rules.specs.Section.{bytes_of};

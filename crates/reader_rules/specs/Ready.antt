@@ -50,6 +50,6 @@ pub record Ready (file : List ℕ) : Type 0 where
   pub leaf_count_within : (1 ≤ leaf_count (leaf_part file)) × (leaf_count (leaf_part file) ≤ 4000)
   -- the base section as its readers ask for it
   pub base : BasePart (base_part file)
-  -- the look_up's answer on a window of input indexes is the one leaf of every string that starts so, and its word's length
+  -- the look-up's answer on a window of input indexes is the one leaf of every string that starts so, and its word's length
   pub look_up : (window : List ℕ) (r : ℕ) → Inputs (input_count file) window → LookedUp (leaves_in file) window r → (w : ℕ → ℕ) → Agree (digits window) w 8
       → (r < leaf_count (leaf_part file)) × (r ≡ leaf_of (leaves_in file) w) × (length_given (leaf_part file) r ≡ (leaves_in file).size (leaf_of (leaves_in file) w))

@@ -1,4 +1,5 @@
 // No function: check, addition and a list of edits one after the other, as definitions with their laws.
+#![tactic(auto)]
 
 // The facts of a run: how many edits were called.
 #[derive(Clone, Copy)]

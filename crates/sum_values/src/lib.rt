@@ -1,1 +1,2 @@
 // No function: the value call and addition together, in proofs/.
+#![tactic(auto)]

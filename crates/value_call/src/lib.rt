@@ -1,4 +1,6 @@
 // The value of a row: rules 1 to 13 of the table, 20 and 21 of the row, then 28.
+#![tactic(auto)]
+
 ghost use Rattle.std.specs.Prelude.{◌≡◌};
 ghost use Rattle.layout_rules.specs.Section.{of_degree};
 ghost use Rattle.digit_rules.specs.BaseMatrix.{base_matrix};

@@ -9,8 +9,15 @@ use native.Mathlib.Omega.{arith}
 use borrow.Author.Rules.{rules}
 use Rattle.place_weights.proofs.leaf_below.Goals as goal
 
-pub returns-clause-leaf : goal.returns-clause-leaf
-returns-clause-leaf c =
+pub returns-then-begins_below : goal.returns-then-begins_below
+returns-then-begins_below c =
+    let s = c in
+    let a = s.args in
+    let listed : a.guess < leaf_count (of_degree a.degree a.leaves.now) = omega (arith, c.leaf_count.ensures, c.if-leaf-leaf_count.true) in
+    record { leaf = leaf_begun (of_degree a.degree a.leaves.now) a.words.now a.row.now s.requires.0 a.place a.guess _ listed (c.begins_below.ensures c.if-begins_below.true) refl; reach = omega (arith, s.requires.2 listed) }
+
+pub returns : goal.returns
+returns c =
     let s = c in
     let a = s.args in
     let leaves = of_degree a.degree a.leaves.now in
@@ -18,29 +25,4 @@ returns-clause-leaf c =
     let found = c.look_up_within-below in
     let is = leaf_found leaves words a.row.now s.requires.0 a.place found.result.leaf found.result.length
     (subst (λ w. LookedUp (code_of leaves words) w found.result.leaf) c.window_below.ensures found.ensures.leaf) found.ensures.length in
-    record { is_leaf = is.is_leaf; is-size = refl; listed = is.listed }
-
-pub returns-clause-reach : goal.returns-clause-reach
-returns-clause-reach c =
-    let s = c in
-    let a = s.args in
-    let leaves = of_degree a.degree a.leaves.now in
-    let words = a.words.now in
-    let found = c.look_up_within-below in
-    let is = leaf_found leaves words a.row.now s.requires.0 a.place found.result.leaf found.result.length
-    (subst (λ w. LookedUp (code_of leaves words) w found.result.leaf) c.window_below.ensures found.ensures.leaf) found.ensures.length in
-    c.greatest.ensures ∙ ap (max a.reach) is.is_size
-
-pub returns-then-begins_below-clause-leaf : goal.returns-then-begins_below-clause-leaf
-returns-then-begins_below-clause-leaf c =
-    let s = c in
-    let a = s.args in
-    let listed : a.guess < leaf_count (of_degree a.degree a.leaves.now) = omega (arith, c.leaf_count_within.ensures, c.if-leaf-leaf_count.true) in
-    leaf_begun (of_degree a.degree a.leaves.now) a.words.now a.row.now s.requires.0 a.place a.guess _ listed (c.begins_below.ensures c.if-begins_below.true) refl
-
-pub returns-then-begins_below-clause-reach : goal.returns-then-begins_below-clause-reach
-returns-then-begins_below-clause-reach c =
-    let s = c in
-    let a = s.args in
-    let listed : a.guess < leaf_count (of_degree a.degree a.leaves.now) = omega (arith, c.leaf_count_within.ensures, c.if-leaf-leaf_count.true) in
-    omega (arith, s.requires.2 listed)
+    record { leaf = record { is_leaf = is.is_leaf; is_size = refl; listed = is.listed }; reach = c.greatest.ensures ∙ ap (max a.reach) is.is_size }

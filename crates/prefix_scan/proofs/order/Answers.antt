@@ -16,6 +16,9 @@ use Rattle.prefix_scan.proofs.order.Goals as goal
 pub loop-leaf-init : goal.loop-leaf-init
 loop-leaf-init c = (search rules, simp sub-zero)
 
+pub overflow_add-leaf : goal.overflow_add-leaf
+overflow_add-leaf c = let s = c in omega (arith, c.loop-leaf.invariant.0, c.leaf_count-count.ensures, leaves_most (of_degree s.args.degree s.args.leaves.now))
+
 pub returns-then-not-precedes : goal.returns-then-not-precedes
 unfolding order_check
 returns-then-not-precedes c = judge_here 11 (λ k. k + 1) _ (leaf_count (of_degree c.args.degree c.args.leaves.now) - 1) c.loop-leaf.leaf c.loop-leaf.invariant.1 (omega arith) (sym c.precedes.ensures ∙ c.if-not-precedes.true)

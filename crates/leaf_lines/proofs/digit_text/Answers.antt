@@ -1,0 +1,25 @@
+-- A digit of the word, `?` for a word that is empty, nothing past its end.
+use Rattle.layout_rules.specs.Section.{of_degree}
+use Rattle.listing_rules.proofs.Lines.{digit_there, digit_unread, digit_past}
+use Rattle.text_rules.specs.Bytes.{bytes_of}
+use Rattle.lists.proofs.Overwrite.{overwrite_none}
+use native.Mathlib.Omega.{arith}
+use mathlib.Core.Path.{refl, sym}
+use borrow.Author.Rules.{rules}
+use Rattle.leaf_lines.proofs.digit_text.Goals as goal
+
+pub returns-then-i-word-clause-count : goal.returns-then-i-word-clause-count
+returns-then-i-word-clause-count c =
+    let a = c.args in
+    rw (digit_there (of_degree a.degree a.inputs.now) a.word.now a.i c.if-i-word.true) (rw c.wide.ensures.same at c.input_text.ensures.count)
+
+pub returns-then-i-word-clause-buffer : goal.returns-then-i-word-clause-buffer
+returns-then-i-word-clause-buffer c =
+    let a = c.args in
+    rw (digit_there (of_degree a.degree a.inputs.now) a.word.now a.i c.if-i-word.true) (rw c.wide.ensures.same at c.input_text.ensures.buffer)
+
+pub returns-clause-count : goal.returns-clause-count
+returns-clause-count c = rw (digit_past (of_degree c.args.degree c.args.inputs.now) c.args.word.now c.args.i c.if-i-word.false c.if-i-eq0.false) (refl)
+
+pub returns-clause-buffer : goal.returns-clause-buffer
+returns-clause-buffer c = rw (digit_past (of_degree c.args.degree c.args.inputs.now) c.args.word.now c.args.i c.if-i-word.false c.if-i-eq0.false) (sym (overwrite_none c.args.out.now 0))

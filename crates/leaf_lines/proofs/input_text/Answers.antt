@@ -1,0 +1,21 @@
+-- The record, or `?` where there is none.
+use Prim.Native.Nat.{◌^◌}
+use Rattle.ring.proofs.Element.{within_le}
+use Rattle.layout_rules.specs.Section.{of_degree}
+use Rattle.listing_rules.proofs.Lines.{input_there, input_missing}
+use Rattle.listing_rules.proofs.Element.{element_short}
+use Rattle.text_rules.specs.Bytes.{bytes_of}
+use native.Mathlib.Omega.{arith}
+use borrow.Author.Rules.{rules}
+use Rattle.leaf_lines.proofs.input_text.Goals as goal
+
+pub put_element-requires : goal.put_element-requires
+put_element-requires c = record { room = omega (arith, element_short _ c.record_at.ensures.within, c.requires); parts = within_le 32768 (2 ^ 62) _ (omega arith) c.record_at.ensures.within }
+
+pub returns-clause-count : goal.returns-clause-count
+unfolding bytes_of
+returns-clause-count c = rw (input_missing (of_degree c.args.degree c.args.inputs.now) c.args.k (omega arith)) (omega (arith, c.put.ensures.next))
+
+pub returns-clause-buffer : goal.returns-clause-buffer
+unfolding bytes_of
+returns-clause-buffer c = rw (input_missing (of_degree c.args.degree c.args.inputs.now) c.args.k (omega arith)) (c.put.ensures.written)

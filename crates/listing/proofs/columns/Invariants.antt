@@ -1,0 +1,20 @@
+-- After some leaves the most is the largest of their shown words, and 1 at least.
+use Rattle.layout_rules.specs.Section.{of_degree}
+use Rattle.listing_rules.specs.Listing.{word_shown, columns_for}
+use Rattle.leaf_rules.proofs.Leaf.{largest_next}
+use Rattle.leaf_rules.specs.Leaf.{leaf_count}
+use Rattle.numeration.specs.LeafOf.{largest}
+use borrow.Author.Rules.{rules}
+use lib.ListN.{length}
+use native.Mathlib.Omega.{arith}
+use Prim.Native.Nat.{◌-◌, ◌≤◌, max}
+use mathlib.Core.Logic.{⊎_elim}
+use mathlib.Core.Path.{◌≡◌, refl, ap}
+use Rattle.listing.proofs.columns.Given as goal
+
+abbrev pub invariant-loop-leaf : goal.invariant-loop-leaf
+invariant-loop-leaf l =
+    (l.leaf ≤ l.count) × (l.most ≡ max 1 (largest (λ k. length (word_shown (of_degree l.degree l.leaves) l.words k)) l.leaf)) × (l.most ≤ 8)
+
+abbrev pub decreases-loop-leaf : goal.decreases-loop-leaf
+decreases-loop-leaf l = l.count - l.leaf

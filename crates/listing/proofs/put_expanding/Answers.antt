@@ -1,0 +1,21 @@
+-- One of two words.
+use Rattle.listing_rules.specs.Listing.{expanding_word}
+use Rattle.text_rules.specs.Bytes.{bytes_of}
+use borrow.Author.Rules.{rules}
+use Rattle.listing.proofs.put_expanding.Goals as goal
+
+pub returns-then-expanding-clause-end : goal.returns-then-expanding-clause-end
+unfolding bytes_of expanding_word
+returns-then-expanding-clause-end c = rw c.if-expanding.true (c.put.ensures.next)
+
+pub returns-then-expanding-clause-buffer : goal.returns-then-expanding-clause-buffer
+unfolding bytes_of expanding_word
+returns-then-expanding-clause-buffer c = rw c.if-expanding.true (c.put.ensures.written)
+
+pub returns-clause-end : goal.returns-clause-end
+unfolding bytes_of expanding_word
+returns-clause-end c = rw c.if-expanding.false (c.put-2.ensures.next)
+
+pub returns-clause-buffer : goal.returns-clause-buffer
+unfolding bytes_of expanding_word
+returns-clause-buffer c = rw c.if-expanding.false (c.put-2.ensures.written)

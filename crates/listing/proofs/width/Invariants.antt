@@ -1,0 +1,25 @@
+-- After some records the longest is the largest of their texts' lengths.
+use mathlib.Core.Path.{◌≡◌, refl, ap, ap₂, ◌∙◌}
+use mathlib.Core.Logic.{⊎_elim}
+use Prim.Native.Nat.{ℕ, ◌+◌, ◌-◌, ◌*◌, ◌/◌, ◌≤◌}
+use native.Mathlib.Omega.{arith}
+use native.Mathlib.Nat.{div-le_self}
+use lib.ListN.{length}
+use borrow.Author.Rules.{rules}
+use Rattle.numeration.specs.LeafOf.{largest}
+use Rattle.listing_rules.specs.Listing.{widest}
+use Rattle.listing_rules.specs.Element.{element_text}
+use Rattle.listing_rules.proofs.Lines.{element_inside}
+use Rattle.leaf_rules.proofs.Leaf.{largest_next}
+use Rattle.layout_rules.specs.Section.{of_degree, element_size, record_count}
+use Rattle.layout_rules.specs.Limit.{element_start}
+use Rattle.layout_rules.proofs.Limit.{element_held}
+use Rattle.layout_rules.proofs.Length.{sized}
+use Rattle.digit_rules.specs.Record.{element_at}
+use Rattle.listing.proofs.width.Given as goal
+
+abbrev pub invariant-loop-k : goal.invariant-loop-k
+invariant-loop-k l = (l.k ≤ l.count) × (l.longest ≡ largest (λ i. length (element_text (element_at (of_degree l.degree l.part) (element_start l.degree l.section i)))) l.k) × (l.longest ≤ 31)
+
+abbrev pub decreases-loop-k : goal.decreases-loop-k
+decreases-loop-k l = l.count - l.k

@@ -1,0 +1,30 @@
+-- All upper leaves passed so far pass: the weights of all that fit one are among those that give digits with it.
+use Rattle.layout_rules.specs.Section.{of_degree}
+use Rattle.leaf_rules.specs.Leaf.{leaf_count, code_of}
+use Rattle.lists.specs.Count.{total}
+use Rattle.numeration.specs.PairCount.{pairs_below}
+use Rattle.numeration.proofs.PairCount.{pairs_next, pairs_within}
+use Rattle.leaf_rules.specs.Given.{weight_given}
+use borrow.Author.Tests.{not-false}
+use Rattle.digit_rules.specs.Record.{element_count}
+use Rattle.weight_sets.proofs.Weights.{zeros_none}
+use Rattle.pair_sets.proofs.Pass.{all_next, none_judged}
+use Rattle.runs.proofs.Keys.{first_digit, ready_words}
+use Rattle.table_rules.proofs.Fitting.{reads, first_input}
+use Rattle.prefix_rules.proofs.Formed.{formed}
+use Rattle.pair_sets.specs.Runs.{AllPass}
+use Rattle.weight_sets.specs.Weights.{Judged}
+use mathlib.Core.Path.{◌≡◌, refl, sym, ap, ◌∙◌}
+use Prim.Native.Nat.{ℕ, ◌+◌, ◌-◌, ◌/◌, ◌<◌, ◌≤◌}
+use native.Mathlib.Omega.{arith}
+use lib.ListN.{get_or}
+use borrow.Author.Rules.{rules}
+use Rattle.pair_sets.proofs.all_in.Given as goal
+
+abbrev pub invariant-loop-upper : goal.invariant-loop-upper
+invariant-loop-upper l =
+    (l.guess ≤ l.leaf_count) × ((l.upper ≤ l.leaf_count) × (l.pairs ≡ pairs_below (code_of (of_degree l.degree l.leaves) l.words) l.upper)) × AllPass l.base (of_degree l.degree l.alphabet) (of_degree l.degree l.inputs) (of_degree l.degree l.leaves) l.words l.upper × Judged l.base (of_degree l.degree l.alphabet) (of_degree l.degree l.inputs) (of_degree l.degree l.leaves) l.first l.made l.good
+
+abbrev pub decreases-loop-upper : goal.decreases-loop-upper
+decreases-loop-upper l =
+    l.leaf_count - l.upper

@@ -1,0 +1,35 @@
+use Rattle.runs.proofs.Places.{between_above, between_below, between_met}
+use Rattle.runs.specs.Words.{Between}
+use mathlib.Core.Path.{sym, ap, subst, ◌∙◌}
+use Rattle.weight_sets.proofs.Bits.{has_single}
+use Rattle.pair_sets.proofs.Runs.{run_next}
+use Prim.Native.Nat.{ℕ, ◌-◌, ◌≤◌, ◌^◌}
+use native.Mathlib.Omega.{arith}
+use lib.ListN.{get_or, set}
+use borrow.Author.Rules.{rules}
+use Rattle.pair_sets.specs.Runs.{InRun}
+use Rattle.weight_sets.specs.Bits.{Has}
+use Rattle.pair_sets.proofs.one_by_one.Goals as goal
+
+pub loop-leaf-init : goal.loop-leaf-init
+loop-leaf-init c = (c.requires.room.2, λ start between. between, λ start before. before)
+
+pub returns-then-last-keys : goal.returns-then-last-keys
+returns-then-last-keys c = record { end = λ start between. between_below _ _ _ _ _ _ (c.loop-leaf.invariant.1 start between) _ (omega arith) c.loop-leaf-test.true c.if-last-keys.true; set = c.loop-leaf.invariant.2 }
+
+pub single-set-requires : goal.single-set-requires
+single-set-requires c = omega (arith, c.wide.ensures.same, c.requires.weights c.loop-leaf.leaf c.loop-leaf-test.true)
+
+pub loop-leaf-preserved : goal.loop-leaf-preserved
+loop-leaf-preserved c =
+    let numbers = c.args.numbers.now in
+    let loop = c.loop-leaf in (
+      omega arith,
+      λ start between. between_above _ _ _ _ _ _ (loop.invariant.1 start between) _ (omega arith) c.loop-leaf-test.true (omega (arith, c.if-last-keys.false)),
+      λ start before. run_next numbers c.args.count start loop.set loop.leaf c.single-set.result
+          (subst (λ (x : ℕ). Has x (get_or numbers loop.leaf 0)) (sym (c.single-set.ensures ∙ ap (λ (n : ℕ). 2 ^ n) c.wide.ensures.same)) (has_single (get_or numbers loop.leaf 0)))
+          (loop.invariant.2 start before),
+    )
+
+pub returns : goal.returns
+returns c = record { end = λ start between. between_met _ _ _ _ _ _ (c.loop-leaf.invariant.1 start between) (omega (arith, c.loop-leaf-test.false)); set = c.loop-leaf.invariant.2 }

@@ -1,0 +1,16 @@
+-- The places passed agree.
+use mathlib.Core.Path.{◌≡◌, refl, sym}
+use mathlib.Core.Bool.{Bool, true, false}
+use Prim.Native.Nat.{ℕ, ◌+◌, ◌-◌, ◌<◌, ◌≤◌}
+use native.Mathlib.Omega.{arith}
+use lib.ListN.{length, get_or}
+use borrow.Author.Count.{below_more}
+use Rattle.numeration.specs.LeafOf.{agree}
+use Rattle.numeration.proofs.Agreement.{agree_sound, agree_complete}
+use Rattle.pairs.proofs.fit.Given as goal
+
+abbrev pub invariant-loop-i : goal.invariant-loop-i
+invariant-loop-i l = (l.i ≤ length l.lower) × ((k : ℕ) → k < l.i → get_or l.upper (k + 1) 0 ≡ get_or l.lower k 0)
+
+abbrev pub decreases-loop-i : goal.decreases-loop-i
+decreases-loop-i l = length l.lower - l.i

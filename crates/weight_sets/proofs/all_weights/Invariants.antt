@@ -1,0 +1,16 @@
+-- The numbers passed are in the set.
+use Rattle.weight_sets.proofs.Bits.{has_left, has_right, has_single}
+use borrow.Author.Count.{below_more}
+use mathlib.Core.Path.{sym, subst}
+use Prim.Native.Nat.{ℕ, ◌-◌, ◌<◌}
+use native.Mathlib.Omega.{arith}
+use lib.ListN.{set}
+use borrow.Author.Rules.{rules}
+use Rattle.weight_sets.specs.Bits.{Has}
+use Rattle.weight_sets.proofs.all_weights.Given as goal
+
+abbrev pub invariant-loop-number : goal.invariant-loop-number
+invariant-loop-number l = (j : ℕ) → j < l.number → Has l.set j
+
+abbrev pub decreases-loop-number : goal.decreases-loop-number
+decreases-loop-number l = l.count - l.number

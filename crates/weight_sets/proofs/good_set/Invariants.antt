@@ -1,0 +1,16 @@
+-- Each weight in the set gives an alphabet digit with the part.
+use Rattle.layout_rules.specs.Section.{of_degree}
+use Rattle.weight_sets.proofs.Bits.{has_none}
+use Rattle.weight_sets.proofs.Weights.{good_next}
+use Prim.Native.Nat.{◌-◌}
+use native.Mathlib.Omega.{arith}
+use lib.ListN.{set}
+use borrow.Author.Rules.{rules}
+use Rattle.weight_sets.specs.Weights.{Good}
+use Rattle.weight_sets.proofs.good_set.Given as goal
+
+abbrev pub invariant-loop-number : goal.invariant-loop-number
+invariant-loop-number l = Good (of_degree l.degree l.alphabet) (of_degree l.degree l.leaves) l.first l.part l.good
+
+abbrev pub decreases-loop-number : goal.decreases-loop-number
+decreases-loop-number l = l.count - l.number

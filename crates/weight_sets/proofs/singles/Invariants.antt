@@ -1,0 +1,16 @@
+-- The sets passed have their leaf's weight.
+use Rattle.weight_sets.proofs.Bits.{has_single}
+use Rattle.lists.proofs.Entries.{entry_next}
+use mathlib.Core.Path.{◌≡◌, refl, sym, ap, subst, ◌∙◌}
+use Prim.Native.Nat.{ℕ, ◌+◌, ◌-◌, ◌<◌, ◌^◌}
+use native.Mathlib.Omega.{arith}
+use lib.ListN.{length, get_or, set, length-set}
+use borrow.Author.Rules.{rules}
+use Rattle.weight_sets.specs.Bits.{Has}
+use Rattle.weight_sets.proofs.singles.Given as goal
+
+abbrev pub invariant-loop-leaf : goal.invariant-loop-leaf
+invariant-loop-leaf l = (length l.sets ≡ length l.initial.sets) × ((k : ℕ) → k < l.leaf → Has (get_or l.sets k 0) (get_or l.numbers k 0))
+
+abbrev pub decreases-loop-leaf : goal.decreases-loop-leaf
+decreases-loop-leaf l = l.count - l.leaf
