@@ -1,5 +1,5 @@
 -- No call changes a length; the edits that are left fall at each turn.
-use Rattle.std.proofs.Common.{◌≡◌, ◌-◌, ◌≤◌, length}
+use Rattle.std.proofs.Common.{◌-◌, ◌≤◌, length}
 use Rattle.exercises.proofs.changes.listed.Given as goal
 
 abbrev pub invariant-loop-i : goal.invariant-loop-i
