@@ -1,0 +1,62 @@
+-- The outcome of the call that shows a bad row in words, and the string, which it wrote into nine bytes copied from the buffer.
+use mathlib.Core.Path.{refl, ◌∙◌}
+use Rattle.answer_rules.proofs.Shown.{no_words, no_bytes, as_shown}
+use Rattle.answer_rules.specs.Answer.{outcome_words, bad_row_words}
+use Rattle.bad_row.specs.Answer.{shown_as}
+use Rattle.layout_rules.specs.Section.{degree_in}
+use Rattle.lists.specs.Overwrite.{overwrite}
+use Rattle.adder_c.proofs.bad_rows.yoyomyrtle_bad_row.Goals as goal
+
+pub returns-then-answer-lt8-clause-outcome : goal.returns-then-answer-lt8-clause-outcome
+returns-then-answer-lt8-clause-outcome c =
+    let a = c.args in
+    (no_words (degree_in a.table.now) a.table.now a.string.now a.answer.now c.if-answer-lt8.true).0
+
+pub returns-then-answer-lt8-clause-answer : goal.returns-then-answer-lt8-clause-answer
+returns-then-answer-lt8-clause-answer c =
+    let a = c.args in
+    (no_words (degree_in a.table.now) a.table.now a.string.now a.answer.now c.if-answer-lt8.true).1.0
+
+pub returns-then-answer-lt8-clause-string : goal.returns-then-answer-lt8-clause-string
+returns-then-answer-lt8-clause-string c =
+    let a = c.args in
+    (no_words (degree_in a.table.now) a.table.now a.string.now a.answer.now c.if-answer-lt8.true).1.1
+
+pub returns-then-string-lt9-clause-outcome : goal.returns-then-string-lt9-clause-outcome
+returns-then-string-lt9-clause-outcome c =
+    let a = c.args in
+    (no_bytes (degree_in a.table.now) a.table.now a.string.now a.answer.now c.if-string-lt9.true).0
+
+pub returns-then-string-lt9-clause-answer : goal.returns-then-string-lt9-clause-answer
+returns-then-string-lt9-clause-answer c =
+    let a = c.args in
+    (no_bytes (degree_in a.table.now) a.table.now a.string.now a.answer.now c.if-string-lt9.true).1.0
+
+pub returns-then-string-lt9-clause-string : goal.returns-then-string-lt9-clause-string
+returns-then-string-lt9-clause-string c =
+    let a = c.args in
+    (no_bytes (degree_in a.table.now) a.table.now a.string.now a.answer.now c.if-string-lt9.true).1.1
+
+pub returns-clause-outcome : goal.returns-clause-outcome
+returns-clause-outcome c =
+    let a = c.args in
+    let words = c.shown-status.ensures.answer ∙ (λ i. overwrite a.answer.now 0 (outcome_words (bad_row_words (c.degree_in-degree.ensures i)) (shown_as c.bad_row.result))) in
+    (as_shown (degree_in a.table.now) a.table.now a.string.now a.answer.now _ _ _ _ _ _ _ c.if-answer-lt8.false c.if-string-lt9.false
+    c.put.ensures.written refl c.put_nine.ensures.nine (c.bad_row.ensures.answer, c.bad_row.ensures.string) (c.shown-status.ensures.status, words)
+    c.put_nine.ensures.written).0
+
+pub returns-clause-answer : goal.returns-clause-answer
+returns-clause-answer c =
+    let a = c.args in
+    let words = c.shown-status.ensures.answer ∙ (λ i. overwrite a.answer.now 0 (outcome_words (bad_row_words (c.degree_in-degree.ensures i)) (shown_as c.bad_row.result))) in
+    (as_shown (degree_in a.table.now) a.table.now a.string.now a.answer.now _ _ _ _ _ _ _ c.if-answer-lt8.false c.if-string-lt9.false
+    c.put.ensures.written refl c.put_nine.ensures.nine (c.bad_row.ensures.answer, c.bad_row.ensures.string) (c.shown-status.ensures.status, words)
+    c.put_nine.ensures.written).1.0
+
+pub returns-clause-string : goal.returns-clause-string
+returns-clause-string c =
+    let a = c.args in
+    let words = c.shown-status.ensures.answer ∙ (λ i. overwrite a.answer.now 0 (outcome_words (bad_row_words (c.degree_in-degree.ensures i)) (shown_as c.bad_row.result))) in
+    (as_shown (degree_in a.table.now) a.table.now a.string.now a.answer.now _ _ _ _ _ _ _ c.if-answer-lt8.false c.if-string-lt9.false
+    c.put.ensures.written refl c.put_nine.ensures.nine (c.bad_row.ensures.answer, c.bad_row.ensures.string) (c.shown-status.ensures.status, words)
+    c.put_nine.ensures.written).1.1
