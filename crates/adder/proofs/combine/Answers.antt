@@ -15,7 +15,6 @@ use Rattle.reader_rules.specs.TableFacts.{table_facts}
 use Rattle.reader_rules.specs.Check.{read_as}
 use Rattle.adder_rules.specs.Sum.{digit_count}
 use Rattle.adder_rules.proofs.Sum.{table_refused, rows_refused, rows_passed, buffer_lent, buffer_by}
-use borrow.Author.Rules.{rules}
 use Rattle.adder.proofs.combine.Goals as goal
 
 pub returns-in_default : goal.returns-in_default

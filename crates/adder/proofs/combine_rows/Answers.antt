@@ -11,7 +11,6 @@ use Rattle.faults.specs.declared.Refusal.{Refusal}
 use Rattle.lists.specs.Overwrite.{overwrite}
 use lib.Dec.{lit<}
 use mathlib.Core.Path.{◌≡◌, sym, ap, ◌∙◌}
-use borrow.Author.Rules.{rules}
 use Rattle.adder.proofs.combine_rows.Goals as goal
 
 pub section-alphabet-requires : goal.section-alphabet-requires

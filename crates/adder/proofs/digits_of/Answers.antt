@@ -18,7 +18,6 @@ use Rattle.place_rules.specs.Place.{index_at, digit_allowed}
 use Rattle.adder_rules.specs.Add.{row_part}
 use Rattle.reader_rules.proofs.Ready.{ready_passed}
 use Rattle.adder_rules.proofs.Table.{directory_kept, few_digits, few_inputs, base_small, inputs_in, windows_begun}
-use borrow.Author.Rules.{rules}
 use Rattle.adder.proofs.digits_of.Goals as goal
 
 pub section-requires : goal.section-requires

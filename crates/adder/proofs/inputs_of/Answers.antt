@@ -2,7 +2,6 @@
 use mathlib.Core.Path.{◌∙◌}
 use native.Mathlib.Omega.{arith}
 use lib.Dec.{lit<}
-use borrow.Author.Rules.{rules}
 use Rattle.reader_rules.proofs.Kept.{section_is}
 use Rattle.row_rules.specs.Changed.{changed}
 use Rattle.place_rules.specs.Place.{input_at}

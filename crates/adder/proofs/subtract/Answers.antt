@@ -1,7 +1,6 @@
 -- The answer of the one body, told as that of a subtraction.
 use Rattle.adder.specs.Answer.{outcome_of}
 use mathlib.Core.Path.{sym, ap, ◌∙◌}
-use borrow.Author.Rules.{rules}
 use Rattle.adder.proofs.subtract.Goals as goal
 
 pub returns-in-Sum : goal.returns-in-Sum

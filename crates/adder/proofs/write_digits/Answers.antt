@@ -16,7 +16,6 @@ use Rattle.lists.specs.Overwrite.{overwrite}
 use Rattle.faults.proofs.Exit.{exit_lent, exit_written}
 use Rattle.adder_rules.proofs.Sum.{digits_refused, digits_given, digits_found, digits_room}
 use Rattle.adder_rules.proofs.Rows.{read_unchanged, row_held, few_places}
-use borrow.Author.Rules.{rules}
 use Rattle.adder.proofs.write_digits.Goals as goal
 
 pub inputs_of-row-requires : goal.inputs_of-row-requires

@@ -1,6 +1,5 @@
 -- The table's fault by the reader is passed on; else what is shown.
 use mathlib.Core.Path.{sym, ap, ◌∙◌}
-use borrow.Author.Rules.{rules}
 use Rattle.bad_row_rules.proofs.Shows.{passed_shows, lent_kept, lent_written}
 use Rattle.bad_row_rules.specs.BadRow.{bad_row_outcome}
 use Rattle.bad_row_rules.specs.Shows.{Shows}

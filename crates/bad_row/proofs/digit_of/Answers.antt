@@ -4,7 +4,6 @@ use Prim.Native.Nat.{◌<◌, ◌^◌, ◌+◌}
 use native.Mathlib.Omega.{arith}
 use lib.ListN.{get_or}
 use lib.Dec.{lit<}
-use borrow.Author.Rules.{rules}
 use Rattle.bad_row.proofs.Table.{first_there, digit_is}
 use Rattle.bad_row_rules.proofs.Size.{digit_fits}
 use Rattle.reader_rules.proofs.Kept.{layout_kept, table_kept, sections, section_is}

@@ -4,7 +4,6 @@ use Prim.Native.Nat.{◌<◌}
 use native.Mathlib.Omega.{arith}
 use lib.ListN.{length}
 use lib.Dec.{lit<}
-use borrow.Author.Rules.{rules}
 use Rattle.bad_row.proofs.Table.{word_long, string_given}
 use Rattle.bad_row.specs.Words.{word_string}
 use Rattle.bad_row_rules.proofs.Shows.{shows_nothing, shows_pair, fails_first}

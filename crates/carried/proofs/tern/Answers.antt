@@ -6,7 +6,6 @@ use Rattle.layout_rules.specs.Number.{unsigned_at}
 use Rattle.lists.specs.Span.{span}
 use Rattle.lists.specs.Overwrite.{overwrite}
 use Rattle.lists.specs.Count.{total}
-use borrow.Author.Rules.{rules}
 use Rattle.carried.proofs.tern.Goals as goal
 
 pub returns : goal.returns

@@ -10,7 +10,6 @@ use Rattle.listing_rules.proofs.Element.{element_none, element_some, element_roo
 use Rattle.lists.proofs.Pieces.{Put}
 use Rattle.lists.proofs.Overwrite.{overwrite_none}
 use Rattle.listing_rules.specs.Element.{element_text}
-use borrow.Author.Rules.{rules}
 use Rattle.element_text.proofs.put_element.Goals as goal
 
 -- nothing was written

@@ -13,7 +13,7 @@ use Rattle.ring.specs.Element.{part}
 use Rattle.ring.proofs.Parts.{entry}
 use Rattle.listing_rules.specs.Element.{part_text, parts_text}
 use Rattle.listing_rules.proofs.Element.{parts_next, parts_before}
-use Rattle.lists.proofs.Pieces.{Put, put_none, put_more}
+use Rattle.lists.proofs.Pieces.{put_none, put_more}
 use Rattle.integers.proofs.Machine.{stored_is, stored_below}
 use Rattle.element_text.proofs.put_parts.Goals as goal
 

@@ -5,7 +5,6 @@ use lib.ListN.{length}
 use Rattle.text_rules.specs.Bytes.{bytes_of}
 use Rattle.listing_rules.proofs.Element.{power_none, power_one, power_more}
 use Rattle.lists.proofs.Pieces.{put_none}
-use borrow.Author.Rules.{rules}
 use Rattle.element_text.proofs.put_power.Goals as goal
 
 pub put-requires : goal.put-requires

@@ -4,10 +4,9 @@ use Rattle.listing_rules.proofs.Element.{right_length}
 use Rattle.listing_rules.specs.Element.{right}
 use Rattle.lists.proofs.Overwrite.{overwrite_none}
 use Rattle.lists.specs.Overwrite.{overwrite}
-use borrow.Author.Rules.{rules}
 use lib.ListN.{length, set, replicate, length-replicate, length-set}
 use native.Mathlib.Omega.{arith}
-use Prim.Native.Nat.{ℕ, ◌+◌, ◌-◌, ◌≤◌}
+use Prim.Native.Nat.{ℕ, ◌+◌, ◌-◌}
 use mathlib.Core.Path.{◌≡◌, refl, sym, ap, ap₂, ◌∙◌}
 use Rattle.element_text.proofs.put_right.Goals as goal
 

@@ -1,15 +1,8 @@
 -- After some spaces the buffer has as many written as are filled beyond the text.
-use Rattle.lists.proofs.Pieces.{Put, put_more}
-use Rattle.listing_rules.proofs.Space.{space_more}
-use Rattle.listing_rules.proofs.Element.{right_length}
-use Rattle.listing_rules.specs.Element.{right}
-use Rattle.lists.proofs.Overwrite.{overwrite_none}
 use Rattle.lists.specs.Overwrite.{overwrite}
-use borrow.Author.Rules.{rules}
-use lib.ListN.{length, set, replicate, length-replicate, length-set}
-use native.Mathlib.Omega.{arith}
-use Prim.Native.Nat.{ℕ, ◌+◌, ◌-◌, ◌≤◌}
-use mathlib.Core.Path.{◌≡◌, refl, sym, ap, ap₂, ◌∙◌}
+use lib.ListN.{length, replicate}
+use Prim.Native.Nat.{◌+◌, ◌-◌, ◌≤◌}
+use mathlib.Core.Path.{◌≡◌}
 use Rattle.element_text.proofs.put_right.Given as goal
 
 abbrev pub invariant-loop-filled : goal.invariant-loop-filled

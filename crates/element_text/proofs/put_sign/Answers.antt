@@ -8,7 +8,6 @@ use Rattle.text_rules.specs.Bytes.{bytes_of}
 use Rattle.listing_rules.proofs.Element.{sign_below, sign_none, sign_above}
 use Rattle.lists.proofs.Pieces.{put_none}
 use Rattle.element_text.proofs.Zero.{sign_test}
-use borrow.Author.Rules.{rules}
 use Rattle.element_text.proofs.put_sign.Goals as goal
 
 pub put-requires : goal.put-requires

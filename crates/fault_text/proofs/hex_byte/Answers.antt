@@ -1,7 +1,6 @@
 -- Digits below ten and from ten on are apart.
 use mathlib.Core.Path.{sym}
 use Rattle.text_rules.proofs.Hex.{hex_low, hex_high}
-use borrow.Author.Rules.{rules}
 use Rattle.fault_text.proofs.hex_byte.Goals as goal
 
 pub returns-then-d-lt10 : goal.returns-then-d-lt10

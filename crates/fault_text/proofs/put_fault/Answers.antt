@@ -2,7 +2,6 @@
 use Rattle.text_rules.proofs.Fault.{by_case}
 use Rattle.text_rules.specs.Bytes.{bytes_of}
 use Rattle.text_rules.specs.Fault.{refused_word, place_word, group_word, fault_text}
-use borrow.Author.Rules.{rules}
 use Rattle.fault_text.proofs.put_fault.Goals as goal
 
 pub returns-in-Author-clause-end : goal.returns-in-Author-clause-end

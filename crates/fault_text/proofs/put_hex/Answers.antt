@@ -3,7 +3,6 @@ use Rattle.text_rules.proofs.Hex.{hex_none, hex_some}
 use lib.ListN.{length}
 use native.Mathlib.Omega.{arith}
 use mathlib.Core.Path.{ap}
-use borrow.Author.Rules.{rules}
 use Rattle.fault_text.proofs.put_hex.Goals as goal
 
 pub put-requires : goal.put-requires

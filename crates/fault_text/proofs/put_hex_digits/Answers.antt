@@ -3,10 +3,9 @@ use Rattle.text_rules.specs.Hex.{hex_digits}
 use Rattle.lists.proofs.Overwrite.{overwrite_none}
 use Rattle.lists.specs.Overwrite.{overwrite}
 use lib.Seq.{take_all}
-use lib.ListN.{length, take, length-set}
+use lib.ListN.{length, length-set}
 use native.Mathlib.Omega.{arith}
-use mathlib.Core.Path.{◌≡◌, refl, sym, ap, ◌∙◌}
-use Prim.Native.Nat.{◌+◌, ◌-◌, ◌*◌, ◌≤◌}
+use mathlib.Core.Path.{refl, sym, ap, ◌∙◌}
 use Rattle.fault_text.proofs.put_hex_digits.Goals as goal
 
 pub loop-i-init : goal.loop-i-init

@@ -1,12 +1,8 @@
 -- After i bytes the buffer has the digits of the first i written.
-use Rattle.text_rules.proofs.Hex.{length_hex_digits, hex_step}
 use Rattle.text_rules.specs.Hex.{hex_digits}
-use Rattle.lists.proofs.Overwrite.{overwrite_none}
 use Rattle.lists.specs.Overwrite.{overwrite}
-use lib.Seq.{take_all}
-use lib.ListN.{length, take, length-set}
-use native.Mathlib.Omega.{arith}
-use mathlib.Core.Path.{◌≡◌, refl, sym, ap, ◌∙◌}
+use lib.ListN.{length, take}
+use mathlib.Core.Path.{◌≡◌}
 use Prim.Native.Nat.{◌+◌, ◌-◌, ◌*◌, ◌≤◌}
 use Rattle.fault_text.proofs.put_hex_digits.Given as goal
 

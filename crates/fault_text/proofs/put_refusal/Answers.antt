@@ -6,7 +6,6 @@ use Rattle.text_rules.specs.Decimal.{decimal}
 use Rattle.text_rules.specs.Bytes.{bytes_of}
 use Rattle.text_rules.specs.Fault.{place_word}
 use native.Mathlib.Omega.{arith}
-use borrow.Author.Rules.{rules}
 use Rattle.fault_text.proofs.put_refusal.Goals as goal
 
 pub put_item-end-requires : goal.put_item-end-requires

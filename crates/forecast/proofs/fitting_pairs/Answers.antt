@@ -8,7 +8,6 @@ use Rattle.reader_rules.proofs.Kept.{layout_kept, table_kept, sections, section_
 use Rattle.prefix_rules.specs.Check.{leaf_check}
 use Rattle.numeration.specs.PairCount.{pair_count}
 use Rattle.leaf_rules.specs.Leaf.{leaf_count, code_of}
-use borrow.Author.Rules.{rules}
 use Rattle.forecast.proofs.fitting_pairs.Goals as goal
 
 pub section-requires : goal.section-requires

@@ -14,7 +14,6 @@ use Rattle.faults.specs.declared.Refusal.{Refusal}
 use Rattle.faults.specs.Stated.{whose, number_of, place_of}
 use Rattle.faults.specs.Outcome.{facts, refused, author, rows}
 use Rattle.faults.proofs.Unless.{unless_found, unless_none}
-use borrow.Author.Rules.{rules}
 use Rattle.forecast.proofs.forecast.Goals as goal
 
 pub returns-in_default : goal.returns-in_default

@@ -1,12 +1,9 @@
-use borrow.Author.Rules.{rules}
 use Rattle.layout_rules.specs.Section.{of_degree}
 use Rattle.digit_rules.specs.Digits.{pair_index}
-use mathlib.Core.Path.{◌≡◌, ap, ap₂, ◌∙◌}
-use Prim.Native.Nat.{◌≤◌, ◌-◌}
+use mathlib.Core.Path.{ap, ap₂, ◌∙◌}
 use native.Mathlib.Nat.{le_antisymm}
 use native.Mathlib.Omega.{arith}
 use Rattle.row_rules.specs.Changed.{changed}
-use Rattle.input_rows.specs.Known.{Known}
 use Rattle.place_rules.specs.Helpers.{part_row}
 use Rattle.place_rules.specs.Place.{input_at}
 use Rattle.input_rows.proofs.Known.{known_none}

@@ -1,17 +1,11 @@
 -- The places passed have their input indexes, and what is known stays true.
-use borrow.Author.Rules.{rules}
 use Rattle.layout_rules.specs.Section.{of_degree}
-use Rattle.digit_rules.specs.Digits.{pair_index}
-use mathlib.Core.Path.{◌≡◌, ap, ap₂, ◌∙◌}
+use mathlib.Core.Path.{◌≡◌}
 use Prim.Native.Nat.{◌≤◌, ◌-◌}
-use native.Mathlib.Nat.{le_antisymm}
-use native.Mathlib.Omega.{arith}
 use Rattle.row_rules.specs.Changed.{changed}
 use Rattle.input_rows.specs.Known.{Known}
 use Rattle.place_rules.specs.Helpers.{part_row}
 use Rattle.place_rules.specs.Place.{input_at}
-use Rattle.input_rows.proofs.Known.{known_none}
-use Rattle.place_rules.proofs.Part.{row_start, row_next}
 use Rattle.input_rows.proofs.input_row.Given as goal
 
 abbrev pub invariant-loop-place : goal.invariant-loop-place

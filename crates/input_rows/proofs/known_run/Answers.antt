@@ -1,8 +1,6 @@
 use Rattle.input_rows.proofs.Known.{run_start, run_next}
-use Rattle.input_rows.specs.Known.{KnownRun}
 use Rattle.row_rules.specs.Changed.{changed}
 use native.Mathlib.Omega.{arith}
-use Prim.Native.Nat.{◌≤◌, ◌-◌}
 use mathlib.Core.Path.{refl}
 use Rattle.input_rows.proofs.known_run.Goals as goal
 

@@ -1,10 +1,7 @@
 -- The places passed hold what is known of their pairs.
-use Rattle.input_rows.proofs.Known.{run_start, run_next}
 use Rattle.input_rows.specs.Known.{KnownRun}
 use Rattle.row_rules.specs.Changed.{changed}
-use native.Mathlib.Omega.{arith}
 use Prim.Native.Nat.{◌≤◌, ◌-◌}
-use mathlib.Core.Path.{refl}
 use Rattle.input_rows.proofs.known_run.Given as goal
 
 abbrev pub invariant-loop-at : goal.invariant-loop-at

@@ -4,7 +4,6 @@ use native.Mathlib.Omega.{arith}
 use Rattle.layout_rules.specs.Section.{of_degree}
 use Rattle.place_rules.proofs.Place.{pair_index_high}
 use Rattle.input_rows.proofs.Known.{known_more, either_order}
-use borrow.Author.Rules.{rules}
 use Rattle.input_rows.proofs.learn.Goals as goal
 
 pub overflow_cast-index : goal.overflow_cast-index

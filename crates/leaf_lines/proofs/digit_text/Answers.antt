@@ -5,7 +5,6 @@ use Rattle.text_rules.specs.Bytes.{bytes_of}
 use Rattle.lists.proofs.Overwrite.{overwrite_none}
 use native.Mathlib.Omega.{arith}
 use mathlib.Core.Path.{refl, sym}
-use borrow.Author.Rules.{rules}
 use Rattle.leaf_lines.proofs.digit_text.Goals as goal
 
 pub returns-then-i-word-clause-count : goal.returns-then-i-word-clause-count

@@ -6,7 +6,6 @@ use Rattle.listing_rules.proofs.Lines.{input_there, input_missing}
 use Rattle.listing_rules.proofs.Element.{element_short}
 use Rattle.text_rules.specs.Bytes.{bytes_of}
 use native.Mathlib.Omega.{arith}
-use borrow.Author.Rules.{rules}
 use Rattle.leaf_lines.proofs.input_text.Goals as goal
 
 pub put_element-requires : goal.put_element-requires

@@ -1,7 +1,7 @@
 -- Six pieces, one behind the other: at most 20, 1, 256, 3, 31 and 1 bytes.
 use mathlib.Core.Path.{refl}
 use mathlib.Core.List.{List, ◌++◌}
-use Prim.Native.Nat.{ℕ, ◌+◌, ◌*◌, ◌≤◌, ◌<◌}
+use Prim.Native.Nat.{ℕ, ◌≤◌, ◌<◌}
 use native.Mathlib.Omega.{arith}
 use lib.IntN.{ℤ}
 use lib.ListN.{length, get_or, length-append}

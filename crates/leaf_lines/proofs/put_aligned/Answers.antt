@@ -3,12 +3,11 @@ use Prim.Native.Nat.{◌^◌}
 use Rattle.ring.proofs.Element.{within_le}
 use Rattle.lists.proofs.Pieces.{put_taken}
 use Rattle.listing_rules.proofs.Element.{element_short}
-use Rattle.listing_rules.specs.Element.{element_text, right}
+use Rattle.listing_rules.specs.Element.{element_text}
 use lib.ListN.{length}
 use lib.Seq.{length-take-le}
 use native.Mathlib.Omega.{arith}
 use mathlib.Core.Path.{sym}
-use borrow.Author.Rules.{rules}
 use Rattle.leaf_lines.proofs.put_aligned.Goals as goal
 
 pub put_element-end-requires : goal.put_element-end-requires

@@ -8,7 +8,6 @@ use Rattle.text_rules.specs.Bytes.{bytes_of}
 use lib.Seq.{length-take-le}
 use native.Mathlib.Omega.{arith}
 use mathlib.Core.Path.{sym}
-use borrow.Author.Rules.{rules}
 use Rattle.leaf_lines.proofs.put_column.Goals as goal
 
 pub put-start-requires : goal.put-start-requires

@@ -7,7 +7,6 @@ use Rattle.text_rules.specs.Decimal.{decimal}
 use lib.Seq.{length-take-le}
 use native.Mathlib.Omega.{arith}
 use mathlib.Core.Path.{sym}
-use borrow.Author.Rules.{rules}
 use Rattle.leaf_lines.proofs.put_number.Goals as goal
 
 pub put_decimal-end-requires : goal.put_decimal-end-requires

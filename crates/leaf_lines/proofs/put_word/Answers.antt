@@ -1,13 +1,13 @@
 use Rattle.layout_rules.specs.Section.{of_degree}
 use Rattle.listing_rules.specs.Listing.{column_text, word_text}
-use Prim.Native.Nat.{◌+◌, ◌-◌, ◌≤◌}
-use Rattle.lists.proofs.Pieces.{Put, put_none, put_more}
+use Prim.Native.Nat.{◌+◌, ◌≤◌}
+use Rattle.lists.proofs.Pieces.{put_none, put_more}
 use Rattle.listing_rules.proofs.Lines.{word_next, word_before}
 use Rattle.listing_rules.specs.Listing.{word_text}
 use borrow.Author.Rules.{rules}
 use lib.ListN.{length}
 use native.Mathlib.Omega.{arith}
-use Prim.Native.Nat.{◌-◌, ◌≤◌}
+use Prim.Native.Nat.{◌≤◌}
 use mathlib.Core.Path.{◌≡◌, refl}
 use Rattle.leaf_lines.proofs.put_word.Goals as goal
 

@@ -1,5 +1,4 @@
 -- The check, then its line.
-use borrow.Author.Rules.{rules}
 use Rattle.line.proofs.check_line.Goals as goal
 
 pub returns-clause-count : goal.returns-clause-count

@@ -3,7 +3,6 @@ use Rattle.line.proofs.Room.{line_short, line_long, refused_case}
 use Rattle.line_rules.specs.Line.{line_of}
 use Rattle.table.specs.Answer.{outcome_of}
 use mathlib.Core.Path.{ap}
-use borrow.Author.Rules.{rules}
 use Rattle.line.proofs.line.Goals as goal
 
 pub returns-then-out-lt128-clause-count : goal.returns-then-out-lt128-clause-count

@@ -10,7 +10,6 @@ use native.Mathlib.Omega.{arith}
 use Prim.Native.Nat.{ℕ}
 use mathlib.Core.List.{List, append_assoc, ◌++◌}
 use mathlib.Core.Path.{◌≡◌}
-use borrow.Author.Rules.{rules}
 use Rattle.line.proofs.refused_line.Goals as goal
 
 pub put_item-at-requires : goal.put_item-at-requires

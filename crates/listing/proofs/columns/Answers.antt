@@ -3,11 +3,8 @@ use Rattle.listing_rules.specs.Listing.{word_shown, columns_for}
 use Rattle.leaf_rules.proofs.Leaf.{largest_next}
 use Rattle.leaf_rules.specs.Leaf.{leaf_count}
 use Rattle.numeration.specs.LeafOf.{largest}
-use borrow.Author.Rules.{rules}
 use lib.ListN.{length}
 use native.Mathlib.Omega.{arith}
-use Prim.Native.Nat.{◌-◌, ◌≤◌, max}
-use mathlib.Core.Logic.{⊎_elim}
 use mathlib.Core.Path.{◌≡◌, refl, ap}
 use Rattle.listing.proofs.columns.Goals as goal
 use Rattle.listing.proofs.columns.Goals.{then-most-length, else-most-length}

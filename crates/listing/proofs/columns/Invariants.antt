@@ -1,15 +1,10 @@
 -- After some leaves the most is the largest of their shown words, and 1 at least.
 use Rattle.layout_rules.specs.Section.{of_degree}
-use Rattle.listing_rules.specs.Listing.{word_shown, columns_for}
-use Rattle.leaf_rules.proofs.Leaf.{largest_next}
-use Rattle.leaf_rules.specs.Leaf.{leaf_count}
+use Rattle.listing_rules.specs.Listing.{word_shown}
 use Rattle.numeration.specs.LeafOf.{largest}
-use borrow.Author.Rules.{rules}
 use lib.ListN.{length}
-use native.Mathlib.Omega.{arith}
 use Prim.Native.Nat.{◌-◌, ◌≤◌, max}
-use mathlib.Core.Logic.{⊎_elim}
-use mathlib.Core.Path.{◌≡◌, refl, ap}
+use mathlib.Core.Path.{◌≡◌}
 use Rattle.listing.proofs.columns.Given as goal
 
 abbrev pub invariant-loop-leaf : goal.invariant-loop-leaf

@@ -8,7 +8,6 @@ use borrow.Author.Tests.{eq-eqb, ne_eqb}
 use Rattle.ring.specs.Degree.{part_count}
 use Rattle.listing_rules.specs.Listing.{limited_base}
 use mathlib.Core.Path.{◌≡◌}
-use borrow.Author.Rules.{rules}
 use Rattle.listing.proofs.is_limited.Goals as goal
 
 pub returns-then-base-part_count : goal.returns-then-base-part_count

@@ -8,9 +8,7 @@ use Rattle.listing_rules.proofs.Element.{element_short}
 use Rattle.listing_rules.specs.Element.{element_text}
 use Rattle.listing_rules.specs.Listing.{item_text}
 use Rattle.text_rules.specs.Bytes.{bytes_of}
-use lib.ListN.{length}
 use native.Mathlib.Omega.{arith}
-use borrow.Author.Rules.{rules}
 use Rattle.listing.proofs.item.Goals as goal
 
 pub put_element-requires : goal.put_element-requires

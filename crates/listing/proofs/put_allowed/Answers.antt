@@ -1,7 +1,6 @@
 -- A word where rule 6 refuses.
 use Rattle.text_rules.specs.Bytes.{bytes_of}
 use Rattle.listing_rules.specs.Listing.{allowed_word}
-use borrow.Author.Rules.{rules}
 use Rattle.listing.proofs.put_allowed.Goals as goal
 
 pub returns-then-allowed-clause-end : goal.returns-then-allowed-clause-end

@@ -1,7 +1,6 @@
 -- One of two words.
 use Rattle.listing_rules.specs.Listing.{expanding_word}
 use Rattle.text_rules.specs.Bytes.{bytes_of}
-use borrow.Author.Rules.{rules}
 use Rattle.listing.proofs.put_expanding.Goals as goal
 
 pub returns-then-expanding-clause-end : goal.returns-then-expanding-clause-end

@@ -27,7 +27,6 @@ use Rattle.digit_rules.specs.Record.{element_count}
 use lib.IntN.{ℤ}
 use Prim.Native.Nat.{◌+◌, ◌-◌}
 use mathlib.Core.Path.{ap₂}
-use borrow.Author.Rules.{rules}
 use Rattle.listing.proofs.ring_line.Goals as goal
 
 -- the line of a degree and of two texts

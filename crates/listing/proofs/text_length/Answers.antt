@@ -3,7 +3,6 @@ use Prim.Native.Nat.{◌^◌}
 use Rattle.ring.proofs.Element.{within_le}
 use Rattle.listing_rules.proofs.Element.{element_short}
 use native.Mathlib.Omega.{arith}
-use borrow.Author.Rules.{rules}
 use Rattle.listing.proofs.text_length.Goals as goal
 
 pub put_element-requires : goal.put_element-requires

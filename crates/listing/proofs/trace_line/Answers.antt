@@ -26,7 +26,6 @@ use Prim.Native.Nat.{◌≤◌}
 use mathlib.Core.List.{◌++◌}
 use mathlib.Core.Bool.{Bool}
 use mathlib.Core.Path.{◌≡◌, refl, ap, ◌∙◌}
-use borrow.Author.Rules.{rules}
 use Rattle.listing.proofs.trace_line.Goals as goal
 
 -- the four numbers as the machine holds them

@@ -1,10 +1,8 @@
 use mathlib.Core.Path.{◌≡◌, refl, ap, ap₂, ◌∙◌}
-use mathlib.Core.Logic.{⊎_elim}
 use Prim.Native.Nat.{ℕ, ◌+◌, ◌-◌, ◌*◌, ◌/◌, ◌≤◌}
 use native.Mathlib.Omega.{arith}
 use native.Mathlib.Nat.{div-le_self}
 use lib.ListN.{length}
-use borrow.Author.Rules.{rules}
 use Rattle.numeration.specs.LeafOf.{largest}
 use Rattle.listing_rules.specs.Listing.{widest}
 use Rattle.listing_rules.specs.Element.{element_text}

@@ -1,20 +1,11 @@
 -- After some records the longest is the largest of their texts' lengths.
-use mathlib.Core.Path.{◌≡◌, refl, ap, ap₂, ◌∙◌}
-use mathlib.Core.Logic.{⊎_elim}
-use Prim.Native.Nat.{ℕ, ◌+◌, ◌-◌, ◌*◌, ◌/◌, ◌≤◌}
-use native.Mathlib.Omega.{arith}
-use native.Mathlib.Nat.{div-le_self}
+use mathlib.Core.Path.{◌≡◌}
+use Prim.Native.Nat.{◌-◌, ◌≤◌}
 use lib.ListN.{length}
-use borrow.Author.Rules.{rules}
 use Rattle.numeration.specs.LeafOf.{largest}
-use Rattle.listing_rules.specs.Listing.{widest}
 use Rattle.listing_rules.specs.Element.{element_text}
-use Rattle.listing_rules.proofs.Lines.{element_inside}
-use Rattle.leaf_rules.proofs.Leaf.{largest_next}
-use Rattle.layout_rules.specs.Section.{of_degree, element_size, record_count}
+use Rattle.layout_rules.specs.Section.{of_degree}
 use Rattle.layout_rules.specs.Limit.{element_start}
-use Rattle.layout_rules.proofs.Limit.{element_held}
-use Rattle.layout_rules.proofs.Length.{sized}
 use Rattle.digit_rules.specs.Record.{element_at}
 use Rattle.listing.proofs.width.Given as goal
 

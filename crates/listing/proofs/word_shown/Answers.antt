@@ -3,7 +3,6 @@ use Rattle.layout_rules.specs.Section.{of_degree}
 use Rattle.listing_rules.proofs.Lines.{word_kept, word_unread}
 use native.Mathlib.Omega.{arith}
 use mathlib.Core.Path.{sym, ◌∙◌}
-use borrow.Author.Rules.{rules}
 use Rattle.listing.proofs.word_shown.Goals as goal
 
 pub returns-then-word-gt8 : goal.returns-then-word-gt8

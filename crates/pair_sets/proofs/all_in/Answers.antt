@@ -4,20 +4,16 @@ use Rattle.lists.specs.Count.{total}
 use Rattle.numeration.specs.PairCount.{pairs_below}
 use Rattle.numeration.proofs.PairCount.{pairs_next, pairs_within}
 use Rattle.leaf_rules.specs.Given.{weight_given}
-use borrow.Author.Tests.{not-false}
 use Rattle.digit_rules.specs.Record.{element_count}
 use Rattle.weight_sets.proofs.Weights.{zeros_none}
 use Rattle.pair_sets.proofs.Pass.{all_next, none_judged}
 use Rattle.runs.proofs.Keys.{first_digit, ready_words}
 use Rattle.table_rules.proofs.Fitting.{reads, first_input}
 use Rattle.prefix_rules.proofs.Formed.{formed}
-use Rattle.pair_sets.specs.Runs.{AllPass}
-use Rattle.weight_sets.specs.Weights.{Judged}
-use mathlib.Core.Path.{◌≡◌, refl, sym, ap, ◌∙◌}
-use Prim.Native.Nat.{ℕ, ◌+◌, ◌-◌, ◌/◌, ◌<◌, ◌≤◌}
+use mathlib.Core.Path.{refl, sym, ap, ◌∙◌}
+use Prim.Native.Nat.{ℕ, ◌+◌, ◌/◌, ◌<◌, ◌≤◌}
 use native.Mathlib.Omega.{arith}
 use lib.ListN.{get_or}
-use borrow.Author.Rules.{rules}
 use Rattle.pair_sets.proofs.all_in.Goals as goal
 
 pub returns-then-not-slot_digits : goal.returns-then-not-slot_digits

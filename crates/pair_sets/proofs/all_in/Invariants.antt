@@ -1,24 +1,11 @@
 -- All upper leaves passed so far pass: the weights of all that fit one are among those that give digits with it.
 use Rattle.layout_rules.specs.Section.{of_degree}
 use Rattle.leaf_rules.specs.Leaf.{leaf_count, code_of}
-use Rattle.lists.specs.Count.{total}
 use Rattle.numeration.specs.PairCount.{pairs_below}
-use Rattle.numeration.proofs.PairCount.{pairs_next, pairs_within}
-use Rattle.leaf_rules.specs.Given.{weight_given}
-use borrow.Author.Tests.{not-false}
-use Rattle.digit_rules.specs.Record.{element_count}
-use Rattle.weight_sets.proofs.Weights.{zeros_none}
-use Rattle.pair_sets.proofs.Pass.{all_next, none_judged}
-use Rattle.runs.proofs.Keys.{first_digit, ready_words}
-use Rattle.table_rules.proofs.Fitting.{reads, first_input}
-use Rattle.prefix_rules.proofs.Formed.{formed}
 use Rattle.pair_sets.specs.Runs.{AllPass}
 use Rattle.weight_sets.specs.Weights.{Judged}
-use mathlib.Core.Path.{◌≡◌, refl, sym, ap, ◌∙◌}
-use Prim.Native.Nat.{ℕ, ◌+◌, ◌-◌, ◌/◌, ◌<◌, ◌≤◌}
-use native.Mathlib.Omega.{arith}
-use lib.ListN.{get_or}
-use borrow.Author.Rules.{rules}
+use mathlib.Core.Path.{◌≡◌}
+use Prim.Native.Nat.{◌-◌, ◌≤◌}
 use Rattle.pair_sets.proofs.all_in.Given as goal
 
 abbrev pub invariant-loop-upper : goal.invariant-loop-upper

@@ -2,12 +2,9 @@ use Rattle.runs.specs.Words.{Between}
 use Rattle.runs.proofs.Places.{between_all, between_above}
 use Rattle.pair_sets.proofs.Runs.{run_more}
 use mathlib.Core.Path.{◌≡◌, subst}
-use Prim.Native.Nat.{ℕ, ◌+◌, ◌-◌}
+use Prim.Native.Nat.{ℕ, ◌+◌}
 use native.Mathlib.Omega.{arith}
 use lib.ListN.{set}
-use Rattle.pair_sets.specs.Runs.{InRun}
-use Rattle.weight_sets.specs.Weights.{Covers}
-use mathlib.Core.List.{List}
 use Rattle.pair_sets.proofs.by_eights.Goals as goal
 
 pub loop-leaf-init : goal.loop-leaf-init

@@ -1,10 +1,6 @@
 -- The set has the weights of all leaves from the start up to this one, since each eight joined to it has its own.
 use Rattle.runs.specs.Words.{Between}
-use Rattle.runs.proofs.Places.{between_all, between_above}
-use Rattle.pair_sets.proofs.Runs.{run_more}
-use mathlib.Core.Path.{◌≡◌, subst}
-use Prim.Native.Nat.{ℕ, ◌+◌, ◌-◌}
-use native.Mathlib.Omega.{arith}
+use Prim.Native.Nat.{ℕ, ◌-◌}
 use lib.ListN.{set}
 use Rattle.pair_sets.specs.Runs.{InRun}
 use Rattle.weight_sets.specs.Weights.{Covers}

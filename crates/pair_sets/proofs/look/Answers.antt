@@ -10,8 +10,6 @@ use Rattle.ring.specs.Tests.{RowsWithin}
 use mathlib.Core.Path.{sym, subst}
 use Prim.Native.Nat.{◌^◌}
 use native.Mathlib.Omega.{arith}
-use lib.ListN.{length}
-use borrow.Author.Rules.{rules}
 use Rattle.pair_sets.proofs.look.Goals as goal
 
 pub returns-then-count-gt-WEIGHTS : goal.returns-then-count-gt-WEIGHTS

@@ -1,6 +1,5 @@
 -- 512 leaves have room in it.
 use native.Mathlib.Omega.{arith}
-use borrow.Author.Rules.{rules}
 use Rattle.pair_sets.proofs.look_at_few.Goals as goal
 
 pub look-requires : goal.look-requires

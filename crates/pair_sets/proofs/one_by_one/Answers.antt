@@ -1,13 +1,10 @@
 use Rattle.runs.proofs.Places.{between_above, between_below, between_met}
-use Rattle.runs.specs.Words.{Between}
 use mathlib.Core.Path.{sym, ap, subst, ◌∙◌}
 use Rattle.weight_sets.proofs.Bits.{has_single}
 use Rattle.pair_sets.proofs.Runs.{run_next}
-use Prim.Native.Nat.{ℕ, ◌-◌, ◌≤◌, ◌^◌}
+use Prim.Native.Nat.{ℕ, ◌^◌}
 use native.Mathlib.Omega.{arith}
 use lib.ListN.{get_or, set}
-use borrow.Author.Rules.{rules}
-use Rattle.pair_sets.specs.Runs.{InRun}
 use Rattle.weight_sets.specs.Bits.{Has}
 use Rattle.pair_sets.proofs.one_by_one.Goals as goal
 

@@ -1,15 +1,8 @@
 -- The set has the weights of all leaves from the start up to this one, and the run ends at the first word above the last one.
-use Rattle.runs.proofs.Places.{between_above, between_below, between_met}
 use Rattle.runs.specs.Words.{Between}
-use mathlib.Core.Path.{sym, ap, subst, ◌∙◌}
-use Rattle.weight_sets.proofs.Bits.{has_single}
-use Rattle.pair_sets.proofs.Runs.{run_next}
-use Prim.Native.Nat.{ℕ, ◌-◌, ◌≤◌, ◌^◌}
-use native.Mathlib.Omega.{arith}
-use lib.ListN.{get_or, set}
-use borrow.Author.Rules.{rules}
+use Prim.Native.Nat.{ℕ, ◌-◌, ◌≤◌}
+use lib.ListN.{set}
 use Rattle.pair_sets.specs.Runs.{InRun}
-use Rattle.weight_sets.specs.Bits.{Has}
 use Rattle.pair_sets.proofs.one_by_one.Given as goal
 
 abbrev pub invariant-loop-leaf : goal.invariant-loop-leaf

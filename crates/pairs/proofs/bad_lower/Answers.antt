@@ -6,8 +6,6 @@ use native.Mathlib.Omega.{arith}
 use lib.IntN.{ℤ}
 use lib.ListN.{length, get_or}
 use borrow.Author.Count.{below_more}
-use borrow.Author.Rules.{rules}
-use borrow.Author.Tests.{not-true, not-false}
 use Rattle.ring.specs.Degree.{part_count}
 use Rattle.lists.specs.Span.{span}
 use Rattle.ring.specs.Element.{plus}

@@ -1,31 +1,17 @@
 -- All lower leaves before the run and in it so far pass, with every base that gives the upper leaf's part.
-use mathlib.Core.Path.{◌≡◌, sym, ap, subst, ◌∙◌}
-use mathlib.Core.Bool.{true, false}
+use mathlib.Core.Path.{◌≡◌}
+use mathlib.Core.Bool.{true}
 use mathlib.Core.List.{List}
-use Prim.Native.Nat.{ℕ, ◌+◌, ◌-◌, ◌<◌, ◌≤◌, min, pred}
-use native.Mathlib.Omega.{arith}
+use Prim.Native.Nat.{ℕ, ◌-◌, ◌<◌, ◌≤◌}
 use lib.IntN.{ℤ}
-use lib.ListN.{length, get_or}
-use borrow.Author.Count.{below_more}
-use borrow.Author.Rules.{rules}
-use borrow.Author.Tests.{not-true, not-false}
 use Rattle.ring.specs.Degree.{part_count}
-use Rattle.lists.specs.Span.{span}
-use Rattle.ring.specs.Element.{plus}
 use Rattle.layout_rules.specs.Section.{of_degree}
-use Rattle.digit_rules.specs.Record.{record_at, element_count}
-use Rattle.numeration.specs.LeafOf.{agree}
+use Rattle.digit_rules.specs.Record.{record_at}
 use Rattle.numeration.specs.Elements.{elements}
 use Rattle.numeration.specs.PairTests.{fits, pair_passes}
-use Rattle.numeration.specs.PairCount.{lower_count}
 use Rattle.numeration.specs.Runs.{lowest_fit}
-use Rattle.leaf_rules.specs.Leaf.{leaf_count, code_of}
-use Rattle.leaf_rules.specs.Given.{weight_given}
-use Rattle.leaf_rules.specs.Window.{LookedUp}
-use Rattle.prefix_rules.specs.Formed.{LeavesFormed}
-use Rattle.prefix_rules.proofs.Formed.{formed}
+use Rattle.leaf_rules.specs.Leaf.{code_of}
 use Rattle.table_rules.specs.Pairs.{in_alphabet, upper_part}
-use Rattle.table_rules.proofs.Fitting.{first_input, lowest_found, lowest_there, run_length, fit_is, pair_is, upto_lowest, ends_unfit, ends_all, ends_bad}
 use Rattle.pairs.proofs.bad_lower.Given as goal
 
 abbrev pub invariant-loop-lower : goal.invariant-loop-lower

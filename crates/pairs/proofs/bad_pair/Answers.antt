@@ -1,8 +1,7 @@
 use mathlib.Core.Path.{◌≡◌, sym, ap, subst, ◌∙◌}
-use Prim.Native.Nat.{◌+◌, ◌-◌, ◌≤◌, ◌^◌}
+use Prim.Native.Nat.{◌+◌, ◌^◌}
 use native.Mathlib.Omega.{arith}
 use borrow.Author.Count.{below_more}
-use borrow.Author.Rules.{rules}
 use Rattle.ring.specs.Degree.{part_count}
 use Rattle.lists.specs.Scan.{first_failing}
 use Rattle.ring.specs.Tests.{RowsWithin}
@@ -14,7 +13,7 @@ use Rattle.numeration.specs.PairTests.{pair_passes}
 use Rattle.leaf_rules.specs.Leaf.{leaf_count, code_of}
 use Rattle.table_rules.specs.Pairs.{in_alphabet, bad_lower}
 use Rattle.pairs.proofs.Quick.{uppers}
-use Rattle.table_rules.proofs.Bad.{UppersPass, upper_passes_lem, pair_found, pair_none}
+use Rattle.table_rules.proofs.Bad.{upper_passes_lem, pair_found, pair_none}
 use Rattle.numeration.specs.PairCount.{pairs_below, pair_count}
 use Rattle.numeration.proofs.PairCount.{pairs_next, pairs_within}
 use Rattle.pairs.proofs.bad_pair.Goals as goal

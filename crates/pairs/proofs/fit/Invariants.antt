@@ -1,12 +1,7 @@
 -- The places passed agree.
-use mathlib.Core.Path.{◌≡◌, refl, sym}
-use mathlib.Core.Bool.{Bool, true, false}
+use mathlib.Core.Path.{◌≡◌}
 use Prim.Native.Nat.{ℕ, ◌+◌, ◌-◌, ◌<◌, ◌≤◌}
-use native.Mathlib.Omega.{arith}
 use lib.ListN.{length, get_or}
-use borrow.Author.Count.{below_more}
-use Rattle.numeration.specs.LeafOf.{agree}
-use Rattle.numeration.proofs.Agreement.{agree_sound, agree_complete}
 use Rattle.pairs.proofs.fit.Given as goal
 
 abbrev pub invariant-loop-i : goal.invariant-loop-i

@@ -2,7 +2,6 @@
 use mathlib.Core.Path.{ap, ◌∙◌}
 use native.Mathlib.Omega.{arith}
 use native.Mathlib.Nat.{le_antisymm}
-use borrow.Author.Rules.{rules}
 use Rattle.pairs.proofs.Quick.{none_fails}
 use Rattle.numeration.specs.PairCount.{pairs_below, pair_count}
 use Rattle.leaf_rules.specs.Leaf.{code_of}

@@ -1,7 +1,6 @@
 -- Each of the eight entries is the upper word's next digit, or zero behind it.
 use Rattle.lists.specs.Span.{span}
 use mathlib.Core.List.{[], ◌∷◌}
-use borrow.Author.Rules.{rules}
 use Rattle.pairs.proofs.tail_window.Goals as goal
 
 pub returns : goal.returns

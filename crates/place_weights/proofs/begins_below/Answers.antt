@@ -5,7 +5,7 @@ use borrow.Author.Count.{below_more}
 use lib.ListN.{get_or}
 use native.Mathlib.Omega.{arith}
 use native.Mathlib.Nat.{add-zero}
-use Prim.Native.Nat.{ℕ, ◌+◌, ◌-◌, ◌<◌, ◌≤◌}
+use Prim.Native.Nat.{ℕ, ◌+◌}
 use Rattle.place_weights.proofs.begins_below.Goals as goal
 
 pub word_start-start-requires : goal.word_start-start-requires

@@ -1,11 +1,7 @@
 -- The word's digits passed are the window's; the first of them is given.
-use mathlib.Core.Path.{refl, ◌≡◌, sym, ap, ◌∙◌}
+use mathlib.Core.Path.{◌≡◌}
 use Rattle.numeration.specs.Conversion.{window}
-use Rattle.lists.proofs.Test.{clash}
-use borrow.Author.Count.{below_more}
 use lib.ListN.{get_or}
-use native.Mathlib.Omega.{arith}
-use native.Mathlib.Nat.{add-zero}
 use Prim.Native.Nat.{ℕ, ◌+◌, ◌-◌, ◌<◌, ◌≤◌}
 use Rattle.place_weights.proofs.begins_below.Given as goal
 

@@ -1,7 +1,6 @@
 -- A place at or below k has no digit there.
 use mathlib.Core.Path.{◌∙◌}
 use Rattle.place_rules.proofs.Place.{window_outside, window_inside}
-use borrow.Author.Rules.{rules}
 use Rattle.place_weights.proofs.digit_below.Goals as goal
 
 pub returns-then-place-k : goal.returns-then-place-k

@@ -1,6 +1,4 @@
-use borrow.Author.Rules.{rules}
 use native.Mathlib.Omega.{arith}
-use Prim.Native.Nat.{◌≤◌, ◌-◌}
 use Rattle.place_weights.proofs.first_leaves.Goals as goal
 
 pub overflow_cast-digit : goal.overflow_cast-digit

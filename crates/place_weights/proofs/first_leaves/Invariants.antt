@@ -1,6 +1,4 @@
 -- The entries are only tried, so that nothing is said of them.
-use borrow.Author.Rules.{rules}
-use native.Mathlib.Omega.{arith}
 use Prim.Native.Nat.{◌≤◌, ◌-◌}
 use Rattle.place_weights.proofs.first_leaves.Given as goal
 

@@ -6,7 +6,6 @@ use Rattle.leaf_rules.specs.Leaf.{leaf_count, code_of}
 use Prim.Native.Nat.{◌<◌, max}
 use mathlib.Core.Path.{refl, ap, subst, ◌∙◌}
 use native.Mathlib.Omega.{arith}
-use borrow.Author.Rules.{rules}
 use Rattle.place_weights.proofs.leaf_below.Goals as goal
 
 pub returns-then-begins_below : goal.returns-then-begins_below

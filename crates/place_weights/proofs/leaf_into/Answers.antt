@@ -4,7 +4,6 @@ use Rattle.layout_rules.specs.Section.{of_degree}
 use Rattle.leaf_rules.specs.Window.{LookedUp}
 use Rattle.leaf_rules.specs.Leaf.{code_of}
 use Rattle.place_rules.proofs.Place.{leaf_found}
-use borrow.Author.Rules.{rules}
 use Rattle.place_weights.proofs.leaf_into.Goals as goal
 
 pub returns : goal.returns

@@ -2,7 +2,6 @@
 use Rattle.layout_rules.specs.Section.{of_degree}
 use Rattle.place_rules.proofs.Counted.{counted_more}
 use native.Mathlib.Omega.{arith}
-use borrow.Author.Rules.{rules}
 use Rattle.place_weights.proofs.leaf_tried.Goals as goal
 
 pub leaf_below-below-requires : goal.leaf_below-below-requires

@@ -1,7 +1,6 @@
 -- Each of the eight entries is the window's digit.
 use mathlib.Core.List.{[], ◌∷◌}
 use Rattle.lists.specs.Span.{span}
-use borrow.Author.Rules.{rules}
 use Rattle.place_weights.proofs.window_below.Goals as goal
 
 pub returns : goal.returns

@@ -1,6 +1,5 @@
-use borrow.Author.Rules.{rules}
 use mathlib.Core.Path.{◌≡◌, sym, subst, ◌∙◌}
-use Prim.Native.Nat.{ℕ, ◌≤◌, ◌<◌, ◌-◌, ◌+◌}
+use Prim.Native.Nat.{ℕ, ◌≤◌, ◌<◌, ◌+◌}
 use native.Mathlib.Omega.{arith}
 use lib.Dec.{lit<}
 use Rattle.layout_rules.specs.Section.{of_degree}
@@ -11,11 +10,9 @@ use Rattle.numeration.proofs.Leaves.{get_d_inputs}
 use Rattle.numeration.specs.Conversion.{weight_into}
 use Rattle.leaf_rules.specs.Given.{weight_given}
 use Rattle.leaf_rules.specs.Leaf.{code_of}
-use Rattle.places.specs.Helpers.{Firsts}
 use Rattle.place_rules.proofs.Counted.{counted_none}
-use Rattle.place_rules.specs.Helpers.{Counted}
 use Rattle.place_rules.specs.Place.{index_at}
-use Rattle.places.proofs.Loop.{Converted, converted_start, converted_next, converted_here, converted_end}
+use Rattle.places.proofs.Loop.{converted_start, converted_next, converted_here, converted_end}
 use Rattle.place_rules.proofs.Place.{window_first, index_from, leaf_weight, leaf_size}
 use Rattle.places.proofs.Tried.{firsts_none}
 use Rattle.ring.specs.Degree.{part_count}

@@ -8,7 +8,6 @@ use Rattle.digit_rules.specs.Record.{record_at}
 use Rattle.digit_rules.specs.Digits.{index_in}
 use Rattle.ring.proofs.Element.{same→≡, within_le}
 use Rattle.places.proofs.Tried.{first_hit, firsts_more}
-use borrow.Author.Rules.{rules}
 use Rattle.places.proofs.index_of.Goals as goal
 
 pub slot_of-slot-requires : goal.slot_of-slot-requires

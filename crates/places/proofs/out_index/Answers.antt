@@ -9,7 +9,6 @@ use Rattle.place_rules.specs.Place.{alphabet_index}
 use Rattle.ring.specs.Degree.{part_count}
 use mathlib.Core.Path.{sym, ap, subst, ◌∙◌}
 use Prim.Native.Nat.{◌^◌}
-use borrow.Author.Rules.{rules}
 use Rattle.places.proofs.out_index.Goals as goal
 
 pub index_of-requires : goal.index_of-requires

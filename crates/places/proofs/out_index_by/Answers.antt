@@ -1,5 +1,4 @@
 -- Degree two was told where the function for it is called.
-use borrow.Author.Rules.{rules}
 use Rattle.places.proofs.out_index_by.Goals as goal
 
 pub out_index_at_two-requires : goal.out_index_at_two-requires

@@ -1,5 +1,4 @@
 -- The stage on the parts that the sections are.
-use borrow.Author.Rules.{rules}
 use Rattle.reader_rules.proofs.Kept.{layout_kept, section_is}
 use Rattle.reader_rules.specs.Check.{digit_check_of}
 use Rattle.digit_rules.proofs.Passed.{base_ready}

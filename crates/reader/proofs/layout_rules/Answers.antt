@@ -7,7 +7,6 @@ use Rattle.layout_rules.specs.Section.{section_lengths}
 use Rattle.faults.proofs.Check.{found_first, found_next}
 use Rattle.layout_rules.specs.Directory.{directory_check}
 use mathlib.Core.Path.{ap, ◌∙◌}
-use borrow.Author.Rules.{rules}
 use Rattle.reader.proofs.layout_rules.Goals as goal
 
 pub returns-then-directory-ne0 : goal.returns-then-directory-ne0

@@ -5,7 +5,6 @@ use Rattle.reader_rules.specs.Check.{leaf_check_of}
 use Rattle.prefix_rules.specs.Check.{leaf_check}
 use lib.Dec.{lit<}
 use mathlib.Core.Path.{ap, ◌∙◌}
-use borrow.Author.Rules.{rules}
 use Rattle.reader.proofs.leaf_rules.Goals as goal
 
 pub section-requires : goal.section-requires

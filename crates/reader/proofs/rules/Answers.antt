@@ -2,7 +2,6 @@
 use Rattle.reader_rules.proofs.Kept.{stage_nothing}
 use Rattle.reader_rules.specs.Check.{layout_check, digit_check_of, table_check}
 use Rattle.faults.proofs.Check.{found_first, found_next}
-use borrow.Author.Rules.{rules}
 use Rattle.reader.proofs.rules.Goals as goal
 
 pub returns-then-layout-ne0 : goal.returns-then-layout-ne0

@@ -4,7 +4,6 @@ use lib.ListN.{take, drop}
 use native.Mathlib.Omega.{arith}
 use Prim.Native.Nat.{ℕ, ◌-◌}
 use mathlib.Core.Path.{ap₂}
-use borrow.Author.Rules.{rules}
 use Rattle.reader.proofs.section.Goals as goal
 
 pub section_start-start-requires : goal.section_start-start-requires

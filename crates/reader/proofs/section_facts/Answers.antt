@@ -3,7 +3,6 @@ use Rattle.reader_rules.specs.TableFacts.{part_facts}
 use Rattle.layout_rules.specs.Section.{record_count}
 use mathlib.Core.Path.{ap, ◌∙◌}
 use Rattle.reader_rules.proofs.Kept.{layout_kept, directory_room, section_is}
-use borrow.Author.Rules.{rules}
 use Rattle.reader.proofs.section_facts.Goals as goal
 
 pub section_start-requires : goal.section_start-requires

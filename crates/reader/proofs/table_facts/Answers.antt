@@ -6,7 +6,6 @@ use Rattle.numeration.specs.LeafOf.{depth}
 use mathlib.Core.Path.{ap, ◌∙◌}
 use Rattle.reader_rules.proofs.Kept.{layout_kept, section_is}
 use lib.Dec.{lit<}
-use borrow.Author.Rules.{rules}
 use Rattle.reader.proofs.table_facts.Goals as goal
 
 pub section-requires : goal.section-requires

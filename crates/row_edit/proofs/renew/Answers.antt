@@ -18,23 +18,6 @@ bounds-digits-k c = omega (arith, c.requires)
 pub bounds-digits-k-in-loop-k : goal.bounds-digits-k-in-loop-k
 bounds-digits-k-in-loop-k c = omega (arith, c.requires)
 
-pub loop-k-preserved : goal.loop-k-preserved
-loop-k-preserved c =
-    let s = c in
-    let part = s.args.part.now in
-    let digits = s.args.digits.now in
-    let l = c.loop-k in
-    let came = c.if-part-k.branch in
-    let h : l.k < length part = omega arith in
-    let rest : ℕ → ℕ = λ n. n + differing part digits (l.k + 1) (length part - (l.k + 1)) in (
-      omega arith,
-      next_written part digits s.requires l.part l.k l.invariant.1 h,
-      length-set l.part l.k (get_or digits l.k 0) ∙ l.invariant.2,
-      ⊎_elim (λ t. omega (arith, t.1, l.invariant.3)) (λ t. omega (arith, t.1, l.invariant.3)) came,
-      ⊎_elim (λ t. ap rest t.1 ∙ count_more part digits s.requires l.part l.k l.invariant.1 l.count l.invariant.4 h t.0.taken)
-          (λ t. ap rest t.1 ∙ count_on part digits s.requires l.part l.k l.invariant.1 l.count l.invariant.4 h t.0.left) came,
-    )
-
 pub shape_of-part : goal.shape_of-part
 shape_of-part c = c.loop-k.invariant.2
 

@@ -1,7 +1,6 @@
 -- Rules 1 to 13 by the reader, then rule 14 at the upper leaf of the failing pair.
 use mathlib.Core.Path.{sym, ap, ◌∙◌}
 use native.Mathlib.Omega.{arith}
-use borrow.Author.Rules.{rules}
 use Rattle.table_rules.proofs.Bad.{file_broken, file_kept}
 use Rattle.table_rules.specs.Check.{pair_check_of, check_facts, check_outcome}
 use Rattle.table_rules.specs.declared.Facts.{Facts}

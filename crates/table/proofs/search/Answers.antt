@@ -3,7 +3,6 @@ use mathlib.Core.Path.{sym, ap, subst, ◌∙◌}
 use Prim.Native.Nat.{◌<◌}
 use native.Mathlib.Omega.{arith}
 use lib.Dec.{lit<}
-use borrow.Author.Rules.{rules}
 use Rattle.table_rules.specs.Pairs.{bad_pair}
 use Rattle.reader_rules.proofs.Ready.{ready_passed}
 use Rattle.reader_rules.proofs.Kept.{layout_kept, table_kept, sections, section_is}

@@ -14,7 +14,6 @@ use Rattle.row_rules.specs.Check.{one_row_check}
 use Rattle.row_rules.specs.Fit.{Indexes}
 use Rattle.row_value_rules.specs.Total.{worth_of}
 use Rattle.value_call_rules.specs.Value.{row_outcome}
-use borrow.Author.Rules.{rules}
 use Rattle.value_call.proofs.row_value.Goals as goal
 
 pub returns-then-found-ne0 : goal.returns-then-found-ne0

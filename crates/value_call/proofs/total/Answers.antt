@@ -6,7 +6,6 @@ use Rattle.ring.specs.Tests.{RowsWithin}
 use Rattle.digit_rules.proofs.Base.{base_within}
 use Rattle.row_value_rules.specs.Total.{worth_of}
 use Rattle.row_value.specs.Answer.{outcome_of}
-use borrow.Author.Rules.{rules}
 use Rattle.value_call.proofs.total.Goals as goal
 
 pub row_value_by-requires : goal.row_value_by-requires

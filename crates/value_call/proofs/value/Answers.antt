@@ -8,7 +8,6 @@ use Rattle.faults.specs.Stated.{whose, number_of, place_of}
 use Rattle.reader_rules.proofs.Answer.{found_facts, read_fault}
 use Rattle.reader_rules.specs.Check.{read_as, table_check}
 use Rattle.value_call_rules.specs.Value.{row_outcome, value_outcome}
-use borrow.Author.Rules.{rules}
 use Rattle.value_call.proofs.value.Goals as goal
 
 pub returns-in_default : goal.returns-in_default

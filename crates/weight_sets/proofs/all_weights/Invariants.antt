@@ -1,11 +1,6 @@
 -- The numbers passed are in the set.
-use Rattle.weight_sets.proofs.Bits.{has_left, has_right, has_single}
-use borrow.Author.Count.{below_more}
-use mathlib.Core.Path.{sym, subst}
 use Prim.Native.Nat.{ℕ, ◌-◌, ◌<◌}
-use native.Mathlib.Omega.{arith}
 use lib.ListN.{set}
-use borrow.Author.Rules.{rules}
 use Rattle.weight_sets.specs.Bits.{Has}
 use Rattle.weight_sets.proofs.all_weights.Given as goal
 

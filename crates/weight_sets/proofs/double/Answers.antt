@@ -1,11 +1,7 @@
 use Rattle.weight_sets.proofs.Weights.{double_next, double_end, same_next}
-use mathlib.Core.Path.{◌≡◌, refl, ◌∙◌}
-use Prim.Native.Nat.{ℕ, ◌+◌, ◌-◌, ◌<◌, ◌≤◌}
+use mathlib.Core.Path.{refl, ◌∙◌}
 use native.Mathlib.Omega.{arith}
-use lib.ListN.{length, get_or, set, length-set}
-use Rattle.weight_sets.specs.Weights.{Covers}
-use Rattle.weight_sets.specs.Bits.{Has}
-use mathlib.Core.List.{List}
+use lib.ListN.{length, set, length-set}
 use Rattle.weight_sets.proofs.double.Goals as goal
 
 pub loop-leaf-init : goal.loop-leaf-init

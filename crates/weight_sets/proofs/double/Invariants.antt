@@ -1,9 +1,7 @@
 -- The sets passed have the weights of twice as many neighbours; the others are as they were.
-use Rattle.weight_sets.proofs.Weights.{double_next, double_end, same_next}
-use mathlib.Core.Path.{◌≡◌, refl, ◌∙◌}
+use mathlib.Core.Path.{◌≡◌}
 use Prim.Native.Nat.{ℕ, ◌+◌, ◌-◌, ◌<◌, ◌≤◌}
-use native.Mathlib.Omega.{arith}
-use lib.ListN.{length, get_or, set, length-set}
+use lib.ListN.{length, get_or}
 use Rattle.weight_sets.specs.Weights.{Covers}
 use Rattle.weight_sets.specs.Bits.{Has}
 use mathlib.Core.List.{List}

@@ -1,6 +1,4 @@
 -- Sets of one leaf, doubled three times, are sets of eight.
-use lib.ListN.{length}
-use borrow.Author.Rules.{rules}
 use Rattle.weight_sets.proofs.eights.Goals as goal
 
 pub returns : goal.returns

@@ -1,11 +1,6 @@
 -- Each weight in the set gives an alphabet digit with the part.
 use Rattle.layout_rules.specs.Section.{of_degree}
-use Rattle.weight_sets.proofs.Bits.{has_none}
-use Rattle.weight_sets.proofs.Weights.{good_next}
 use Prim.Native.Nat.{◌-◌}
-use native.Mathlib.Omega.{arith}
-use lib.ListN.{set}
-use borrow.Author.Rules.{rules}
 use Rattle.weight_sets.specs.Weights.{Good}
 use Rattle.weight_sets.proofs.good_set.Given as goal
 

@@ -2,7 +2,6 @@
 use Rattle.weight_sets.specs.Weights.{Good}
 use Rattle.layout_rules.specs.Section.{of_degree}
 use mathlib.Core.Path.{subst}
-use borrow.Author.Rules.{rules}
 use Rattle.weight_sets.proofs.judge.Goals as goal
 
 pub returns : goal.returns

@@ -1,15 +1,7 @@
 -- What is kept was judged for the same first digit and weight, so for the same part; else it is judged now and kept.
 use Rattle.layout_rules.specs.Section.{of_degree}
 use Rattle.leaf_rules.specs.Given.{word_given}
-use Rattle.weight_sets.proofs.Weights.{judged_next}
-use Rattle.weight_sets.specs.Weights.{Good, Judged}
-use Rattle.digit_rules.specs.Record.{record_at}
-use Rattle.ring.specs.Degree.{part_count}
-use Rattle.ring.specs.Padded.{padded_times}
-use Rattle.ring.specs.Element.{minus}
-use mathlib.Core.Path.{sym, subst, ◌∙◌}
-use lib.ListN.{get_or, set as store}
-use borrow.Author.Rules.{rules}
+use lib.ListN.{get_or}
 use Rattle.weight_sets.proofs.judged.Goals as goal
 
 pub returns-clause-good : goal.returns-clause-good

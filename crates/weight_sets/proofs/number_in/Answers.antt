@@ -2,7 +2,6 @@
 use Rattle.ring.proofs.Element.{same→≡}
 use mathlib.Core.Path.{sym, ◌∙◌}
 use native.Mathlib.Omega.{arith}
-use borrow.Author.Rules.{rules}
 use Rattle.weight_sets.proofs.number_in.Goals as goal
 
 pub returns-then-count-number : goal.returns-then-count-number

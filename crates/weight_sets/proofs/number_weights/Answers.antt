@@ -1,14 +1,8 @@
-use Rattle.layout_rules.specs.Section.{of_degree}
-use Rattle.weight_sets.proofs.Weights.{numbered_old, numbered_new}
-use mathlib.Core.Logic.{⊎_elim}
 use lib.Dec.{lit≤}
 use Rattle.ring.proofs.Element.{within_le}
-use mathlib.Core.Path.{◌≡◌, refl, sym, ap, subst, ◌∙◌}
-use Prim.Native.Nat.{ℕ, ◌+◌, ◌-◌, ◌≤◌, ◌^◌}
+use mathlib.Core.Path.{refl}
+use Prim.Native.Nat.{◌^◌}
 use native.Mathlib.Omega.{arith}
-use lib.ListN.{length, set, length-set}
-use borrow.Author.Rules.{rules}
-use Rattle.weight_sets.specs.Weights.{WeightsNumbered}
 use Rattle.weight_sets.proofs.number_weights.Goals as goal
 
 pub loop-leaf-init : goal.loop-leaf-init

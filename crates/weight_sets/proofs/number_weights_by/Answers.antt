@@ -1,5 +1,4 @@
 -- Degree two was told where the function for it is called.
-use borrow.Author.Rules.{rules}
 use Rattle.weight_sets.proofs.number_weights_by.Goals as goal
 
 pub number_weights_at_two-requires : goal.number_weights_at_two-requires

@@ -4,7 +4,6 @@ use native.Mathlib.Nat.{one-mul, mod-eq_of_lt}
 use mathlib.Core.Path.{ap, ◌∙◌}
 use Prim.Native.Nat.{ℕ, ◌%◌, ◌^◌}
 use native.Mathlib.Omega.{arith}
-use borrow.Author.Rules.{rules}
 use Rattle.weight_sets.proofs.single.Goals as goal
 
 pub returns : goal.returns

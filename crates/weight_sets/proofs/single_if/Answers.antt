@@ -3,7 +3,6 @@ use Rattle.weight_sets.specs.Bits.{Has}
 use Rattle.weight_sets.proofs.Bits.{single_has, has_none}
 use mathlib.Core.Path.{subst}
 use Prim.Native.Nat.{ℕ}
-use borrow.Author.Rules.{rules}
 use Rattle.weight_sets.proofs.single_if.Goals as goal
 
 pub returns-then-given : goal.returns-then-given

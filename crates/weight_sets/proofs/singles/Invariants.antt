@@ -1,11 +1,7 @@
 -- The sets passed have their leaf's weight.
-use Rattle.weight_sets.proofs.Bits.{has_single}
-use Rattle.lists.proofs.Entries.{entry_next}
-use mathlib.Core.Path.{◌≡◌, refl, sym, ap, subst, ◌∙◌}
-use Prim.Native.Nat.{ℕ, ◌+◌, ◌-◌, ◌<◌, ◌^◌}
-use native.Mathlib.Omega.{arith}
-use lib.ListN.{length, get_or, set, length-set}
-use borrow.Author.Rules.{rules}
+use mathlib.Core.Path.{◌≡◌}
+use Prim.Native.Nat.{ℕ, ◌-◌, ◌<◌}
+use lib.ListN.{length, get_or}
 use Rattle.weight_sets.specs.Bits.{Has}
 use Rattle.weight_sets.proofs.singles.Given as goal
 
