@@ -1,4 +1,6 @@
 // The digit edit as a call: the table, the rows and what the editor asks for are checked, then the edit is made.
+#![tactic(auto)]
+
 ghost use Rattle.std.specs.Prelude.{◌≡◌};
 ghost use Rattle.faults.specs.Outcome.{refused, rows, editor};
 ghost use Rattle.edit_rules.specs.Edit.{edit_outcome, edit_state};

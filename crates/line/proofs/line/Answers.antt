@@ -5,32 +5,28 @@ use Rattle.table.specs.Answer.{outcome_of}
 use mathlib.Core.Path.{ap}
 use Rattle.line.proofs.line.Goals as goal
 
-pub returns-then-out-lt128-clause-count : goal.returns-then-out-lt128-clause-count
-returns-then-out-lt128-clause-count c = (line_short (outcome_of c.args.answer) c.args.out.now c.if-out-lt128.true).0
-
-pub returns-then-out-lt128-clause-buffer : goal.returns-then-out-lt128-clause-buffer
-returns-then-out-lt128-clause-buffer c = (line_short (outcome_of c.args.answer) c.args.out.now c.if-out-lt128.true).1.0
-
-pub returns-then-out-lt128-clause-within : goal.returns-then-out-lt128-clause-within
-returns-then-out-lt128-clause-within c = (line_short (outcome_of c.args.answer) c.args.out.now c.if-out-lt128.true).1.1
+pub returns-then-out-lt128 : goal.returns-then-out-lt128
+returns-then-out-lt128 c =
+    let made = line_short (outcome_of c.args.answer) c.args.out.now c.if-out-lt128.true in
+    record { count = made.0; buffer = made.1.0; within = made.1.1 }
 
 pub returns-in-Accepted : goal.returns-in-Accepted
 unfolding line_of
 returns-in-Accepted c =
-    let st = c in
-    line_long (outcome_of st.args.answer) st.args.out.now _ _ _ c.if-out-lt128.false (ap (λ a. line_of (outcome_of a)) c.in-Accepted.is) (c.accepted_line.ensures.count, (c.accepted_line.ensures.buffer, c.accepted_line.ensures.within))
+    let made = line_long (outcome_of c.args.answer) c.args.out.now _ _ _ c.if-out-lt128.false (ap (λ a. line_of (outcome_of a)) c.in-Accepted.is) (c.accepted_line.ensures.count, (c.accepted_line.ensures.buffer, c.accepted_line.ensures.within)) in
+    record { count = made.0; buffer = made.1.0; within = made.1.1 }
 
 pub returns-in-Author : goal.returns-in-Author
 returns-in-Author c =
-    let st = c in
-    line_long (outcome_of st.args.answer) st.args.out.now _ _ _ c.if-out-lt128.false (refused_case _ _ _ c.in-Refused.is c.in-Author.is) (c.refused_line.ensures.count, (c.refused_line.ensures.buffer, c.refused_line.ensures.within))
+    let made = line_long (outcome_of c.args.answer) c.args.out.now _ _ _ c.if-out-lt128.false (refused_case _ _ _ c.in-Refused.is c.in-Author.is) (c.refused_line.ensures.count, (c.refused_line.ensures.buffer, c.refused_line.ensures.within)) in
+    record { count = made.0; buffer = made.1.0; within = made.1.1 }
 
 pub returns-in-Rows : goal.returns-in-Rows
 returns-in-Rows c =
-    let st = c in
-    line_long (outcome_of st.args.answer) st.args.out.now _ _ _ c.if-out-lt128.false (refused_case _ _ _ c.in-Refused.is c.in-Rows.is) (c.refused_line-in-Rows.ensures.count, (c.refused_line-in-Rows.ensures.buffer, c.refused_line-in-Rows.ensures.within))
+    let made = line_long (outcome_of c.args.answer) c.args.out.now _ _ _ c.if-out-lt128.false (refused_case _ _ _ c.in-Refused.is c.in-Rows.is) (c.refused_line-in-Rows.ensures.count, (c.refused_line-in-Rows.ensures.buffer, c.refused_line-in-Rows.ensures.within)) in
+    record { count = made.0; buffer = made.1.0; within = made.1.1 }
 
 pub returns-in-Editor : goal.returns-in-Editor
 returns-in-Editor c =
-    let st = c in
-    line_long (outcome_of st.args.answer) st.args.out.now _ _ _ c.if-out-lt128.false (refused_case _ _ _ c.in-Refused.is c.in-Editor.is) (c.refused_line-in-Editor.ensures.count, (c.refused_line-in-Editor.ensures.buffer, c.refused_line-in-Editor.ensures.within))
+    let made = line_long (outcome_of c.args.answer) c.args.out.now _ _ _ c.if-out-lt128.false (refused_case _ _ _ c.in-Refused.is c.in-Editor.is) (c.refused_line-in-Editor.ensures.count, (c.refused_line-in-Editor.ensures.buffer, c.refused_line-in-Editor.ensures.within)) in
+    record { count = made.0; buffer = made.1.0; within = made.1.1 }

@@ -26,9 +26,9 @@ unfolding bytes_of refused_word place_word
 put-requires c =
     let st = c in omega (arith, item_room refused_word st.args.number st.ranges.number, item_room place_word st.args.place st.ranges.place)
 
-pub returns-clause-count : goal.returns-clause-count
+pub returns : goal.returns
 unfolding bytes_of refused_word place_word refused_line
-returns-clause-count c =
+returns c =
     let st = c in
     let s = st.args.out.now in
     let first : List ℕ = refused_word ++ decimal st.args.number in
@@ -39,34 +39,6 @@ returns-clause-count c =
     let back = length-append second line_feed in
     let pieces = next s _ _ first _ 0 _ _ (c.put_item-at.ensures.end, c.put_item-at.ensures.buffer) (next _ _ _ second line_feed _ _ _ (c.put_item-end.ensures.end, c.put_item-end.ensures.buffer) (last _ _ _ _ _ (c.put.ensures.next, c.put.ensures.written))) in
     let all = put_all pieces (omega (arith, first-room, second-room, front, back)) in
-    let line : first ++ (second ++ line_feed) ≡ refused_line st.args.number st.args.place = simp append_assoc in (put_line s _ _ _ _ 128 all line (omega (arith, first-room, second-room, front, back))).0
-
-pub returns-clause-buffer : goal.returns-clause-buffer
-unfolding bytes_of refused_word place_word refused_line
-returns-clause-buffer c =
-    let st = c in
-    let s = st.args.out.now in
-    let first : List ℕ = refused_word ++ decimal st.args.number in
-    let second : List ℕ = place_word ++ decimal st.args.place in
-    let first-room = item_room refused_word st.args.number st.ranges.number in
-    let second-room = item_room place_word st.args.place st.ranges.place in
-    let front = length-append first (second ++ line_feed) in
-    let back = length-append second line_feed in
-    let pieces = next s _ _ first _ 0 _ _ (c.put_item-at.ensures.end, c.put_item-at.ensures.buffer) (next _ _ _ second line_feed _ _ _ (c.put_item-end.ensures.end, c.put_item-end.ensures.buffer) (last _ _ _ _ _ (c.put.ensures.next, c.put.ensures.written))) in
-    let all = put_all pieces (omega (arith, first-room, second-room, front, back)) in
-    let line : first ++ (second ++ line_feed) ≡ refused_line st.args.number st.args.place = simp append_assoc in (put_line s _ _ _ _ 128 all line (omega (arith, first-room, second-room, front, back))).1.0
-
-pub returns-clause-within : goal.returns-clause-within
-unfolding bytes_of refused_word place_word refused_line
-returns-clause-within c =
-    let st = c in
-    let s = st.args.out.now in
-    let first : List ℕ = refused_word ++ decimal st.args.number in
-    let second : List ℕ = place_word ++ decimal st.args.place in
-    let first-room = item_room refused_word st.args.number st.ranges.number in
-    let second-room = item_room place_word st.args.place st.ranges.place in
-    let front = length-append first (second ++ line_feed) in
-    let back = length-append second line_feed in
-    let pieces = next s _ _ first _ 0 _ _ (c.put_item-at.ensures.end, c.put_item-at.ensures.buffer) (next _ _ _ second line_feed _ _ _ (c.put_item-end.ensures.end, c.put_item-end.ensures.buffer) (last _ _ _ _ _ (c.put.ensures.next, c.put.ensures.written))) in
-    let all = put_all pieces (omega (arith, first-room, second-room, front, back)) in
-    let line : first ++ (second ++ line_feed) ≡ refused_line st.args.number st.args.place = simp append_assoc in (put_line s _ _ _ _ 128 all line (omega (arith, first-room, second-room, front, back))).1.1
+    let line : first ++ (second ++ line_feed) ≡ refused_line st.args.number st.args.place = simp append_assoc in
+    let made = put_line s _ _ _ _ 128 all line (omega (arith, first-room, second-room, front, back)) in
+    record { count = made.0; buffer = made.1.0; within = made.1.1 }

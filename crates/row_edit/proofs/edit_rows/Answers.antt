@@ -9,7 +9,6 @@ use Rattle.faults.specs.Outcome.{author}
 use Rattle.adder_rules.specs.Add.{row_part}
 use Rattle.edit_rules.specs.State.{State, state, new_inputs, renewed_count}
 use Rattle.edit_rules.proofs.Renewed.{renew_given, renew_lent, renew_written, lent_long, sum_renewed, count_is, shallow, part_fits, bytes_asked, row_inputs, outside_found, none_outside, reached, digits_found, digits_room}
-use borrow.Author.Rules.{rules}
 use Rattle.row_edit.proofs.edit_rows.Goals as goal
 
 pub part_end-end-requires : goal.part_end-end-requires
@@ -80,38 +79,45 @@ slice_bounds-renew-end c =
     let pre = s.requires in
     omega (arith, pre.depth, part_fits s.args.table.now s.args.change (lent) pre.table pre.rows pre.edit)
 
-pub returns-clause-outcome : goal.returns-clause-outcome
-returns-clause-outcome c =
+pub slice_bounds-digits-end : goal.slice_bounds-digits-end
+slice_bounds-digits-end c =
     let lent : State = state c.args.first.now c.args.second.now c.args.sum.now in
-    let found : (let s = c in let a = s.args in a.depth < c.digits_of-found.result.count → take (a.depth + 1) c.digits_of-found.new.1.1.1.1.0 ≡ row_part a.table.now (new_inputs a.table.now a.change (lent)) a.change.place (renewed_count a.table.now)) = λ h. let s = c in let a = s.args in let pre = s.requires in let part-start = c.part_start-from in let part-end = c.part_end-end in let inputs-of = c.inputs_of-row in ap (take (a.depth + 1)) c.digits_of-found.ensures.digits ∙ digits_found a.table.now a.change (lent) pre.table pre.rows pre.edit part-start.result part-end.result a.depth pre.depth part-start.ensures part-end.ensures.above part-end.ensures.within part-end.ensures.reach inputs-of.result inputs-of.ensures c.digits_of-found.result.count c.digits_of-found.ensures.count (replicate 9 0) h in
+    let few : c.args.depth ≤ 8 = let pre = c.requires in omega (arith, pre.depth, shallow c.args.table.now c.args.change (lent) pre.table pre.rows pre.edit) in
+    let long : length c.digits_of-found.new.out ≡ 9 = let s = c in let a = s.args in let pre = s.requires in let part-start = c.part_start-from in let part-end = c.part_end-end in let inputs-of = c.inputs_of-row in ap length c.digits_of-found.ensures.digits ∙ digits_room a.table.now a.change (lent) pre.table pre.rows pre.edit part-start.result part-end.result a.depth pre.depth part-start.ensures part-end.ensures.above part-end.ensures.within part-end.ensures.reach inputs-of.result inputs-of.ensures c.digits_of-found.result.count c.digits_of-found.ensures.count (replicate 9 0) (omega (arith, length-replicate {A = ℕ} 9 0, few)) ∙ length-replicate {A = ℕ} 9 0 in
     let s = c in
-    let a = s.args in
     let pre = s.requires in
-    let part-start = c.part_start-from in
-    let part-end = c.part_end-end in
-    let inputs-of = c.inputs_of-row in
-    let digits_of = c.digits_of-found in
-    let if1 = c.if-found-depth in
-    let store = c.store in
-    let renew = c.renew-count in
-    let file = a.table.now in
-    let fits = part_fits file a.change (lent) pre.table pre.rows pre.edit in
-    let digits = found if1.false in
-    let none = none_outside file a.change (lent) pre.table pre.rows pre.edit
-    part-start.result part-end.result a.depth pre.depth part-start.ensures part-end.ensures.above part-end.ensures.within part-end.ensures.reach
-    inputs-of.result inputs-of.ensures digits_of.result.count digits_of.ensures.count if1.false in
-    let count = renew.ensures.count ∙ count_is file a.change (lent) fits a.depth pre.depth _ digits in
-    let reach = digits_of.ensures.reach ∙ reached file a.change (lent) pre.table pre.rows pre.edit
-    part-start.result part-end.result a.depth pre.depth part-start.ensures part-end.ensures.above part-end.ensures.within part-end.ensures.reach
-    inputs-of.result inputs-of.ensures digits_of.result.count digits_of.ensures.count if1.false in
-    let is = renew_given file a.change (lent) _ (λ i. record { count = count i; reach = reach i }) none in
-    let sum = sum_renewed file a.change (lent) fits a.depth pre.depth renew.new.0 (renew.ensures.part ∙ digits) in
-    is
+    omega (arith, long, few)
 
-pub returns-clause-buffers : goal.returns-clause-buffers
-returns-clause-buffers c =
+pub slice_bounds-renew-end-2 : goal.slice_bounds-renew-end-2
+slice_bounds-renew-end-2 c =
     let lent : State = state c.args.first.now c.args.second.now c.args.sum.now in
-    let found : (let s = c in let a = s.args in a.depth < c.digits_of-found.result.count → take (a.depth + 1) c.digits_of-found.new.1.1.1.1.0 ≡ row_part a.table.now (new_inputs a.table.now a.change (lent)) a.change.place (renewed_count a.table.now)) = λ h. let s = c in let a = s.args in let pre = s.requires in let part-start = c.part_start-from in let part-end = c.part_end-end in let inputs-of = c.inputs_of-row in ap (take (a.depth + 1)) c.digits_of-found.ensures.digits ∙ digits_found a.table.now a.change (lent) pre.table pre.rows pre.edit part-start.result part-end.result a.depth pre.depth part-start.ensures part-end.ensures.above part-end.ensures.within part-end.ensures.reach inputs-of.result inputs-of.ensures c.digits_of-found.result.count c.digits_of-found.ensures.count (replicate 9 0) h in
+    let few : c.args.depth ≤ 8 = let pre = c.requires in omega (arith, pre.depth, shallow c.args.table.now c.args.change (lent) pre.table pre.rows pre.edit) in
+    let long : length c.digits_of-found.new.out ≡ 9 = let s = c in let a = s.args in let pre = s.requires in let part-start = c.part_start-from in let part-end = c.part_end-end in let inputs-of = c.inputs_of-row in ap length c.digits_of-found.ensures.digits ∙ digits_room a.table.now a.change (lent) pre.table pre.rows pre.edit part-start.result part-end.result a.depth pre.depth part-start.ensures part-end.ensures.above part-end.ensures.within part-end.ensures.reach inputs-of.result inputs-of.ensures c.digits_of-found.result.count c.digits_of-found.ensures.count (replicate 9 0) (omega (arith, length-replicate {A = ℕ} 9 0, few)) ∙ length-replicate {A = ℕ} 9 0 in
+    let s = c in
+    let a = s.args in
+    let pre = s.requires in
+    sym (length-take-le (a.depth + 1) c.digits_of-found.new.out (omega (arith, long, few)))
+
+pub renew-count-requires : goal.renew-count-requires
+renew-count-requires c =
+    let lent : State = state c.args.first.now c.args.second.now c.args.sum.now in
+    let few : c.args.depth ≤ 8 = let pre = c.requires in omega (arith, pre.depth, shallow c.args.table.now c.args.change (lent) pre.table pre.rows pre.edit) in
+    let long : length c.digits_of-found.new.out ≡ 9 = let s = c in let a = s.args in let pre = s.requires in let part-start = c.part_start-from in let part-end = c.part_end-end in let inputs-of = c.inputs_of-row in ap length c.digits_of-found.ensures.digits ∙ digits_room a.table.now a.change (lent) pre.table pre.rows pre.edit part-start.result part-end.result a.depth pre.depth part-start.ensures part-end.ensures.above part-end.ensures.within part-end.ensures.reach inputs-of.result inputs-of.ensures c.digits_of-found.result.count c.digits_of-found.ensures.count (replicate 9 0) (omega (arith, length-replicate {A = ℕ} 9 0, few)) ∙ length-replicate {A = ℕ} 9 0 in
+    let s = c in
+    let a = s.args in
+    let pre = s.requires in
+    omega (
+      arith,
+      pre.depth,
+      length-take-le (a.depth + 1) c.digits_of-found.new.out (omega (arith, long, few)),
+      lent_long a.table.now a.change (lent)
+          (part_fits a.table.now a.change (lent) pre.table pre.rows pre.edit) a.depth pre.depth,
+    )
+
+pub returns : goal.returns
+returns c =
+    let lent : State = state c.args.first.now c.args.second.now c.args.sum.now in
+    let found : (let s = c in let a = s.args in a.depth < c.digits_of-found.result.count → take (a.depth + 1) c.digits_of-found.new.out ≡ row_part a.table.now (new_inputs a.table.now a.change (lent)) a.change.place (renewed_count a.table.now)) = λ h. let s = c in let a = s.args in let pre = s.requires in let part-start = c.part_start-from in let part-end = c.part_end-end in let inputs-of = c.inputs_of-row in ap (take (a.depth + 1)) c.digits_of-found.ensures.digits ∙ digits_found a.table.now a.change (lent) pre.table pre.rows pre.edit part-start.result part-end.result a.depth pre.depth part-start.ensures part-end.ensures.above part-end.ensures.within part-end.ensures.reach inputs-of.result inputs-of.ensures c.digits_of-found.result.count c.digits_of-found.ensures.count (replicate 9 0) h in
     let s = c in
     let a = s.args in
     let pre = s.requires in
@@ -133,5 +139,5 @@ returns-clause-buffers c =
     part-start.result part-end.result a.depth pre.depth part-start.ensures part-end.ensures.above part-end.ensures.within part-end.ensures.reach
     inputs-of.result inputs-of.ensures digits_of.result.count digits_of.ensures.count if1.false in
     let is = renew_given file a.change (lent) _ (λ i. record { count = count i; reach = reach i }) none in
-    let sum = sum_renewed file a.change (lent) fits a.depth pre.depth renew.new.0 (renew.ensures.part ∙ digits) in
-    (λ i. state (store.ensures.first i) (store.ensures.second i) (sum i)) ∙ renew_written file a.change (lent) _ is
+    let sum = sum_renewed file a.change (lent) fits a.depth pre.depth renew.new.part (renew.ensures.part ∙ digits) in
+    record { outcome = is; buffers = (λ i. state (store.ensures.first i) (store.ensures.second i) (sum i)) ∙ renew_written file a.change (lent) _ is }

@@ -1,13 +1,9 @@
 -- After k bytes the first k are the new digits, and the count is of those that differ.
-use Rattle.edit_rules.proofs.Written.{next_written, all_written, count_more, count_on, count_start, count_end}
 use Rattle.edit_rules.specs.Count.{differing}
-use Rattle.lists.proofs.Overwrite.{overwrite_none}
 use Rattle.lists.specs.Overwrite.{overwrite}
-use lib.ListN.{length, take, get_or, length-set}
-use native.Mathlib.Omega.{arith}
-use Prim.Native.Nat.{ℕ, ◌+◌, ◌-◌, ◌<◌, ◌≤◌}
-use mathlib.Core.Logic.{⊎_elim}
-use mathlib.Core.Path.{◌≡◌, refl, sym, ap, ◌∙◌}
+use lib.ListN.{length, take}
+use Prim.Native.Nat.{◌+◌, ◌-◌, ◌≤◌}
+use mathlib.Core.Path.{◌≡◌}
 use Rattle.row_edit.proofs.renew.Given as goal
 
 abbrev pub invariant-loop-k : goal.invariant-loop-k

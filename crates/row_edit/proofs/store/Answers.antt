@@ -2,7 +2,6 @@
 use Rattle.row_rules.proofs.Changed.{changed_own, changed_other}
 use native.Mathlib.Omega.{arith}
 use mathlib.Core.Path.{sym}
-use borrow.Author.Rules.{rules}
 use Rattle.row_edit.proofs.store.Goals as goal
 
 pub returns-then-change-eq0 : goal.returns-then-change-eq0
