@@ -13,7 +13,7 @@ use Rattle.answer_rules.specs.Word.{word_of}
 
 -- a word that was stored and read again
 pub kept : (z : ℤ) (n : ℕ) → mag z < 2 ^ 63 → z ≡ word_of n → to_z w64 (of_z w64 z) ≡ word_of n
-kept z n h e = to_z-of_z (record { sfits = h }) ∙ e
+kept z n h e = to_z-of_z {w = w64} {z = z} (record { sfits = h }) ∙ e
 
 -- a 32-bit number, read and widened
 pub narrow_fits : (z : ℤ) → SFits w32 z → SFits w64 (to_z w32 (of_z w32 z))

@@ -35,22 +35,14 @@ loop-filled-preserved c =
 pub put-requires : goal.put-requires
 put-requires c = omega (arith, right_length c.args.width c.args.text.now)
 
-pub returns-clause-end : goal.returns-clause-end
+pub returns : goal.returns
 unfolding right
-returns-clause-end c =
+returns c =
     let a = c.args in
     let loop = c.loop-filled in
     let n : ℕ = a.width - length a.text.now in
     let all : loop.filled - length a.text.now ≡ n = omega arith in
     let long : length (replicate {A = ℕ} n 32) ≡ n = length-replicate n 32 in
-    let spaces : Put a.out.now loop.out a.at loop.end (replicate n 32) = (omega (arith, long), loop.invariant.3 ∙ ap (λ (i : ℕ). overwrite a.out.now a.at (replicate i 32)) all) in (put_more a.out.now _ _ (replicate n 32) a.text.now a.at _ _ spaces (c.put.ensures.next, c.put.ensures.written) (omega (arith, long, right_length a.width a.text.now))).0
-
-pub returns-clause-buffer : goal.returns-clause-buffer
-unfolding right
-returns-clause-buffer c =
-    let a = c.args in
-    let loop = c.loop-filled in
-    let n : ℕ = a.width - length a.text.now in
-    let all : loop.filled - length a.text.now ≡ n = omega arith in
-    let long : length (replicate {A = ℕ} n 32) ≡ n = length-replicate n 32 in
-    let spaces : Put a.out.now loop.out a.at loop.end (replicate n 32) = (omega (arith, long), loop.invariant.3 ∙ ap (λ (i : ℕ). overwrite a.out.now a.at (replicate i 32)) all) in (put_more a.out.now _ _ (replicate n 32) a.text.now a.at _ _ spaces (c.put.ensures.next, c.put.ensures.written) (omega (arith, long, right_length a.width a.text.now))).1
+    let spaces : Put a.out.now loop.out a.at loop.end (replicate n 32) = (omega (arith, long), loop.invariant.3 ∙ ap (λ (i : ℕ). overwrite a.out.now a.at (replicate i 32)) all) in
+    let made = put_more a.out.now _ _ (replicate n 32) a.text.now a.at _ _ spaces (c.put.ensures.next, c.put.ensures.written) (omega (arith, long, right_length a.width a.text.now)) in
+    record { end = made.0; buffer = made.1 }
