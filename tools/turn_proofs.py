@@ -272,6 +272,7 @@ class Turner:
 
     def fields(self, at, step_place, rest):
         """Fields after a step: clause numbers become clause names."""
+        rest = [{"type-inv": "type_inv"}.get(r, r) for r in rest]
         if rest and step_place is not None:
             c = self.fn.d["clauses"][step_place]
             if rest[0] == "ensures" and c and c.get("fields") and len(c["fields"]) == 1 and rest[1:2] != c["fields"]:

@@ -1,5 +1,7 @@
 // The answer array of a call for C: signed 64-bit words, 0 and the facts, or whose fault it is (1 author, 2 rows, 3 editor), its number and
 // its place.
+#![tactic(auto)]
+
 ghost use Rattle.std.specs.Prelude.{◌≡◌, [], ◌∷◌, ◌≤◌, length, pos};
 ghost use Rattle.lists.specs.Overwrite.{overwrite};
 ghost use Rattle.midpoint.specs.Midpoint.{parts};

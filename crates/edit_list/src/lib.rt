@@ -1,4 +1,6 @@
 // A list of edits, called one after the other, and their answers in numbers.
+#![tactic(auto)]
+
 ghost use Rattle.std.specs.Prelude.{◌≡◌, ◌≤◌, length};
 ghost use Rattle.lists.specs.Overwrite.{overwrite};
 ghost use Rattle.edit_rules.specs.State.{state};

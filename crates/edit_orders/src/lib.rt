@@ -1,4 +1,6 @@
 // Two edits in both orders, each order with buffers of its own: what "Two hands on one sum" (document 02, job 10) promises, on the calls.
+#![tactic(auto)]
+
 ghost use Rattle.std.specs.Prelude.{◌≡◌};
 ghost use Rattle.faults.specs.Outcome.{facts};
 ghost use Rattle.table_rules.specs.Check.{check_facts, check_outcome};
