@@ -6,10 +6,9 @@ use borrow.Author.Rules.{rules}
 use Rattle.lists.proofs.Overwrite.{overwrite_none, overwrite_step}
 use Rattle.lists.specs.Overwrite.{overwrite}
 use lib.Seq.{take_all}
-use lib.ListN.{length, take, get_or, set, length-set}
+use lib.ListN.{length, get_or, set, length-set}
 use native.Mathlib.Omega.{arith}
-use Prim.Native.Nat.{◌-◌, ◌≤◌}
-use mathlib.Core.Path.{◌≡◌, refl, sym, ap, ap₂, ◌∙◌}
+use mathlib.Core.Path.{refl, sym, ap, ap₂, ◌∙◌}
 use Rattle.answer_words.proofs.put.Goals as goal
 
 pub loop-i-init : goal.loop-i-init

@@ -1,16 +1,8 @@
 -- After i words the answer has the first i of them written.
-use native.Mathlib.Nat.{zero-add}
-use lib.IntN.{pos}
-use mir.ValLaws.{to_z-of_z}
-use mir.Syntax.{w64}
-use borrow.Author.Rules.{rules}
-use Rattle.lists.proofs.Overwrite.{overwrite_none, overwrite_step}
 use Rattle.lists.specs.Overwrite.{overwrite}
-use lib.Seq.{take_all}
-use lib.ListN.{length, take, get_or, set, length-set}
-use native.Mathlib.Omega.{arith}
+use lib.ListN.{length, take}
 use Prim.Native.Nat.{◌-◌, ◌≤◌}
-use mathlib.Core.Path.{◌≡◌, refl, sym, ap, ap₂, ◌∙◌}
+use mathlib.Core.Path.{◌≡◌}
 use Rattle.answer_words.proofs.put.Given as goal
 
 abbrev pub invariant-loop-i : goal.invariant-loop-i

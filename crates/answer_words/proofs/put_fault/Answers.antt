@@ -6,7 +6,6 @@ use mathlib.Core.Path.{refl, ap, ◌∙◌}
 use lib.IntN.{ℤ}
 use Rattle.lists.specs.Overwrite.{overwrite}
 use Rattle.answer_rules.specs.Word.{word_of}
-use borrow.Author.Rules.{rules}
 use Rattle.answer_words.proofs.put_fault.Goals as goal
 
 pub returns : goal.returns

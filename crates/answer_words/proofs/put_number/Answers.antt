@@ -3,7 +3,6 @@ use Rattle.answer_rules.proofs.Bits.{kept}
 use Rattle.lists.specs.Overwrite.{overwrite}
 use Rattle.lists.proofs.Cons.{cons≡}
 use mathlib.Core.Path.{refl, ap, ◌∙◌}
-use borrow.Author.Rules.{rules}
 use Rattle.answer_words.proofs.put_number.Goals as goal
 
 pub returns : goal.returns

@@ -5,7 +5,6 @@ use mathlib.Core.Path.{refl, ap, ◌∙◌}
 use Rattle.lists.proofs.Cons.{cons≡}
 use Rattle.lists.specs.Overwrite.{overwrite}
 use Rattle.answer_rules.proofs.Bits.{kept}
-use borrow.Author.Rules.{rules}
 use Rattle.answer_words.proofs.put_three.Goals as goal
 
 pub returns : goal.returns

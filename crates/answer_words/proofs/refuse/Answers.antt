@@ -2,7 +2,6 @@
 use mathlib.Core.Path.{sym, ap, ◌∙◌}
 use Rattle.answer_rules.specs.Fault.{fault_words}
 use Rattle.lists.specs.Overwrite.{overwrite}
-use borrow.Author.Rules.{rules}
 use Rattle.answer_words.proofs.refuse.Goals as goal
 
 pub returns-in-Author : goal.returns-in-Author

@@ -1,6 +1,5 @@
 -- The bits as they are, or what is missing to 2^64 - 1 taken from -1.
 use Rattle.answer_rules.proofs.Bits.{cast_small, cast_large_fits, cast_large}
-use borrow.Author.Rules.{rules}
 use Rattle.answer_words.proofs.word.Goals as goal
 
 pub returns-then-n-lt9223372036854775808 : goal.returns-then-n-lt9223372036854775808

@@ -5,7 +5,6 @@ use Rattle.lists.proofs.Pieces.{last, next, put_all, put_line}
 use lib.ListN.{length-append}
 use mathlib.Core.Path.{refl}
 use native.Mathlib.Omega.{arith}
-use borrow.Author.Rules.{rules}
 use Rattle.why_lines.proofs.byte_line.Goals as goal
 
 pub put-requires : goal.put-requires

@@ -11,7 +11,6 @@ use Prim.Native.Nat.{◌≤◌, ◌^◌}
 use mathlib.Core.List.{◌++◌}
 use mathlib.Core.Path.{refl}
 use native.Mathlib.Omega.{arith}
-use borrow.Author.Rules.{rules}
 use Rattle.why_lines.proofs.digit_lines.Goals as goal
 
 pub put_element-end-requires : goal.put_element-end-requires

@@ -12,7 +12,6 @@ use Prim.Native.Nat.{◌^◌}
 use mathlib.Core.List.{◌++◌}
 use mathlib.Core.Path.{refl}
 use native.Mathlib.Omega.{arith}
-use borrow.Author.Rules.{rules}
 use Rattle.why_lines.proofs.element_line.Goals as goal
 
 pub put_item-at-requires : goal.put_item-at-requires

@@ -8,7 +8,6 @@ use lib.ListN.{length-append}
 use mathlib.Core.List.{◌++◌}
 use mathlib.Core.Path.{refl}
 use native.Mathlib.Omega.{arith}
-use borrow.Author.Rules.{rules}
 use Rattle.why_lines.proofs.extent_line.Goals as goal
 
 pub put_item-end-requires : goal.put_item-end-requires

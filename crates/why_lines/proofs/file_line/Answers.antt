@@ -8,7 +8,6 @@ use lib.ListN.{length-append}
 use mathlib.Core.List.{◌++◌}
 use mathlib.Core.Path.{sym}
 use native.Mathlib.Omega.{arith}
-use borrow.Author.Rules.{rules}
 use Rattle.why_lines.proofs.file_line.Goals as goal
 
 pub returns-then-n-gt65535 : goal.returns-then-n-gt65535

@@ -6,7 +6,6 @@ use Rattle.lists.proofs.Pieces.{put_line}
 use Rattle.lists.proofs.Overwrite.{overwrite_none}
 use mathlib.Core.Path.{refl, sym, ap}
 use native.Mathlib.Omega.{arith}
-use borrow.Author.Rules.{rules}
 use Rattle.why_lines.proofs.file_rule.Goals as goal
 
 pub returns-then-number-eq0 : goal.returns-then-number-eq0

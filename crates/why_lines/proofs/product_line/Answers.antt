@@ -11,7 +11,6 @@ use Prim.Native.Nat.{ℕ, ◌+◌, ◌≤◌, ◌^◌}
 use mathlib.Core.List.{List, ◌++◌}
 use mathlib.Core.Path.{refl}
 use native.Mathlib.Omega.{arith}
-use borrow.Author.Rules.{rules}
 use Rattle.why_lines.proofs.product_line.Goals as goal
 
 pub put_bracketed-plus-requires : goal.put_bracketed-plus-requires

@@ -5,7 +5,6 @@ use Rattle.text_rules.specs.Bytes.{bytes_of}
 use Rattle.listing_rules.specs.Element.{element_text}
 use Rattle.lists.proofs.Pieces.{last, next, put_all}
 use native.Mathlib.Omega.{arith}
-use borrow.Author.Rules.{rules}
 use Rattle.why_lines.proofs.put_bracketed.Goals as goal
 
 pub put-start-requires : goal.put-start-requires

@@ -6,7 +6,6 @@ use Rattle.lists.proofs.Pieces.{last, next, put_all}
 use lib.ListN.{length-append}
 use mathlib.Core.List.{◌++◌}
 use native.Mathlib.Omega.{arith}
-use borrow.Author.Rules.{rules}
 use Rattle.why_lines.proofs.put_numbers.Goals as goal
 
 pub put_item-at-requires : goal.put_item-at-requires

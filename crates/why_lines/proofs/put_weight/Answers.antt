@@ -8,7 +8,6 @@ use Rattle.lists.proofs.Pieces.{last, next, put_all}
 use lib.ListN.{length-append}
 use Prim.Native.Nat.{◌^◌}
 use native.Mathlib.Omega.{arith}
-use borrow.Author.Rules.{rules}
 use Rattle.why_lines.proofs.put_weight.Goals as goal
 
 pub put_element-end-requires : goal.put_element-end-requires

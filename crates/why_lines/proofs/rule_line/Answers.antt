@@ -1,6 +1,5 @@
 -- By which of the three has the number.
 use Rattle.why_rules.proofs.Lines.{rule_file, rule_digit, rule_leaf}
-use borrow.Author.Rules.{rules}
 use Rattle.why_lines.proofs.rule_line.Goals as goal
 
 pub returns-then-number-lt5-clause-count : goal.returns-then-number-lt5-clause-count
