@@ -1,4 +1,6 @@
 // The runner: the check, the addition and a list of edits, as calls one after the other.
+#![tactic(auto)]
+
 ghost use Rattle.std.specs.Prelude.{◌≡◌, min, length};
 ghost use Rattle.lists.specs.Overwrite.{overwrite};
 ghost use Rattle.faults.specs.Outcome.{at_exit};

@@ -13,15 +13,6 @@ loop-i-init c =
     let a = c.args in
     (omega arith, after_none a.rows.now a.places.now a.digits.now a.table.now (state a.first.now a.second.now a.sum.now) a.whose.now a.numbers.now a.values.now, refl, refl, refl, refl, refl, refl)
 
-pub offset_bounds-whose-i : goal.offset_bounds-whose-i
-offset_bounds-whose-i c = omega (arith, c.well-formed.1.1.1.1.1.1.1.0.1)
-
-pub offset_bounds-numbers-i : goal.offset_bounds-numbers-i
-offset_bounds-numbers-i c = omega (arith, c.well-formed.1.1.1.1.1.1.1.1.0.1)
-
-pub offset_bounds-values-i : goal.offset_bounds-values-i
-offset_bounds-values-i c = omega (arith, c.well-formed.1.1.1.1.1.1.1.1.1.0.1)
-
 pub loop-i-preserved : goal.loop-i-preserved
 loop-i-preserved c =
     let start = c in
