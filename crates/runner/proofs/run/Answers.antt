@@ -24,18 +24,17 @@ returns-in-Edits c =
     let answered = c.shortest_of-answered in
     let count = c.least-count in
     let begun = c.start-answer in
-    let edits = c.enum_told-1 in
     let counted : count.result ≡ m = count.ensures ∙ ap₂ min listed.ensures answered.ensures in
     let is = begun.ensures.outcome ∙ ap (run_outcome a.table.now s) (counted ∙ sym (length_edits a.rows.now a.places.now a.digits.now m)) in
-    let passed = sym (ap outcome_of edits.given.1) in
-    let summed = begun.ensures.sum ∙ sym (exit_written _ edits.given.0.0 a.sum.now _ passed) in
-    let ran = edits_ran a.table.now s a.rows.now a.places.now a.digits.now m count.result counted _ summed edits.given.0.0 (passed ∙ is) in record {
+    let passed = sym (ap outcome_of c.in-Edits.is) in
+    let summed = begun.ensures.sum ∙ sym (exit_written _ c.in-Edits.field-0 a.sum.now _ passed) in
+    let ran = edits_ran a.table.now s a.rows.now a.places.now a.digits.now m count.result counted _ summed c.in-Edits.field-0 (passed ∙ is) in record {
       outcome = is;
-      buffers = (c.edit_each.ensures.buffers, c.edit_each.ensures.answers).0 ∙ ap (λ (r : Ran). r.buffers) ran;
+      buffers = c.edit_each.ensures.buffers ∙ ap (λ (r : Ran). r.buffers) ran;
       answers = (
-        (c.edit_each.ensures.buffers, c.edit_each.ensures.answers).1.0 ∙ ap (λ (r : Ran). overwrite a.whose.now 0 (groups_of r.answers)) ran,
-        (c.edit_each.ensures.buffers, c.edit_each.ensures.answers).1.1 ∙ ap (λ (r : Ran). overwrite a.numbers.now 0 (numbers_of r.answers)) ran,
-        (c.edit_each.ensures.buffers, c.edit_each.ensures.answers).1.2 ∙ ap (λ (r : Ran). overwrite a.values.now 0 (values_of r.answers)) ran,
+        c.edit_each.ensures.answers.0 ∙ ap (λ (r : Ran). overwrite a.whose.now 0 (groups_of r.answers)) ran,
+        c.edit_each.ensures.answers.1 ∙ ap (λ (r : Ran). overwrite a.numbers.now 0 (numbers_of r.answers)) ran,
+        c.edit_each.ensures.answers.2 ∙ ap (λ (r : Ran). overwrite a.values.now 0 (values_of r.answers)) ran,
       );
     }
 
