@@ -1,4 +1,6 @@
 // The answer of each call in the lent array for C: 0 and the facts, or the fault. What the call returns: 0 for facts, 1 for a fault.
+#![tactic(auto)]
+
 ghost use Rattle.std.specs.Prelude.{◌≡◌, ◌≤◌, length};
 ghost use Rattle.lists.specs.Overwrite.{overwrite};
 ghost use Rattle.answer_rules.specs.Answer.{outcome_status, outcome_words, check_words, forecast_words, add_words, edit_words, run_words, element_words, bad_row_words};
