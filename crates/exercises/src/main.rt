@@ -8,7 +8,7 @@ use exercise_calls::{
 use std::io;
 
 mod changes;
-mod lists;
+mod listed_edits;
 mod orders;
 
 // M1 to M12
@@ -50,7 +50,7 @@ fn edited_rows(rt: &impl Print) -> io::Result<()> {
     changes::reach_list(rt)?;
     changes::longest_rows(rt)?;
     changes::longer_rows(rt)?;
-    lists::runs(rt)
+    listed_edits::runs(rt)
 }
 
 fn elements_of_rows(rt: &impl Print) -> io::Result<()> {

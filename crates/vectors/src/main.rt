@@ -1,9 +1,9 @@
 // The program `vectors`: calls on standard input, a line for each on standard output (docs/VECTORS.md).
 #![tactic(auto)]
 
-mod calls;
 mod input;
 mod output;
+mod requests;
 
 // Reads one call and writes its line. False where the run ends: at the end of the input, at a call that is cut, at a byte that
 // names no call.
@@ -14,15 +14,15 @@ fn answered(rt: &(impl Input + Print)) -> bool {
     }
     let call = name[0];
     match call {
-        1 => calls::check(rt),
-        2 | 3 | 8 => calls::on_rows(rt, call),
-        4 => calls::value(rt),
-        5 => calls::midpoint(rt),
+        1 => requests::check(rt),
+        2 | 3 | 8 => requests::on_rows(rt, call),
+        4 => requests::value(rt),
+        5 => requests::midpoint(rt),
         6 => output::table_bytes(rt, &carried::tern()),
         7 => output::table_bytes(rt, &carried::bin()),
-        9 => calls::bad_row(rt),
-        17 => calls::forecast(rt),
-        19 => calls::look_up(rt),
+        9 => requests::bad_row(rt),
+        17 => requests::forecast(rt),
+        19 => requests::look_up(rt),
         _ => false,
     }
 }

@@ -2,7 +2,7 @@
 use Rattle.std.proofs.Common.{lit<}
 use Rattle.adder_rules.proofs.Table.{directory_kept}
 use Rattle.reader_rules.proofs.Answer.{found_facts}
-use Rattle.vectors.proofs.calls.leaf_line.Goals as goal
+use Rattle.vectors.proofs.requests.leaf_line.Goals as goal
 
 pub section-leaves-requires : goal.section-leaves-requires
 section-leaves-requires g c =

@@ -1,6 +1,6 @@
 -- At each turn the place is below 6.
 use Rattle.std.proofs.Common.{◌-◌, ◌≤◌}
-use Rattle.exercises.proofs.lists.told.Given as goal
+use Rattle.exercises.proofs.listed_edits.told.Given as goal
 
 abbrev pub invariant-loop-i : goal.invariant-loop-i
 invariant-loop-i g l = l.i ≤ 6
