@@ -7,56 +7,23 @@ use Rattle.layout_rules.specs.Section.{degree_in}
 use Rattle.lists.specs.Overwrite.{overwrite}
 use Rattle.adder_c.proofs.bad_rows.yoyomyrtle_bad_row.Goals as goal
 
-pub returns-then-answer-lt8-clause-outcome : goal.returns-then-answer-lt8-clause-outcome
-returns-then-answer-lt8-clause-outcome c =
+pub returns-then-answer-lt8 : goal.returns-then-answer-lt8
+returns-then-answer-lt8 c =
     let a = c.args in
-    (no_words (degree_in a.table.now) a.table.now a.string.now a.answer.now c.if-answer-lt8.true).0
+    let made = no_words (degree_in a.table.now) a.table.now a.string.now a.answer.now c.if-answer-lt8.true in
+    record { outcome = made.0; answer = made.1.0; string = made.1.1 }
 
-pub returns-then-answer-lt8-clause-answer : goal.returns-then-answer-lt8-clause-answer
-returns-then-answer-lt8-clause-answer c =
+pub returns-then-string-lt9 : goal.returns-then-string-lt9
+returns-then-string-lt9 c =
     let a = c.args in
-    (no_words (degree_in a.table.now) a.table.now a.string.now a.answer.now c.if-answer-lt8.true).1.0
+    let made = no_bytes (degree_in a.table.now) a.table.now a.string.now a.answer.now c.if-string-lt9.true in
+    record { outcome = made.0; answer = made.1.0; string = made.1.1 }
 
-pub returns-then-answer-lt8-clause-string : goal.returns-then-answer-lt8-clause-string
-returns-then-answer-lt8-clause-string c =
-    let a = c.args in
-    (no_words (degree_in a.table.now) a.table.now a.string.now a.answer.now c.if-answer-lt8.true).1.1
-
-pub returns-then-string-lt9-clause-outcome : goal.returns-then-string-lt9-clause-outcome
-returns-then-string-lt9-clause-outcome c =
-    let a = c.args in
-    (no_bytes (degree_in a.table.now) a.table.now a.string.now a.answer.now c.if-string-lt9.true).0
-
-pub returns-then-string-lt9-clause-answer : goal.returns-then-string-lt9-clause-answer
-returns-then-string-lt9-clause-answer c =
-    let a = c.args in
-    (no_bytes (degree_in a.table.now) a.table.now a.string.now a.answer.now c.if-string-lt9.true).1.0
-
-pub returns-then-string-lt9-clause-string : goal.returns-then-string-lt9-clause-string
-returns-then-string-lt9-clause-string c =
-    let a = c.args in
-    (no_bytes (degree_in a.table.now) a.table.now a.string.now a.answer.now c.if-string-lt9.true).1.1
-
-pub returns-clause-outcome : goal.returns-clause-outcome
-returns-clause-outcome c =
+pub returns : goal.returns
+returns c =
     let a = c.args in
     let words = c.shown-status.ensures.answer ∙ (λ i. overwrite a.answer.now 0 (outcome_words (bad_row_words (c.degree_in-degree.ensures i)) (shown_as c.bad_row.result))) in
-    (as_shown (degree_in a.table.now) a.table.now a.string.now a.answer.now _ _ _ _ _ _ _ c.if-answer-lt8.false c.if-string-lt9.false
+    let made = as_shown (degree_in a.table.now) a.table.now a.string.now a.answer.now _ _ _ _ _ _ _ c.if-answer-lt8.false c.if-string-lt9.false
     c.put.ensures.written refl c.put_nine.ensures.nine (c.bad_row.ensures.answer, c.bad_row.ensures.string) (c.shown-status.ensures.status, words)
-    c.put_nine.ensures.written).0
-
-pub returns-clause-answer : goal.returns-clause-answer
-returns-clause-answer c =
-    let a = c.args in
-    let words = c.shown-status.ensures.answer ∙ (λ i. overwrite a.answer.now 0 (outcome_words (bad_row_words (c.degree_in-degree.ensures i)) (shown_as c.bad_row.result))) in
-    (as_shown (degree_in a.table.now) a.table.now a.string.now a.answer.now _ _ _ _ _ _ _ c.if-answer-lt8.false c.if-string-lt9.false
-    c.put.ensures.written refl c.put_nine.ensures.nine (c.bad_row.ensures.answer, c.bad_row.ensures.string) (c.shown-status.ensures.status, words)
-    c.put_nine.ensures.written).1.0
-
-pub returns-clause-string : goal.returns-clause-string
-returns-clause-string c =
-    let a = c.args in
-    let words = c.shown-status.ensures.answer ∙ (λ i. overwrite a.answer.now 0 (outcome_words (bad_row_words (c.degree_in-degree.ensures i)) (shown_as c.bad_row.result))) in
-    (as_shown (degree_in a.table.now) a.table.now a.string.now a.answer.now _ _ _ _ _ _ _ c.if-answer-lt8.false c.if-string-lt9.false
-    c.put.ensures.written refl c.put_nine.ensures.nine (c.bad_row.ensures.answer, c.bad_row.ensures.string) (c.shown-status.ensures.status, words)
-    c.put_nine.ensures.written).1.1
+    c.put_nine.ensures.written in
+    record { outcome = made.0; answer = made.1.0; string = made.1.1 }
