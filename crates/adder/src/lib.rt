@@ -17,26 +17,13 @@ ghost use Rattle.adder_rules.specs.Sum.{digit_count, place_count, row_reach};
 ghost use Rattle.adder_rules.specs.Input.{input_of};
 ghost use Rattle.adder_rules.specs.Add.{row_allowed, row_part, result_row, digits_outcome, asked_outcome, result_outcome, result_in};
 ghost use Rattle.adder_rules.specs.Calls.{add_outcome, add_sum, subtract_outcome, subtract_difference};
-ghost use Rattle.adder.specs.Answer.{outcome_of, subtracted_as};
+ghost use Rattle.faults.specs.Answer.{outcome_of};
 
 use adder_rules::AddedFacts;
 use faults::Fault;
 use places::Written;
-use reader_rules::Reading;
 use ring::Operation;
 use row_rules::Change;
-
-#[derive(Clone, Copy)]
-pub enum Added {
-    Sum(AddedFacts),
-    Refused(Fault),
-}
-
-#[derive(Clone, Copy)]
-pub enum Subtracted {
-    Difference(AddedFacts),
-    Refused(Fault),
-}
 
 // The row of input indexes of two rows with the change made, at the places from `from` up to `end`; zeros elsewhere.
 pub fn inputs_of(
@@ -94,7 +81,7 @@ fn write_digits(
     second: &[u8],
     places: usize,
     out: &mut [u8],
-) -> Added
+) -> Result<AddedFacts, Fault>
     requires table { (table_check table.now).number ≡ 0 }
     requires rows { RowsFit first.now second.now (length out.old) (digit_count table.now) (table_facts table.now).depth }
     requires asked { (operation_check operation (alphabet_part table.now) (input_part table.now)).number ≡ 0 }
@@ -116,13 +103,13 @@ fn write_digits(
     let mut digits = [0u8; 264];
     let found = digits_of(table, &row, 0, places, &mut digits);
     if found.count < places {
-        return Added::Refused(Fault::Author {
+        return Err(Fault::Author {
             number: 27,
             place: found.count,
         });
     }
     octets::put(out, 0, &digits[..places]);
-    Added::Sum(AddedFacts {
+    Ok(AddedFacts {
         places,
         reach: found.reach,
     })
@@ -136,7 +123,7 @@ fn combine_rows(
     second: &[u8],
     places: usize,
     out: &mut [u8],
-) -> Added
+) -> Result<AddedFacts, Fault>
     requires table { (table_check table.now).number ≡ 0 }
     requires rows { RowsFit first.now second.now (length out.old) (digit_count table.now) (table_facts table.now).depth }
     requires places { places ≡ place_count table.now first.now }
@@ -148,40 +135,34 @@ fn combine_rows(
     let degree = layout::degree_in(table);
     let alphabet = reader::section(table, 1);
     let inputs = reader::section(table, 2);
-    let asked = digit_check::operation_rule(degree, operation, alphabet, inputs);
-    if asked.number != 0 {
-        return Added::Refused(Fault::Author {
-            number: asked.number,
-            place: asked.place,
-        });
+    if let Err(asked) = digit_check::operation_rule(degree, operation, alphabet, inputs) {
+        return Err(asked.by_author());
     }
     write_digits(operation, table, first, second, places, out)
 }
 
 // The result of the operation on two rows in the first n + h bytes of the lent buffer, or a fault and nothing written.
-fn combine(operation: Operation, table: &[u8], first: &[u8], second: &[u8], out: &mut [u8]) -> Added
+fn combine(
+    operation: Operation,
+    table: &[u8],
+    first: &[u8],
+    second: &[u8],
+    out: &mut [u8],
+) -> Result<AddedFacts, Fault>
     ensures outcome { outcome_of result
         ≡ result_outcome operation table.now first.now second.now (length out.old) }
     ensures out { out.new
         ≡ result_in operation table.now first.now second.now out.old }
 {
-    let answer = reader::read(table);
-    let Reading::Facts(facts) = answer else {
-        let Reading::Refused(fault) = answer else {
-            return Added::Refused(Fault::Author {
-                number: 0,
-                place: 0,
-            });
-        };
-        return Added::Refused(fault);
-    };
-    let alphabet = facts.alphabet;
-    let found = rows::row_check(first, second, out.len(), alphabet.count, facts.depth);
-    if found.number != 0 {
-        return Added::Refused(Fault::Rows {
-            number: found.number,
-            place: found.place,
-        });
+    let facts = reader::read(table)?;
+    if let Err(found) = rows::row_check(
+        first,
+        second,
+        out.len(),
+        facts.alphabet.count,
+        facts.depth,
+    ) {
+        return Err(found.by_rows());
     }
     combine_rows(
         operation,
@@ -194,7 +175,7 @@ fn combine(operation: Operation, table: &[u8], first: &[u8], second: &[u8], out:
 }
 
 // The sum of two rows in the first n + h bytes of the sum buffer, or a fault and nothing written.
-pub fn add(table: &[u8], first: &[u8], second: &[u8], sum: &mut [u8]) -> Added
+pub fn add(table: &[u8], first: &[u8], second: &[u8], sum: &mut [u8]) -> Result<AddedFacts, Fault>
     ensures outcome { outcome_of result
         ≡ add_outcome table.now first.now second.now (length sum.old) }
     ensures sum { sum.new
@@ -204,15 +185,16 @@ pub fn add(table: &[u8], first: &[u8], second: &[u8], sum: &mut [u8]) -> Added
 }
 
 // The first row minus the second in the first n + h bytes of the lent buffer, or a fault and nothing written.
-pub fn subtract(table: &[u8], first: &[u8], second: &[u8], difference: &mut [u8]) -> Subtracted
-    ensures outcome { subtracted_as result
+pub fn subtract(
+    table: &[u8],
+    first: &[u8],
+    second: &[u8],
+    difference: &mut [u8],
+) -> Result<AddedFacts, Fault>
+    ensures outcome { outcome_of result
         ≡ subtract_outcome table.now first.now second.now (length difference.old) }
     ensures difference { difference.new
         ≡ subtract_difference table.now first.now second.now difference.old }
 {
-    let answer = combine(Operation::Minus, table, first, second, difference);
-    match answer {
-        Added::Sum(facts) => Subtracted::Difference(facts),
-        Added::Refused(fault) => Subtracted::Refused(fault),
-    }
+    combine(Operation::Minus, table, first, second, difference)
 }

@@ -86,7 +86,7 @@ pub extern "C" fn yoyomyrtle_subtract(
     if answer.len() < 8 {
         return 2;
     }
-    answers::subtracted(answer, adder::subtract(table, first, second, difference))
+    answers::added(answer, adder::subtract(table, first, second, difference))
 }
 
 // The row number, the place and the digit have 64 bits, as usize has.

@@ -65,25 +65,21 @@ module _ (op : Operation) (file first second : List ℕ) where
   table_refused room g n p e = read_fault AddedFacts file g n p _ e
 
   -- what the operation asks, and what follows
-  pub operation_refused : (found : Refusal) → found ≡ operation_check op (alphabet_part file) (input_part file) → (found.number ≡ 0 → ⊥) → refused author found.number found.place ≡ asked_outcome op file first second
+  pub operation_stage : unless author (operation_check op (alphabet_part file) (input_part file)) (digits_outcome op file first second) ≡ asked_outcome op file first second
   unfolding asked_outcome
-  operation_refused found e some =
-      sym (ap (λ (r : Refusal). unless author r (digits_outcome op file first second)) (sym e) ∙ unless_found author found (digits_outcome op file first second) some)
+  operation_stage = refl
 
   pub operation_passed : (operation_check op (alphabet_part file) (input_part file)).number ≡ 0 → digits_outcome op file first second ≡ asked_outcome op file first second
   unfolding asked_outcome
   operation_passed none = sym (unless_none author _ (digits_outcome op file first second) none)
 
   -- 20 to 23, and what follows
-  pub rows_refused : (room : ℕ) (found : Refusal) → (table_check file).number ≡ 0 → found ≡ row_check first second room (digit_count file) (table_facts file).depth → (found.number ≡ 0 → ⊥)
-      → refused rows found.number found.place ≡ result_outcome op file first second room
+  pub rows_stage : (room : ℕ) → (table_check file).number ≡ 0 → unless rows (row_check first second room (digit_count file) (table_facts file).depth) (asked_outcome op file first second) ≡ result_outcome op file first second room
   unfolding result_outcome
-  rows_refused room found passes e some =
-      sym (unless_none author (table_check file) _ passes ∙ ap (λ (r : Refusal). unless rows r (asked_outcome op file first second)) (sym e) ∙ unless_found rows found (asked_outcome op file first second) some)
+  rows_stage room passes = sym (unless_none author (table_check file) _ passes)
 
   pub rows_passed : (room : ℕ) → (table_check file).number ≡ 0 → (row_check first second room (digit_count file) (table_facts file).depth).number ≡ 0 → asked_outcome op file first second ≡ result_outcome op file first second room
-  unfolding result_outcome
-  rows_passed room passes none = sym (unless_none author (table_check file) _ passes ∙ unless_none rows _ (asked_outcome op file first second) none)
+  rows_passed room passes none = sym (unless_none rows _ (asked_outcome op file first second) none) ∙ rows_stage room passes
 
   -- the buffer by the outcome
   pub buffer_lent : (buffer : List ℕ) (g : Group) (n p : ℕ) → refused g n p ≡ result_outcome op file first second (length buffer) → buffer ≡ result_in op file first second buffer

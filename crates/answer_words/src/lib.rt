@@ -17,10 +17,7 @@ use ring::Degree;
 pub fn word(n: usize) -> i64
     ensures { result ≡ word_of n }
 {
-    if n < 9223372036854775808 {
-        return n as i64;
-    }
-    -1 - (18446744073709551615 - n) as i64
+    (n as u64).cast_signed()
 }
 
 // Writes words at the start of an answer.
@@ -28,11 +25,7 @@ pub fn put(answer: &mut [i64], words: &[i64])
     requires { length words.now ≤ length answer.old }
     ensures { answer.new ≡ overwrite answer.old 0 words.now }
 {
-    let mut i = 0;
-    while i < words.len() {
-        answer[i] = words[i];
-        i += 1;
-    }
+    answer[..words.len()].copy_from_slice(words);
 }
 
 // Writes a word and then two numbers, which are a fault's or two facts.

@@ -3,7 +3,6 @@
 
 ghost use Rattle.std.specs.Prelude.{◌≡◌, ◌<◌, ◌≤◌, length};
 ghost use Rattle.lists.specs.Overwrite.{overwrite};
-ghost use Rattle.faults.specs.Outcome.{facts};
 ghost use Rattle.midpoint.specs.Midpoint.{parts};
 ghost use Rattle.digit_rules.specs.Record.{record_at};
 ghost use Rattle.leaf_rules.specs.Leaf.{leaf_count};
@@ -12,13 +11,13 @@ ghost use Rattle.reader_rules.specs.Table.{input_part, leaf_part, operations_of,
 ghost use Rattle.reader_rules.specs.Check.{table_check};
 ghost use Rattle.table_rules.specs.Check.{bad_pair_of};
 ghost use Rattle.bad_row_rules.specs.BadRow.{string_of, shows, bad_row_outcome, written, bad_row_in};
-ghost use Rattle.bad_row.specs.Answer.{shown_as};
+ghost use Rattle.faults.specs.Answer.{outcome_by};
+ghost use Rattle.bad_row.specs.Answer.{shows_of};
 ghost use Rattle.bad_row.specs.Words.{word_string};
 
-use bad_row_rules::{BadRow, Shown};
+use bad_row_rules::BadRow;
 use faults::Fault;
 use midpoint::Element;
-use reader_rules::Reading;
 use table_rules::Pair;
 
 // The digit that two leaves of a table that passes 1 to 13 give: the upper word's first digit, plus the lower weight, minus the base times the
@@ -57,26 +56,24 @@ fn put_string(upper: &[u8], lower: &[u8], string: &mut [u8; 9]) -> usize
 }
 
 // Of a table that passes 1 to 13: the failing pair is that of the check's search.
-fn show(table: &[u8], string: &mut [u8; 9]) -> Shown
+fn show(table: &[u8], string: &mut [u8; 9]) -> Option<BadRow>
     requires { (table_check table.now).number ≡ 0 }
-    ensures answer { shown_as result ≡ facts (shows table.now) }
+    ensures answer { shows_of result ≡ shows table.now }
     ensures string { string.new
         ≡ written (shows table.now) (string_of table.now (bad_pair_of table.now)) string.old }
 {
     let degree = layout::degree_in(table);
     let leaves = reader::section(table, 3);
     let words = reader::section(table, 4);
-    let found = table::search(table);
-    let pair = found.pair;
-    if leaves::leaf_count(degree, leaves) <= pair.upper {
-        return Shown::Nothing;
-    }
+    let Err(pair) = table::search(table) else {
+        return None;
+    };
     let bytes = put_string(
         leaves::word(degree, leaves, words, pair.upper),
         leaves::word(degree, leaves, words, pair.lower),
         string,
     );
-    Shown::Row(BadRow {
+    Some(BadRow {
         upper: pair.upper,
         lower: pair.lower,
         digit: digit_of(table, pair),
@@ -86,20 +83,10 @@ fn show(table: &[u8], string: &mut [u8; 9]) -> Shown
 
 // The bad row of a table that rule 14 refuses, or nothing where the check accepts it, or the author's fault of 1 to 13. The string, of input
 // indexes from the top, goes into the first bytes that are lent; the others keep their contents, and all do where no row is shown.
-pub fn bad_row(table: &[u8], string: &mut [u8; 9]) -> Shown
-    ensures answer { shown_as result ≡ bad_row_outcome table.now }
+pub fn bad_row(table: &[u8], string: &mut [u8; 9]) -> Result<Option<BadRow>, Fault>
+    ensures answer { outcome_by shows_of result ≡ bad_row_outcome table.now }
     ensures string { string.new ≡ bad_row_in table.now string.old }
 {
-    let answer = reader::read(table);
-    let Reading::Facts(facts) = answer else {
-        // the table's fault is passed on
-        let Reading::Refused(fault) = answer else {
-            return Shown::Refused(Fault::Author {
-                number: 0,
-                place: 0,
-            });
-        };
-        return Shown::Refused(fault);
-    };
-    show(table, string)
+    reader::read(table)?;
+    Ok(show(table, string))
 }

@@ -1,7 +1,6 @@
 // No function: the call that shows a bad row as a definition, with demand 1 and what it shows as theorems.
 #![tactic(auto)]
 
-use faults::Fault;
 use midpoint::Element;
 
 // What is shown of a table that rule 14 refuses: the two leaves, the digit that comes out, and how many bytes of the string were written.
@@ -11,12 +10,4 @@ pub struct BadRow {
     pub lower: usize,
     pub digit: Element,
     pub bytes: usize,
-}
-
-// The answer of the call.
-#[derive(Clone, Copy)]
-pub enum Shown {
-    Row(BadRow),
-    Nothing,
-    Refused(Fault),
 }

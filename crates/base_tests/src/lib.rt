@@ -37,6 +37,7 @@ pub fn is_expanding(s: i64, t: i64, u: i64, v: i64) -> bool
     2 <= magnitude::size(norm) && magnitude::size(trace) < magnitude::size(norm + 1)
 }
 
+// A `while`, since where it ends is what is looked for: a range would need an end that is never reached.
 fn is_square(n: u64) -> bool
     requires { n ≤ 2 ^ 31 }
     ensures { result ≡ perfect_square (pos n) }
@@ -54,10 +55,7 @@ pub fn has_square_discriminant(s: i64, t: i64) -> bool
     ensures { result ≡ perfect_square (discriminant s t) }
 {
     let d = s * s + 4 * t;
-    if d < 0 {
-        return false;
-    }
-    is_square(d as u64)
+    d >= 0 && is_square(d as u64)
 }
 
 // Two rows by their columns p and q.

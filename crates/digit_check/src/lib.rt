@@ -5,6 +5,8 @@
 ghost use Rattle.std.specs.Prelude.{◌≡◌, ◌<◌, ltb, nat_abs};
 ghost use Rattle.layout_rules.specs.Section.{of_degree};
 ghost use Rattle.lists.specs.Scan.{first_failing};
+ghost use Rattle.lists.specs.Found.{below};
+ghost use Rattle.faults.specs.Passed.{passed};
 ghost use Rattle.ring.specs.declared.Degree.TheVariants.{Two};
 ghost use Rattle.ring.specs.Degree.{part_count};
 ghost use Rattle.ring.specs.Product.{matrix_of};
@@ -76,63 +78,54 @@ fn base_allowed(degree: Degree, base: &[u8]) -> bool
 }
 
 // Rules 5 and 6.
-fn base_rules(degree: Degree, base: &[u8]) -> Refusal
+fn base_rules(degree: Degree, base: &[u8]) -> Result<(), Refusal>
     requires { BasePart (of_degree degree base.now) }
-    ensures { result ≡ base_check (of_degree degree base.now) }
+    ensures { result ≡ passed (base_check (of_degree degree base.now)) }
 {
     if !discriminant_allowed(degree, base) {
-        return Refusal {
+        return Err(Refusal {
             number: 5,
             place: 0,
-        };
+        });
     }
     if !base_allowed(degree, base) {
-        return Refusal {
+        return Err(Refusal {
             number: 6,
             place: 0,
-        };
+        });
     }
-    Refusal {
-        number: 0,
-        place: 0,
-    }
+    Ok(())
 }
 
 // Rule 7.
-fn alphabet_rule(degree: Degree, alphabet: &[u8]) -> Refusal
-    ensures { result ≡ alphabet_check (of_degree degree alphabet.now) }
+fn alphabet_rule(degree: Degree, alphabet: &[u8]) -> Result<(), Refusal>
+    ensures { result ≡ passed (alphabet_check (of_degree degree alphabet.now)) }
 {
     let count = layout::record_count(degree, alphabet, ALPHABET);
-    let mut digit = 0;
-    while digit < count {
+    for digit in 0..count {
         if !digits::record_allowed(degree, alphabet, digit) {
-            return Refusal {
+            return Err(Refusal {
                 number: 7,
                 place: digit,
-            };
+            });
         }
-        digit += 1;
     }
-    Refusal {
-        number: 0,
-        place: 0,
-    }
+    Ok(())
 }
 
 // The same with the degree as a constant where it is two, so that sizes and parts are chosen once and not for each digit.
-fn alphabet_rule_at_two(alphabet: &[u8]) -> Refusal
-    ensures { result ≡ alphabet_check (of_degree Two alphabet.now) }
+fn alphabet_rule_at_two(alphabet: &[u8]) -> Result<(), Refusal>
+    ensures { result ≡ passed (alphabet_check (of_degree Two alphabet.now)) }
 {
     alphabet_rule(Degree::Two, alphabet)
 }
 
-fn alphabet_rule_by(degree: Degree, alphabet: &[u8]) -> Refusal
-    ensures { result ≡ alphabet_check (of_degree degree alphabet.now) }
+fn alphabet_rule_by(degree: Degree, alphabet: &[u8]) -> Result<(), Refusal>
+    ensures { result ≡ passed (alphabet_check (of_degree degree alphabet.now)) }
 {
     match degree {
         Degree::Two => alphabet_rule_at_two(alphabet),
-        Degree::Three => alphabet_rule(degree, alphabet),
-        Degree::Four => alphabet_rule(degree, alphabet),
+        Degree::Three | Degree::Four => alphabet_rule(degree, alphabet),
     }
 }
 
@@ -150,87 +143,72 @@ fn pairs_listed(
     let n = layout::record_count(degree, alphabet, ALPHABET);
     let count = layout::record_count(degree, inputs, INPUTS);
     let end = digits::partner_count(operation, n, i);
-    let mut j = 0;
-    while j < end {
+    for j in 0..end {
         if digits::pair_index(degree, operation, alphabet, inputs, i, j) >= count {
             return false;
         }
-        j += 1;
     }
     true
 }
 
-// The first alphabet digit with which the operation makes something that is no input digit, or the alphabet's size.
-fn first_unlisted(degree: Degree, operation: Operation, alphabet: &[u8], inputs: &[u8]) -> usize
-    ensures { result ≡ first_failing (pairs_listed operation (of_degree degree alphabet.now) (of_degree degree inputs.now)) 0
-        (element_count (of_degree degree alphabet.now)) }
+// The first alphabet digit with which the operation makes something that is no input digit.
+fn first_unlisted(
+    degree: Degree,
+    operation: Operation,
+    alphabet: &[u8],
+    inputs: &[u8],
+) -> Option<usize>
+    ensures { result ≡ below (element_count (of_degree degree alphabet.now))
+        (first_failing (pairs_listed operation (of_degree degree alphabet.now) (of_degree degree inputs.now)) 0
+        (element_count (of_degree degree alphabet.now))) }
 {
     let n = layout::record_count(degree, alphabet, ALPHABET);
-    let mut i = 0;
-    while i < n {
+    for i in 0..n {
         if !pairs_listed(degree, operation, alphabet, inputs, i) {
-            return i;
+            return Some(i);
         }
-        i += 1;
     }
-    i
+    None
 }
 
 // Rule 8.
-fn input_rule(degree: Degree, alphabet: &[u8], inputs: &[u8]) -> Refusal
-    ensures { result ≡ input_check (of_degree degree alphabet.now) (of_degree degree inputs.now) }
+fn input_rule(degree: Degree, alphabet: &[u8], inputs: &[u8]) -> Result<(), Refusal>
+    ensures { result ≡ passed (input_check (of_degree degree alphabet.now) (of_degree degree inputs.now)) }
 {
     if digit_sums::inputs_kept(degree, alphabet, inputs) {
-        return Refusal {
-            number: 0,
-            place: 0,
-        };
+        return Ok(());
     }
     let count = layout::record_count(degree, inputs, INPUTS);
-    let mut input = 0;
-    while input < count {
+    for input in 0..count {
         if !digits::record_allowed(degree, inputs, input) {
-            return Refusal {
+            return Err(Refusal {
                 number: 8,
                 place: input,
-            };
+            });
         }
-        input += 1;
     }
-    if first_unlisted(degree, Operation::Plus, alphabet, inputs)
-        < layout::record_count(degree, alphabet, ALPHABET)
-    {
-        return Refusal {
+    match first_unlisted(degree, Operation::Plus, alphabet, inputs) {
+        Some(_) => Err(Refusal {
             number: 8,
             place: count,
-        };
-    }
-    Refusal {
-        number: 0,
-        place: 0,
+        }),
+        None => Ok(()),
     }
 }
 
 // 42 of document 02.
-fn difference_rule(degree: Degree, alphabet: &[u8], inputs: &[u8]) -> Refusal
-    ensures { result ≡ operation_check Minus (of_degree degree alphabet.now) (of_degree degree inputs.now) }
+fn difference_rule(degree: Degree, alphabet: &[u8], inputs: &[u8]) -> Result<(), Refusal>
+    ensures { result ≡ passed (operation_check Minus (of_degree degree alphabet.now) (of_degree degree inputs.now)) }
 {
     if digit_sums::differences_kept(degree, alphabet, inputs) {
-        return Refusal {
-            number: 0,
-            place: 0,
-        };
+        return Ok(());
     }
-    let found = first_unlisted(degree, Operation::Minus, alphabet, inputs);
-    if found < layout::record_count(degree, alphabet, ALPHABET) {
-        return Refusal {
+    match first_unlisted(degree, Operation::Minus, alphabet, inputs) {
+        Some(found) => Err(Refusal {
             number: 42,
             place: found,
-        };
-    }
-    Refusal {
-        number: 0,
-        place: 0,
+        }),
+        None => Ok(()),
     }
 }
 
@@ -240,30 +218,21 @@ pub fn operation_rule(
     operation: Operation,
     alphabet: &[u8],
     inputs: &[u8],
-) -> Refusal
-    ensures { result ≡ operation_check operation (of_degree degree alphabet.now) (of_degree degree inputs.now) }
+) -> Result<(), Refusal>
+    ensures { result ≡ passed (operation_check operation (of_degree degree alphabet.now) (of_degree degree inputs.now)) }
 {
     match operation {
-        Operation::Plus => Refusal {
-            number: 0,
-            place: 0,
-        },
+        Operation::Plus => Ok(()),
         Operation::Minus => difference_rule(degree, alphabet, inputs),
     }
 }
 
 // Rules 5 to 8.
-pub fn digits(degree: Degree, base: &[u8], alphabet: &[u8], inputs: &[u8]) -> Refusal
+pub fn digits(degree: Degree, base: &[u8], alphabet: &[u8], inputs: &[u8]) -> Result<(), Refusal>
     requires { BasePart (of_degree degree base.now) }
-    ensures { result ≡ digit_check (of_degree degree base.now) (of_degree degree alphabet.now) (of_degree degree inputs.now) }
+    ensures { result ≡ passed (digit_check (of_degree degree base.now) (of_degree degree alphabet.now) (of_degree degree inputs.now)) }
 {
-    let first = base_rules(degree, base);
-    if first.number != 0 {
-        return first;
-    }
-    let second = alphabet_rule_by(degree, alphabet);
-    if second.number != 0 {
-        return second;
-    }
+    base_rules(degree, base)?;
+    alphabet_rule_by(degree, alphabet)?;
     input_rule(degree, alphabet, inputs)
 }

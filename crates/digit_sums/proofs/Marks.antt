@@ -8,6 +8,7 @@ use Prim.Native.Nat.{ℕ, zero, suc, ◌+◌, ◌-◌, ◌<◌, ◌≤◌}
 use native.Mathlib.Decide.{dec_lt, ℕ_discrete}
 use native.Mathlib.Nat.{le_antisymm}
 use native.Mathlib.Omega.{arith}
+use native.Mathlib.Numerals.{add-one}
 use lib.ListN.{get_or, set, replicate}
 use lib.Seq.{get_or-set_other}
 use lib.IntN.{ℤ}
@@ -57,8 +58,9 @@ module _ (inputs : Section) (links : List ℕ) (x y : List ℤ) (n at : ℕ) (so
   pub follow_here : same y x ≡ true → followed inputs links x n at ≡ at
   follow_here e = ap (λ n. followed inputs links x n at) (one_less n some) ∙ follow_hit inputs links x (n - 1) at inside (ap (λ z. same z x) (sym reads) ∙ e)
 
-  pub follow_on : same y x ≡ false → followed inputs links x n at ≡ followed inputs links x (n - 1) (get_or links at 0)
-  follow_on e = ap (λ n. followed inputs links x n at) (one_less n some) ∙ follow_step inputs links x (n - 1) at inside (ap (λ z. same z x) (sym reads) ∙ e)
+  pub follow_on : (left next : ℕ) → n ≡ left + 1 → next ≡ get_or links at 0 → same y x ≡ false → followed inputs links x n at ≡ followed inputs links x left next
+  follow_on left next one is e =
+      ap (λ n. followed inputs links x n at) (one ∙ add-one left) ∙ follow_step inputs links x left at inside (ap (λ z. same z x) (sym reads) ∙ e) ∙ ap (followed inputs links x left) (sym is)
 
 pub follow_end : (inputs : Section) (links : List ℕ) (x : List ℤ) (n at : ℕ) → n ≤ 0 → followed inputs links x n at ≡ element_count inputs
 follow_end inputs links x n at h = ap (λ n. followed inputs links x n at) (le_antisymm {n = n} {m = 0} h (omega arith)) ∙ (unfold followed in refl)

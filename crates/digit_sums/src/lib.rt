@@ -6,6 +6,7 @@ ghost use Rattle.std.specs.Prelude.{◌≡◌, true, ℕ, ◌≤◌, ◌<◌, �
 ghost use Rattle.ring.specs.declared.Degree.TheVariants.{Two};
 ghost use Rattle.layout_rules.specs.Section.{of_degree};
 ghost use Rattle.lists.specs.Scan.{every};
+ghost use Rattle.lists.specs.Found.{below};
 ghost use Rattle.faults.specs.Check.{none};
 ghost use Rattle.ring.specs.Tests.{Within};
 ghost use Rattle.ring.specs.declared.Operation.TheVariants.{Minus};
@@ -31,12 +32,10 @@ fn link(degree: Degree, inputs: &[u8], heads: &mut [u8; SLOTS], links: &mut [u8;
     requires { element_count (of_degree degree inputs.now) ≤ 136 }
 {
     let count = layout::record_count(degree, inputs, INPUTS);
-    let mut k = 0;
-    while k < count {
+    for k in 0..count {
         let place = slots::slot_of(digits::record_at(degree, inputs, k));
         links[k] = heads[place];
         heads[place] = k as u8;
-        k += 1;
     }
 }
 
@@ -52,43 +51,46 @@ fn link_by(degree: Degree, inputs: &[u8], heads: &mut [u8; SLOTS], links: &mut [
 {
     match degree {
         Degree::Two => link_at_two(inputs, heads, links),
-        Degree::Three => link(degree, inputs, heads, links),
-        Degree::Four => link(degree, inputs, heads, links),
+        Degree::Three | Degree::Four => link(degree, inputs, heads, links),
     }
 }
 
-// The input index of an element along the links, or the count of input digits.
-fn follow(degree: Degree, inputs: &[u8], links: &[u8; MOST], first: u8, x: [i64; 4]) -> usize
+// The input index of an element along the links.
+fn follow(
+    degree: Degree,
+    inputs: &[u8],
+    links: &[u8; MOST],
+    first: u8,
+    x: [i64; 4],
+) -> Option<usize>
     requires { element_count (of_degree degree inputs.now) ≤ 136 }
-    ensures { result ≡ followed (of_degree degree inputs.now) links.now x 136 first }
+    ensures { result ≡ below (element_count (of_degree degree inputs.now)) (followed (of_degree degree inputs.now) links.now x 136 first) }
 {
     let count = layout::record_count(degree, inputs, INPUTS);
     let mut at = octets::wide(first);
-    let mut left = MOST;
-    while left > 0 {
+    for _ in 0..MOST {
         if at >= count {
-            return count;
+            return None;
         }
         if elements::equal(digits::record_at(degree, inputs, at), x) {
-            return at;
+            return Some(at);
         }
         at = octets::wide(links[at]);
-        left -= 1;
     }
-    count
+    None
 }
 
-// The input index of an element by its slot, or the count of input digits.
+// The input index of an element by its slot.
 fn locate(
     degree: Degree,
     inputs: &[u8],
     heads: &[u8; SLOTS],
     links: &[u8; MOST],
     x: [i64; 4],
-) -> usize
+) -> Option<usize>
     requires inputs { element_count (of_degree degree inputs.now) ≤ 136 }
     requires within { Within (2 ^ 56) x }
-    ensures { result ≡ located (of_degree degree inputs.now) heads.now links.now x }
+    ensures { result ≡ below (element_count (of_degree degree inputs.now)) (located (of_degree degree inputs.now) heads.now links.now x) }
 {
     let place = slots::slot_of(x);
     follow(degree, inputs, links, heads[place], x)
@@ -112,16 +114,12 @@ fn mark_pairs(
     ensures marked { Marked (of_degree degree inputs.now) (located (of_degree degree inputs.now) heads.now links.now)
         marks.new }
 {
-    let count = layout::record_count(degree, inputs, INPUTS);
-    let mut other = 0;
-    while other < end {
+    for other in 0..end {
         let x = digits::combined(degree, operation, alphabet, i, other);
-        let found = locate(degree, inputs, heads, links, x);
-        if found >= count {
-            return false;
+        match locate(degree, inputs, heads, links, x) {
+            Some(found) => marks[found] = 1,
+            None => return false,
         }
-        marks[found] = 1;
-        other += 1;
     }
     true
 }
@@ -143,15 +141,13 @@ fn mark_all(
         marks.new }
 {
     let n = layout::record_count(degree, alphabet, ALPHABET);
-    let mut i = 0;
-    while i < n {
+    for i in 0..n {
         let end = digits::partner_count(operation, n, i);
         if !mark_pairs(
             degree, operation, alphabet, inputs, heads, links, i, end, marks,
         ) {
             return false;
         }
-        i += 1;
     }
     true
 }
@@ -199,8 +195,9 @@ fn mark_all_by(
 {
     match degree {
         Degree::Two => mark_all_at_two(operation, alphabet, inputs, heads, links, marks),
-        Degree::Three => mark_all(degree, operation, alphabet, inputs, heads, links, marks),
-        Degree::Four => mark_all(degree, operation, alphabet, inputs, heads, links, marks),
+        Degree::Three | Degree::Four => {
+            mark_all(degree, operation, alphabet, inputs, heads, links, marks)
+        }
     }
 }
 
@@ -220,13 +217,8 @@ fn found_at(
     if marks[k] != 0 {
         return true;
     }
-    locate(
-        degree,
-        inputs,
-        heads,
-        links,
-        digits::record_at(degree, inputs, k),
-    ) == k
+    let x = digits::record_at(degree, inputs, k);
+    locate(degree, inputs, heads, links, x) == Some(k)
 }
 
 // Whether each of them is.
@@ -243,12 +235,10 @@ fn each_found(
         → located (of_degree degree inputs.now) heads.now links.now (record_at (of_degree degree inputs.now) k) ≡ k }
 {
     let count = layout::record_count(degree, inputs, INPUTS);
-    let mut k = 0;
-    while k < count {
+    for k in 0..count {
         if !found_at(degree, inputs, heads, links, marks, k) {
             return false;
         }
-        k += 1;
     }
     true
 }
@@ -258,20 +248,14 @@ pub fn inputs_kept(degree: Degree, alphabet: &[u8], inputs: &[u8]) -> bool
     ensures { result ≡ true → none ≡ input_check (of_degree degree alphabet.now) (of_degree degree inputs.now) }
 {
     let count = layout::record_count(degree, inputs, INPUTS);
-    if count == 0 {
-        return false;
-    }
-    if count > MOST {
-        return false;
-    }
-    if !digits::record_allowed(degree, inputs, 0) {
+    if count == 0 || count > MOST || !digits::record_allowed(degree, inputs, 0) {
         return false;
     }
     let mut heads = [255; SLOTS];
     let mut links = [255; MOST];
     link_by(degree, inputs, &mut heads, &mut links);
     let mut marks = [0; MOST];
-    if !mark_all_by(
+    mark_all_by(
         degree,
         Operation::Plus,
         alphabet,
@@ -279,10 +263,7 @@ pub fn inputs_kept(degree: Degree, alphabet: &[u8], inputs: &[u8]) -> bool
         &heads,
         &links,
         &mut marks,
-    ) {
-        return false;
-    }
-    each_found(degree, inputs, &heads, &links, &marks)
+    ) && each_found(degree, inputs, &heads, &links, &marks)
 }
 
 // A quick look at 42: it is kept, or there is no answer.

@@ -4,6 +4,7 @@
 
 ghost use Rattle.std.specs.Prelude.{◌≡◌, ◌+◌, ◌-◌, ◌≤◌, ◌<◌, length};
 ghost use Rattle.ring.specs.declared.Degree.TheVariants.{Two, Three, Four};
+ghost use Rattle.lists.specs.Found.{below};
 ghost use Rattle.lists.specs.Span.{span};
 ghost use Rattle.ring.specs.Degree.{part_count};
 ghost use Rattle.ring.specs.Element.{part};
@@ -81,19 +82,17 @@ pub fn record_at(degree: Degree, part: &[u8], k: usize) -> [i64; 4]
     element(degree, part, k * layout::element_size(degree))
 }
 
-// The first of the first n records that equals an element, or n.
-pub fn find(degree: Degree, part: &[u8], n: usize, x: [i64; 4]) -> usize
+// The first of the first n records that equals an element.
+pub fn find(degree: Degree, part: &[u8], n: usize, x: [i64; 4]) -> Option<usize>
     requires { n ≤ element_count (of_degree degree part.now) }
-    ensures { result ≡ index_in (of_degree degree part.now) n x }
+    ensures { result ≡ below n (index_in (of_degree degree part.now) n x) }
 {
-    let mut k = 0;
-    while k < n {
+    for k in 0..n {
         if elements::equal(record_at(degree, part, k), x) {
-            return k;
+            return Some(k);
         }
-        k += 1;
     }
-    k
+    None
 }
 
 // The parts below the degree in the other order.
@@ -123,9 +122,10 @@ pub fn record_allowed(degree: Degree, part: &[u8], k: usize) -> bool
 {
     let x = record_at(degree, part, k);
     if k == 0 {
-        return elements::equal(x, [0, 0, 0, 0]);
+        elements::equal(x, [0, 0, 0, 0])
+    } else {
+        find(degree, part, k, x).is_none()
     }
-    find(degree, part, k, x) == k
 }
 
 // What the operation makes of alphabet digits i and j.
@@ -160,12 +160,9 @@ pub fn pair_index(
     requires { (i < element_count (of_degree degree alphabet.now)) × (j < element_count (of_degree degree alphabet.now)) }
     ensures { result ≡ pair_index operation (of_degree degree alphabet.now) (of_degree degree inputs.now) i j }
 {
-    find(
-        degree,
-        inputs,
-        layout::record_count(degree, inputs, INPUTS),
-        combined(degree, operation, alphabet, i, j),
-    )
+    let count = layout::record_count(degree, inputs, INPUTS);
+    let x = combined(degree, operation, alphabet, i, j);
+    find(degree, inputs, count, x).unwrap_or(count)
 }
 
 // The alphabet digits that digit i is taken with: those up to it in a sum, all of them in a difference.

@@ -2,7 +2,7 @@
 #![tactic(auto)]
 
 ghost use Rattle.std.specs.Prelude.{◌≡◌, ◌≤◌, ◌<◌, length};
-ghost use Rattle.lists.specs.Scan.{first_failing};
+ghost use Rattle.faults.specs.Passed.{passed};
 ghost use Rattle.layout_rules.specs.Directory.{expected_start, pair_allowed, directory_check};
 ghost use Rattle.layout_rules.specs.Length.{least_records, most_records, length_allowed, length_check};
 
@@ -43,48 +43,25 @@ fn pair_allowed(file: &[u8], section: usize) -> bool
     end == file.len()
 }
 
-// The first pair of the directory that is not allowed, or 5.
-fn first_pair(file: &[u8]) -> usize
-    requires { 20 ≤ length file.now }
-    ensures { result ≡ first_failing (pair_allowed file.now) 0 5 }
-{
-    let mut pair = 0;
-    while pair < 5 {
-        if !pair_allowed(file, pair) {
-            return pair;
-        }
-        pair += 1;
-    }
-    pair
-}
-
 // Rules 1 and 2: the file's size and its directory.
-pub fn directory(file: &[u8]) -> Refusal
-    ensures { result ≡ directory_check file.now }
+pub fn directory(file: &[u8]) -> Result<(), Refusal>
+    ensures { result ≡ passed (directory_check file.now) }
 {
-    if file.len() < 20 {
-        return Refusal {
+    if file.len() < 20 || 65535 < file.len() {
+        return Err(Refusal {
             number: 1,
             place: 0,
-        };
+        });
     }
-    if 65535 < file.len() {
-        return Refusal {
-            number: 1,
-            place: 0,
-        };
+    for pair in 0..5 {
+        if !pair_allowed(file, pair) {
+            return Err(Refusal {
+                number: 2,
+                place: pair,
+            });
+        }
     }
-    let pair = first_pair(file);
-    if pair < 5 {
-        return Refusal {
-            number: 2,
-            place: pair,
-        };
-    }
-    Refusal {
-        number: 0,
-        place: 0,
-    }
+    Ok(())
 }
 
 fn least_records(section: usize) -> usize
@@ -116,22 +93,17 @@ fn length_allowed(degree: Degree, section: usize, n: usize) -> bool
 }
 
 // Rule 3: the lengths of the five sections, from a file or not. The first tells the degree that the others are judged by.
-pub fn lengths(given: [usize; 5]) -> Refusal
-    ensures { result ≡ length_check given }
+pub fn lengths(given: [usize; 5]) -> Result<(), Refusal>
+    ensures { result ≡ passed (length_check given) }
 {
     let degree = layout::degree_of(given[0]);
-    let mut section = 0;
-    while section < 5 {
-        if !length_allowed(degree, section, given[section]) {
-            return Refusal {
+    for (section, length) in given.iter().enumerate() {
+        if !length_allowed(degree, section, *length) {
+            return Err(Refusal {
                 number: 3,
                 place: section,
-            };
+            });
         }
-        section += 1;
     }
-    Refusal {
-        number: 0,
-        place: 0,
-    }
+    Ok(())
 }

@@ -5,39 +5,37 @@ ghost use Rattle.std.specs.Prelude.{◌≡◌, ◌≤◌, length};
 ghost use Rattle.lists.specs.Overwrite.{overwrite};
 ghost use Rattle.edit_rules.specs.State.{state};
 ghost use Rattle.edit_rules.specs.Run.{edit_all, edit_answers};
-ghost use Rattle.row_edit.specs.Answer.{outcome_of as editedAs};
+ghost use Rattle.faults.specs.Answer.{outcome_of};
 ghost use Rattle.runner_rules.specs.Told.{told_of, groups_of, numbers_of, values_of};
 ghost use Rattle.runner_rules.specs.List.{edit_list};
 
+use edit_rules::EditedFacts;
 use faults::Fault;
-use row_edit::Edited;
 use runner_rules::Told;
 
-fn told_of(answer: Edited) -> Told
-    ensures { result ≡ told_of (editedAs answer) }
+fn told_of(answer: Result<EditedFacts, Fault>) -> Told
+    ensures { result ≡ told_of (outcome_of answer) }
 {
     match answer {
-        Edited::Count(facts) => Told {
+        Ok(facts) => Told {
             whose: 0,
             number: 0,
             value: facts.count,
         },
-        Edited::Refused(fault) => match fault {
-            Fault::Author { number, place } => Told {
-                whose: 1,
-                number,
-                value: place,
-            },
-            Fault::Rows { number, place } => Told {
-                whose: 2,
-                number,
-                value: place,
-            },
-            Fault::Editor { number, place } => Told {
-                whose: 3,
-                number,
-                value: place,
-            },
+        Err(Fault::Author { number, place }) => Told {
+            whose: 1,
+            number,
+            value: place,
+        },
+        Err(Fault::Rows { number, place }) => Told {
+            whose: 2,
+            number,
+            value: place,
+        },
+        Err(Fault::Editor { number, place }) => Told {
+            whose: 3,
+            number,
+            value: place,
         },
     }
 }
@@ -67,15 +65,11 @@ pub fn edit_each(
         × (numbers.new ≡ overwrite numbers.old 0 (numbers_of (edit_answers table.now es s)))
         × (values.new ≡ overwrite values.old 0 (values_of (edit_answers table.now es s))) }
 {
-    let mut i = 0;
-    while i < count {
-        let row = rows[i];
-        let place = places[i];
-        let digit = digits[i];
-        let answer = told_of(edit_call::edit(table, first, second, sum, row, place, digit));
-        whose[i] = answer.whose;
-        numbers[i] = answer.number;
-        values[i] = answer.value;
-        i += 1;
+    for i in 0..count {
+        let edited = edit_call::edit(table, first, second, sum, rows[i], places[i], digits[i]);
+        let told = told_of(edited);
+        whose[i] = told.whose;
+        numbers[i] = told.number;
+        values[i] = told.value;
     }
 }

@@ -1,5 +1,5 @@
 -- The answers of two edits with the buffers after them.
-use Rattle.row_edit.specs.Answer.{outcome_of}
+use Rattle.faults.specs.Answer.{outcome_of}
 use Rattle.edit_rules.specs.State.{State}
 use Rattle.edit_rules.specs.Orders.{InTurn}
 use Rattle.edit_orders.specs.declared.Turns.{Turns}

@@ -8,14 +8,15 @@ ghost use Rattle.edit_rules.specs.State.{state};
 ghost use Rattle.edit_rules.specs.Orders.{Addable, in_turn, Agree};
 ghost use Rattle.edit_orders.specs.Answer.{turns_of};
 
-use row_edit::Edited;
+use edit_rules::EditedFacts;
+use faults::Fault;
 use row_rules::Change;
 
 // The answers of two edits, one after the other.
 #[derive(Clone, Copy)]
 pub struct Turns {
-    pub first: Edited,
-    pub second: Edited,
+    pub first: Result<EditedFacts, Fault>,
+    pub second: Result<EditedFacts, Fault>,
 }
 
 // Those of e and then f, and of f and then e.

@@ -4,7 +4,7 @@ use mathlib.Core.List.{List}
 use Prim.Native.Nat.{ℕ}
 use lib.ListN.{length}
 use Rattle.faults.specs.declared.Refusal.{Refusal}
-use Rattle.faults.specs.Outcome.{Group, Outcome, refused, author, rows, editor, at_exit}
+use Rattle.faults.specs.Outcome.{Group, refused, author, rows, editor, at_exit}
 use Rattle.faults.proofs.Exit.{exit_lent}
 use Rattle.faults.specs.Unless.{unless}
 use Rattle.faults.proofs.Unless.{unless_found, unless_none}
@@ -32,20 +32,21 @@ module _ (file : List ℕ) (e : Change) (s : State) where
   table_refused g n p is = read_fault EditedFacts file g n p _ is
 
   module _ (passes : (table_check file).number ≡ 0) where
-    pub rows_refused : (found : Refusal) → found ≡ rows_found → (found.number ≡ 0 → ⊥) → refused rows found.number found.place ≡ edit_outcome file e s
+    -- 20 to 23, and what follows
+    pub rows_stage : unless rows rows_found (unless editor asked_found (renew_outcome file e s)) ≡ edit_outcome file e s
     unfolding edit_outcome
-    rows_refused found is some =
-        let rest : Outcome EditedFacts = unless editor asked_found (renew_outcome file e s) in
-        sym (unless_none author (table_check file) _ passes ∙ ap (λ (r : Refusal). unless rows r rest) (sym is) ∙ unless_found rows found rest some)
+    rows_stage = sym (unless_none author (table_check file) _ passes)
+
+    -- 24 to 26, and what follows
+    pub edit_stage : rows_found.number ≡ 0 → unless editor asked_found (renew_outcome file e s) ≡ edit_outcome file e s
+    edit_stage fit = sym (unless_none rows rows_found _ fit) ∙ rows_stage
 
     pub edit_refused : rows_found.number ≡ 0 → (found : Refusal) → found ≡ asked_found → (found.number ≡ 0 → ⊥) → refused editor found.number found.place ≡ edit_outcome file e s
-    unfolding edit_outcome
     edit_refused fit found is some =
-        sym (unless_none author (table_check file) _ passes ∙ unless_none rows rows_found _ fit ∙ ap (λ (r : Refusal). unless editor r (renew_outcome file e s)) (sym is) ∙ unless_found editor found (renew_outcome file e s) some)
+        sym (unless_found editor found (renew_outcome file e s) some) ∙ ap (λ (r : Refusal). unless editor r (renew_outcome file e s)) is ∙ edit_stage fit
 
     pub edit_passed : rows_found.number ≡ 0 → asked_found.number ≡ 0 → renew_outcome file e s ≡ edit_outcome file e s
-    unfolding edit_outcome
-    edit_passed fit known = sym (unless_none author (table_check file) _ passes ∙ unless_none rows rows_found _ fit ∙ unless_none editor asked_found _ known)
+    edit_passed fit known = sym (unless_none editor asked_found _ known) ∙ edit_stage fit
 
   -- the buffers by the outcome
   pub state_lent : (g : Group) (n p : ℕ) → refused g n p ≡ edit_outcome file e s → s ≡ edit_state file e s

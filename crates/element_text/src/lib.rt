@@ -14,12 +14,12 @@ fn put_power(out: &mut [u8], at: usize, k: usize) -> usize
     ensures buffer { out.new ≡ overwrite out.old at (power_text k) }
 {
     if k == 0 {
-        return at;
+        at
+    } else if k == 1 {
+        octets::put(out, at, b"w")
+    } else {
+        text::put_item(out, at, b"w^", k)
     }
-    if k == 1 {
-        return octets::put(out, at, b"w");
-    }
-    text::put_item(out, at, b"w^", k)
 }
 
 // Writes the number before a power of ω; the next place.
@@ -29,9 +29,10 @@ fn put_factor(out: &mut [u8], at: usize, n: usize, k: usize) -> usize
     ensures buffer { out.new ≡ overwrite out.old at (factor_text n k) }
 {
     if n == 1 && 0 < k {
-        return at;
+        at
+    } else {
+        text::put_decimal(out, at, n)
     }
-    text::put_decimal(out, at, n)
 }
 
 // Writes the sign of a part that so many bytes stand before: no plus where none does. The next place.
@@ -41,12 +42,12 @@ fn put_sign(out: &mut [u8], at: usize, written: usize, a: i64) -> usize
     ensures buffer { out.new ≡ overwrite out.old at (sign_text written a) }
 {
     if a < 0 {
-        return octets::put(out, at, b"-");
+        octets::put(out, at, b"-")
+    } else if written == 0 {
+        at
+    } else {
+        octets::put(out, at, b"+")
     }
-    if written == 0 {
-        return at;
-    }
-    octets::put(out, at, b"+")
 }
 
 // Writes a part with its power of ω, behind so many bytes; the next place.
@@ -73,10 +74,8 @@ fn put_parts(out: &mut [u8], at: usize, x: [i64; 4]) -> usize
     ensures buffer { out.new ≡ overwrite out.old at (parts_text x width) }
 {
     let mut end = at;
-    let mut k = 0;
-    while k < 4 {
+    for k in 0..4 {
         end = put_part(out, end, end - at, x[k], k);
-        k += 1;
     }
     end
 }
@@ -90,9 +89,10 @@ pub fn put_element(out: &mut [u8], at: usize, x: [i64; 4]) -> usize
 {
     let end = put_parts(out, at, x);
     if end == at {
-        return octets::put(out, at, b"0");
+        octets::put(out, at, b"0")
+    } else {
+        end
     }
-    end
 }
 
 // Writes a text at the right of a column that starts at a place; the next place.
@@ -101,12 +101,7 @@ pub fn put_right(out: &mut [u8], at: usize, width: usize, text: &[u8]) -> usize
     ensures end { result ≡ at + length (right width text.now) }
     ensures buffer { out.new ≡ overwrite out.old at (right width text.now) }
 {
-    let mut end = at;
-    let mut filled = text.len();
-    while filled < width {
-        out[end] = b' ';
-        end += 1;
-        filled += 1;
-    }
+    let end = at + width.saturating_sub(text.len());
+    out[at..end].fill(b' ');
     octets::put(out, end, text)
 }

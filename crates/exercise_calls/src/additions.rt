@@ -7,7 +7,7 @@ use std::io;
 // `LABEL sum K reach R SUM`, or the fault and SUM: the whole buffer as the call left it.
 pub fn summed(
     rt: &impl Print,
-    label: &[u8],
+    label: &str,
     table: &[u8],
     first: &[u8],
     second: &[u8],
@@ -15,18 +15,18 @@ pub fn summed(
 ) -> io::Result<()>
     requires { length sum.old ≤ 260 }
 {
-    output::word(rt, label)?;
-    output::added(rt, adder::add(table, first, second, sum))?;
+    print!(rt; "{label}")?;
+    output::added(rt, "sum", adder::add(table, first, second, sum))?;
     output::buffer(rt, sum)?;
-    output::word(rt, b"\n")
+    println!(rt; "")
 }
 
 // M9 and M10
 pub fn sums(rt: &impl Print) -> io::Result<()> {
     let mut sum = [9u8; 4];
-    summed(rt, b"M9", &carried::bin(), &[1, 1], &[1, 0], &mut sum)?;
+    summed(rt, "M9", &carried::bin(), &[1, 1], &[1, 0], &mut sum)?;
     let mut other = [9u8; 4];
-    summed(rt, b"M10", &carried::bin(), &[0, 1], &[0, 0], &mut other)
+    summed(rt, "M10", &carried::bin(), &[0, 1], &[0, 0], &mut other)
 }
 
 // The rows of M7 and M9 with every digit negated: so is every digit of the sum. By a table that isn't mirrored, 1 and −1: their sums aren't.
@@ -34,7 +34,7 @@ pub fn negated_rows(rt: &impl Print) -> io::Result<()> {
     let mut tern = [9u8; 4];
     summed(
         rt,
-        b"negated M7",
+        "negated M7",
         &carried::tern(),
         &[4, 4],
         &[3, 4],
@@ -43,17 +43,17 @@ pub fn negated_rows(rt: &impl Print) -> io::Result<()> {
     let mut bin = [9u8; 5];
     summed(
         rt,
-        b"negated M9",
+        "negated M9",
         &carried::bin(),
         &[2, 2],
         &[2, 0],
         &mut bin,
     )?;
-    output::checked(rt, b"unmirrored", table::check(&tables::unmirrored()))?;
+    output::checked(rt, "unmirrored", table::check(&tables::unmirrored()))?;
     let mut sum = [9u8; 3];
     summed(
         rt,
-        b"unmirrored",
+        "unmirrored",
         &tables::unmirrored(),
         &[1],
         &[0],
@@ -61,7 +61,7 @@ pub fn negated_rows(rt: &impl Print) -> io::Result<()> {
     )?;
     summed(
         rt,
-        b"unmirrored",
+        "unmirrored",
         &tables::unmirrored(),
         &[2],
         &[0],
@@ -72,13 +72,13 @@ pub fn negated_rows(rt: &impl Print) -> io::Result<()> {
 // M11
 pub fn empty_rows(rt: &impl Print) -> io::Result<()> {
     let mut one = [9u8; 1];
-    summed(rt, b"M11", &carried::tern(), b"", b"", &mut one)?;
+    summed(rt, "M11", &carried::tern(), b"", b"", &mut one)?;
     let mut two = [9u8; 2];
-    summed(rt, b"M11", &carried::bin(), b"", b"", &mut two)
+    summed(rt, "M11", &carried::bin(), b"", b"", &mut two)
 }
 
 // Rows of `n` digits 1 and `room` bytes for their sum.
-fn ones(rt: &impl Print, label: &[u8], table: &[u8], n: usize, room: usize) -> io::Result<()>
+fn ones(rt: &impl Print, label: &str, table: &[u8], n: usize, room: usize) -> io::Result<()>
     requires { (n ≤ 257) × (room ≤ 260) }
 {
     let first = [1u8; 257];
@@ -94,13 +94,13 @@ fn ones(rt: &impl Print, label: &[u8], table: &[u8], n: usize, room: usize) -> i
     )
 }
 
-fn tern_ones(rt: &impl Print, label: &[u8], n: usize, room: usize) -> io::Result<()>
+fn tern_ones(rt: &impl Print, label: &str, n: usize, room: usize) -> io::Result<()>
     requires { (n ≤ 257) × (room ≤ 260) }
 {
     ones(rt, label, &carried::tern(), n, room)
 }
 
-fn bin_ones(rt: &impl Print, label: &[u8], n: usize, room: usize) -> io::Result<()>
+fn bin_ones(rt: &impl Print, label: &str, n: usize, room: usize) -> io::Result<()>
     requires { (n ≤ 257) × (room ≤ 260) }
 {
     ones(rt, label, &carried::bin(), n, room)
@@ -108,24 +108,24 @@ fn bin_ones(rt: &impl Print, label: &[u8], n: usize, room: usize) -> io::Result<
 
 // 256 digits and 257; n + h bytes, one fewer and one more.
 pub fn tern_limits(rt: &impl Print) -> io::Result<()> {
-    tern_ones(rt, b"TERN 256", 256, 257)?;
-    tern_ones(rt, b"TERN 257", 257, 258)?;
-    tern_ones(rt, b"TERN 256", 256, 256)?;
-    tern_ones(rt, b"TERN 2", 2, 4)?;
-    tern_ones(rt, b"TERN 2", 2, 2)
+    tern_ones(rt, "TERN 256", 256, 257)?;
+    tern_ones(rt, "TERN 257", 257, 258)?;
+    tern_ones(rt, "TERN 256", 256, 256)?;
+    tern_ones(rt, "TERN 2", 2, 4)?;
+    tern_ones(rt, "TERN 2", 2, 2)
 }
 
 // The same where h is 2.
 pub fn bin_limits(rt: &impl Print) -> io::Result<()> {
-    bin_ones(rt, b"BIN 256", 256, 258)?;
-    bin_ones(rt, b"BIN 257", 257, 259)?;
-    bin_ones(rt, b"BIN 256", 256, 257)
+    bin_ones(rt, "BIN 256", 256, 258)?;
+    bin_ones(rt, "BIN 257", 257, 259)?;
+    bin_ones(rt, "BIN 256", 256, 257)
 }
 
 // Rows with room for two digits.
 fn in_two(rt: &impl Print, table: &[u8], first: &[u8], second: &[u8]) -> io::Result<()> {
     let mut sum = [9u8; 2];
-    summed(rt, b"faults", table, first, second, &mut sum)
+    summed(rt, "faults", table, first, second, &mut sum)
 }
 
 fn tern_in_two(rt: &impl Print, first: &[u8], second: &[u8]) -> io::Result<()> {
@@ -145,7 +145,7 @@ pub fn damaged_sums(rt: &impl Print) -> io::Result<()> {
     let mut sum = [9u8; 3];
     summed(
         rt,
-        b"damaged",
+        "damaged",
         &tables::damaged(),
         &[2, 1],
         &[2, 1],
@@ -153,7 +153,7 @@ pub fn damaged_sums(rt: &impl Print) -> io::Result<()> {
     )?;
     summed(
         rt,
-        b"damaged",
+        "damaged",
         &tables::damaged(),
         &[2, 0],
         &[2, 1],

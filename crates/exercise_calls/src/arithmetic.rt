@@ -1,5 +1,4 @@
 // Elements: products, expanding bases, midpoints.
-ghost use Rattle.std.specs.Prelude.{◌≤◌, ◌^◌, nat_abs};
 ghost use Rattle.ring.specs.declared.Degree.TheVariants.{Two};
 ghost use Rattle.ring.specs.Tests.{Within, BaseSizes};
 
@@ -9,13 +8,8 @@ use ring::Degree;
 use std::io;
 
 // A part of a product of small numbers: it fits.
-fn narrow(part: i64) -> i32
-    requires { nat_abs part ≤ 2 ^ 55 }
-{
-    if 1000000 < magnitude::size(part) {
-        return 0;
-    }
-    part as i32
+fn narrow(part: i64) -> i32 {
+    i32::try_from(part).unwrap_or(0)
 }
 
 // The product of two elements of degree two, by the parts of ω², those of the first and those of the second.
@@ -23,12 +17,12 @@ fn product(omega: [i64; 4], beta: [i64; 4], x: [i64; 4]) -> Element
     requires { BaseSizes Two omega beta × Within 64 x }
 {
     let degree = Degree::Two;
-    let y = elements::times_base(degree, elements::base_matrix(degree, omega, beta), x);
+    let [a, b, c, d] = elements::times_base(degree, elements::base_matrix(degree, omega, beta), x);
     Element {
-        a: narrow(y[0]),
-        b: narrow(y[1]),
-        c: narrow(y[2]),
-        d: narrow(y[3]),
+        a: narrow(a),
+        b: narrow(b),
+        c: narrow(c),
+        d: narrow(d),
     }
 }
 
@@ -37,13 +31,13 @@ pub fn products(rt: &impl Print) -> io::Result<()> {
     let degree = Degree::Two;
     output::element(
         rt,
-        b"M1",
+        "M1",
         degree,
         product([-1, 0, 0, 0], [-1, 1, 0, 0], [1, 1, 0, 0]),
     )?;
     output::element(
         rt,
-        b"M2",
+        "M2",
         degree,
         product([-1, -1, 0, 0], [1, 1, 0, 0], [1, 1, 0, 0]),
     )
@@ -51,10 +45,10 @@ pub fn products(rt: &impl Print) -> io::Result<()> {
 
 // M3 to M6
 pub fn bases(rt: &impl Print) -> io::Result<()> {
-    output::verdict(rt, b"M3", base_tests::is_expanding(0, -1, -1, 1))?;
-    output::verdict(rt, b"M4", base_tests::is_expanding(0, 2, 2, 1))?;
-    output::verdict(rt, b"M5", base_tests::is_expanding(0, 2, 0, 1))?;
-    output::verdict(rt, b"M6", base_tests::is_expanding(0, 2, 1, 1))
+    output::verdict(rt, "M3", base_tests::is_expanding(0, -1, -1, 1))?;
+    output::verdict(rt, "M4", base_tests::is_expanding(0, 2, 2, 1))?;
+    output::verdict(rt, "M5", base_tests::is_expanding(0, 2, 0, 1))?;
+    output::verdict(rt, "M6", base_tests::is_expanding(0, 2, 1, 1))
 }
 
 fn between(rt: &impl Print, a: i32, b: i32, c: i32, d: i32) -> io::Result<()> {
@@ -66,7 +60,7 @@ fn between(rt: &impl Print, a: i32, b: i32, c: i32, d: i32) -> io::Result<()> {
         d: 0,
     };
     let degree = Degree::Two;
-    output::element(rt, b"midpoint", degree, midpoint::midpoint(x, y))
+    output::element(rt, "midpoint", degree, midpoint::midpoint(x, y))
 }
 
 // Job 8: all four parts, the halves of 3, −3, 7 and −7.
@@ -84,7 +78,7 @@ pub fn midpoint_of_four(rt: &impl Print) -> io::Result<()> {
         d: -4,
     };
     let degree = Degree::Four;
-    output::element(rt, b"midpoint", degree, midpoint::midpoint(x, y))
+    output::element(rt, "midpoint", degree, midpoint::midpoint(x, y))
 }
 
 // Job 6: the halves of 3, 1 and 5, and of −3, −1 and −5, to the even neighbour; the least and the greatest parts.

@@ -72,29 +72,15 @@ const QUARTIC: [[u8; 8]; 35] = [
     [3, 2, 3, 3, 3, 4, 4, 0],
 ];
 
-// Puts a file together from its lines.
-fn laid(lines: &[[u8; 8]], file: &mut [u8]) {
-    let mut at = 0;
-    while at < file.len() {
-        let number = at / 8;
-        if lines.len() <= number {
-            return;
-        }
-        let line = lines[number];
-        file[at] = line[at % 8];
-        at += 1;
-    }
-}
-
 pub fn cubic() -> [u8; 215] {
     let mut file = [0u8; 215];
-    laid(&CUBIC, &mut file);
+    file.copy_from_slice(&CUBIC.as_flattened()[..215]);
     file
 }
 
 pub fn quartic() -> [u8; 279] {
     let mut file = [0u8; 279];
-    laid(&QUARTIC, &mut file);
+    file.copy_from_slice(&QUARTIC.as_flattened()[..279]);
     file
 }
 
@@ -117,10 +103,10 @@ pub fn damaged_quartic() -> [u8; 279] {
 fn limits(rt: &impl Print) -> io::Result<()> {
     let mut three = cubic();
     three[22] = 65;
-    output::checked(rt, b"cubic of 65", table::check(&three))?;
+    output::checked(rt, "cubic of 65", table::check(&three))?;
     let mut four = quartic();
     four[22] = 33;
-    output::checked(rt, b"quartic of 33", table::check(&four))
+    output::checked(rt, "quartic of 33", table::check(&four))
 }
 
 // The base is ω, whose determinant is −1 where ω³ is −1 or ω⁴ is 1 but for higher powers; the highest number allowed stands there.
@@ -130,13 +116,13 @@ fn units(rt: &impl Print) -> io::Result<()> {
     three[26] = 0;
     three[28] = 1;
     three[29] = 0;
-    output::checked(rt, b"cubic by its power", table::check(&three))?;
+    output::checked(rt, "cubic by its power", table::check(&three))?;
     let mut four = quartic();
     four[20] = 32;
     four[28] = 0;
     four[30] = 1;
     four[31] = 0;
-    output::checked(rt, b"quartic by its power", table::check(&four))
+    output::checked(rt, "quartic by its power", table::check(&four))
 }
 
 // A base section of 10 bytes: 3 names it.
@@ -145,12 +131,12 @@ fn of_no_degree(rt: &impl Print) -> io::Result<()> {
     file[2] = 10;
     file[4] = 30;
     file[6] = 32;
-    output::checked(rt, b"cubic of 10 bytes", table::check(&file))
+    output::checked(rt, "cubic of 10 bytes", table::check(&file))
 }
 
 pub fn checks(rt: &impl Print) -> io::Result<()> {
-    output::checked(rt, b"cubic", table::check(&cubic()))?;
-    output::checked(rt, b"quartic", table::check(&quartic()))?;
+    output::checked(rt, "cubic", table::check(&cubic()))?;
+    output::checked(rt, "quartic", table::check(&quartic()))?;
     limits(rt)?;
     units(rt)?;
     of_no_degree(rt)
@@ -159,20 +145,13 @@ pub fn checks(rt: &impl Print) -> io::Result<()> {
 // A sum of each, and the values of its rows and of the sum.
 pub fn sums(rt: &impl Print) -> io::Result<()> {
     let mut three = [9u8; 4];
-    additions::summed(rt, b"cubic", &cubic(), &[2, 1, 3], &[2, 2, 4], &mut three)?;
-    values::by_table(rt, b"cubic", &cubic(), &[2, 1, 3])?;
-    values::by_table(rt, b"cubic", &cubic(), &[2, 2, 4])?;
-    values::by_table(rt, b"cubic", &cubic(), &three)?;
+    additions::summed(rt, "cubic", &cubic(), &[2, 1, 3], &[2, 2, 4], &mut three)?;
+    values::by_table(rt, "cubic", &cubic(), &[2, 1, 3])?;
+    values::by_table(rt, "cubic", &cubic(), &[2, 2, 4])?;
+    values::by_table(rt, "cubic", &cubic(), &three)?;
     let mut four = [9u8; 5];
-    additions::summed(
-        rt,
-        b"quartic",
-        &quartic(),
-        &[1, 1, 2],
-        &[1, 0, 2],
-        &mut four,
-    )?;
-    values::by_table(rt, b"quartic", &quartic(), &[1, 1, 2])?;
-    values::by_table(rt, b"quartic", &quartic(), &[1, 0, 2])?;
-    values::by_table(rt, b"quartic", &quartic(), &four)
+    additions::summed(rt, "quartic", &quartic(), &[1, 1, 2], &[1, 0, 2], &mut four)?;
+    values::by_table(rt, "quartic", &quartic(), &[1, 1, 2])?;
+    values::by_table(rt, "quartic", &quartic(), &[1, 0, 2])?;
+    values::by_table(rt, "quartic", &quartic(), &four)
 }

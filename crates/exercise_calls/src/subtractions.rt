@@ -7,7 +7,7 @@ use std::io;
 // `LABEL difference K reach R DIFFERENCE`, or the fault and the whole buffer as the call left it.
 fn subtracted(
     rt: &impl Print,
-    label: &[u8],
+    label: &str,
     table: &[u8],
     first: &[u8],
     second: &[u8],
@@ -15,10 +15,14 @@ fn subtracted(
 ) -> io::Result<()>
     requires { length difference.old ≤ 260 }
 {
-    output::word(rt, label)?;
-    output::subtracted(rt, adder::subtract(table, first, second, difference))?;
+    print!(rt; "{label}")?;
+    output::added(
+        rt,
+        "difference",
+        adder::subtract(table, first, second, difference),
+    )?;
     output::buffer(rt, difference)?;
-    output::word(rt, b"\n")
+    println!(rt; "")
 }
 
 // A row minus another and the other way round; a byte beyond n + h is kept.
@@ -26,7 +30,7 @@ pub fn differences(rt: &impl Print) -> io::Result<()> {
     let mut tern = [9u8; 4];
     subtracted(
         rt,
-        b"TERN minus",
+        "TERN minus",
         &carried::tern(),
         &[2, 2],
         &[3, 1],
@@ -34,22 +38,15 @@ pub fn differences(rt: &impl Print) -> io::Result<()> {
     )?;
     subtracted(
         rt,
-        b"TERN minus",
+        "TERN minus",
         &carried::tern(),
         &[3, 1],
         &[2, 2],
         &mut tern,
     )?;
     let mut bin = [9u8; 5];
-    subtracted(
-        rt,
-        b"BIN minus",
-        &carried::bin(),
-        &[1, 1],
-        &[2, 0],
-        &mut bin,
-    )?;
-    subtracted(rt, b"BIN minus", &carried::bin(), b"", b"", &mut bin)
+    subtracted(rt, "BIN minus", &carried::bin(), &[1, 1], &[2, 0], &mut bin)?;
+    subtracted(rt, "BIN minus", &carried::bin(), b"", b"", &mut bin)
 }
 
 // The rows of two of these with every digit negated: so is every digit of the difference.
@@ -57,7 +54,7 @@ pub fn negated_rows(rt: &impl Print) -> io::Result<()> {
     let mut tern = [9u8; 4];
     subtracted(
         rt,
-        b"negated TERN minus",
+        "negated TERN minus",
         &carried::tern(),
         &[4, 4],
         &[1, 3],
@@ -66,7 +63,7 @@ pub fn negated_rows(rt: &impl Print) -> io::Result<()> {
     let mut bin = [9u8; 5];
     subtracted(
         rt,
-        b"negated BIN minus",
+        "negated BIN minus",
         &carried::bin(),
         &[2, 2],
         &[1, 0],
@@ -79,7 +76,7 @@ pub fn unlisted(rt: &impl Print) -> io::Result<()> {
     let mut out = [9u8; 2];
     additions::summed(
         rt,
-        b"whole",
+        "whole",
         &tables::without_negatives(),
         &[1],
         &[0],
@@ -87,7 +84,7 @@ pub fn unlisted(rt: &impl Print) -> io::Result<()> {
     )?;
     subtracted(
         rt,
-        b"whole minus",
+        "whole minus",
         &tables::without_negatives(),
         b"",
         b"",
@@ -95,7 +92,7 @@ pub fn unlisted(rt: &impl Print) -> io::Result<()> {
     )?;
     subtracted(
         rt,
-        b"whole minus",
+        "whole minus",
         &tables::without_negatives(),
         &[1],
         &[2],
@@ -103,7 +100,7 @@ pub fn unlisted(rt: &impl Print) -> io::Result<()> {
     )?;
     subtracted(
         rt,
-        b"whole minus",
+        "whole minus",
         &tables::without_negatives(),
         &[1, 1],
         &[1, 1],
@@ -116,7 +113,7 @@ pub fn damaged_difference(rt: &impl Print) -> io::Result<()> {
     let mut out = [9u8; 3];
     subtracted(
         rt,
-        b"damaged minus",
+        "damaged minus",
         &tables::damaged(),
         &[2, 1],
         &[4, 3],

@@ -50,10 +50,10 @@ pub fn without_negatives() -> [u8; 165] {
 
 // M12
 pub fn without_weight(rt: &impl Print) -> io::Result<()> {
-    output::checked(rt, b"M12", table::check(&damaged()))
+    output::checked(rt, "M12", table::check(&damaged()))
 }
 
 pub fn carried_tables(rt: &impl Print) -> io::Result<()> {
-    output::checked(rt, b"TERN", table::check(&carried::tern()))?;
-    output::checked(rt, b"BIN", table::check(&carried::bin()))
+    output::checked(rt, "TERN", table::check(&carried::tern()))?;
+    output::checked(rt, "BIN", table::check(&carried::bin()))
 }

@@ -46,7 +46,7 @@ const QUARTIC_EDITS: [[usize; 3]; 3] = [[0, 0, 2], [1, 2, 3], [0, 0, 1]];
 // `LABEL changed K reach R FIRST SECOND SUM`, or the fault and the buffers: each whole, as the call left it. No line feed.
 fn changed(
     rt: &impl Print,
-    label: &[u8],
+    label: &str,
     table: &[u8],
     first: &mut [u8],
     second: &mut [u8],
@@ -55,10 +55,11 @@ fn changed(
 ) -> io::Result<()>
     requires { (length first.old ≤ 260) × (length second.old ≤ 260) × (length sum.old ≤ 260) }
 {
-    output::word(rt, label)?;
+    print!(rt; "{label}")?;
+    let [row, place, digit] = edit;
     output::edited(
         rt,
-        edit_call::edit(table, first, second, sum, edit[0], edit[1], edit[2]),
+        edit_call::edit(table, first, second, sum, row, place, digit),
     )?;
     output::buffer(rt, first)?;
     output::buffer(rt, second)?;
@@ -70,23 +71,23 @@ pub fn after_sum(rt: &impl Print) -> io::Result<()> {
     let mut first = [2u8, 2];
     let mut second = [1u8, 2];
     let mut sum = [9u8; 3];
-    additions::summed(rt, b"M7", &carried::tern(), &first, &second, &mut sum)?;
+    additions::summed(rt, "M7", &carried::tern(), &first, &second, &mut sum)?;
     changed(
         rt,
-        b"M8",
+        "M8",
         &carried::tern(),
         &mut first,
         &mut second,
         &mut sum,
         [0, 0, 4],
     )?;
-    output::word(rt, b"\n")
+    println!(rt; "")
 }
 
 // An edit, then ` same` if the sum is the one that a whole addition of the rows writes into another buffer, else ` other`.
 fn step(
     rt: &impl Print,
-    label: &[u8],
+    label: &str,
     table: &[u8],
     first: &mut [u8],
     second: &mut [u8],
@@ -97,135 +98,109 @@ fn step(
     requires { (length first.old ≤ 260) × (length second.old ≤ 260) × (length sum.old ≤ 260) }
 {
     changed(rt, label, table, first, second, sum, edit)?;
-    adder::add(table, first, second, whole);
+    let _ = adder::add(table, first, second, whole);
     if &sum[..] == &whole[..] {
-        output::word(rt, b" same\n")
+        println!(rt; " same")
     } else {
-        output::word(rt, b" other\n")
+        println!(rt; " other")
     }
 }
 
 // An addition, then a list of edits.
-fn listed(
+fn listed<const N: usize, const M: usize>(
     rt: &impl Print,
-    label: &[u8],
+    label: &str,
     table: &[u8],
-    first: &mut [u8],
-    second: &mut [u8],
-    sum: &mut [u8],
-    whole: &mut [u8],
+    mut first: [u8; N],
+    mut second: [u8; N],
+    mut sum: [u8; M],
     list: &[[usize; 3]],
 ) -> io::Result<()>
-    requires { (length first.old ≤ 260) × (length second.old ≤ 260) × (length sum.old ≤ 260) }
+    requires { (N ≤ 260) × (M ≤ 260) }
 {
-    additions::summed(rt, label, table, first, second, sum)?;
-    let mut i = 0;
-    while i < list.len() {
-        let edit = list[i];
-        step(rt, label, table, first, second, sum, whole, edit)?;
-        i += 1;
+    let mut whole = [8u8; M];
+    additions::summed(rt, label, table, &first, &second, &mut sum)?;
+    for &edit in list {
+        step(
+            rt,
+            label,
+            table,
+            &mut first,
+            &mut second,
+            &mut sum,
+            &mut whole,
+            edit,
+        )?;
     }
     Ok(())
 }
 
 pub fn refusals_in_order(rt: &impl Print) -> io::Result<()> {
-    let mut first = [2u8, 2];
-    let mut second = [1u8, 2];
-    let mut sum = [9u8; 3];
-    let mut whole = [8u8; 3];
-    listed(
-        rt,
-        b"order",
-        &carried::tern(),
-        &mut first,
-        &mut second,
-        &mut sum,
-        &mut whole,
-        &REFUSED,
-    )
+    let table = carried::tern();
+    listed(rt, "order", &table, [2, 2], [1, 2], [9; 3], &REFUSED)
 }
 
 pub fn tern_list(rt: &impl Print) -> io::Result<()> {
-    let mut first = [2u8, 3, 0, 1];
-    let mut second = [1u8, 4, 2, 1];
-    let mut sum = [9u8; 5];
-    let mut whole = [8u8; 5];
+    let table = carried::tern();
     listed(
         rt,
-        b"TERN",
-        &carried::tern(),
-        &mut first,
-        &mut second,
-        &mut sum,
-        &mut whole,
+        "TERN",
+        &table,
+        [2, 3, 0, 1],
+        [1, 4, 2, 1],
+        [9; 5],
         &TERN_EDITS,
     )
 }
 
 pub fn bin_list(rt: &impl Print) -> io::Result<()> {
-    let mut first = [1u8, 1, 1, 1];
-    let mut second = [1u8, 0, 0, 2];
-    let mut sum = [9u8; 6];
-    let mut whole = [8u8; 6];
+    let table = carried::bin();
     listed(
         rt,
-        b"BIN",
-        &carried::bin(),
-        &mut first,
-        &mut second,
-        &mut sum,
-        &mut whole,
+        "BIN",
+        &table,
+        [1, 1, 1, 1],
+        [1, 0, 0, 2],
+        [9; 6],
         &BIN_EDITS,
     )
 }
 
 pub fn reach_list(rt: &impl Print) -> io::Result<()> {
-    let mut first = [1u8, 0, 0];
-    let mut second = [0u8, 1, 0];
-    let mut sum = [9u8; 5];
-    let mut whole = [8u8; 5];
+    let table = carried::bin();
     listed(
         rt,
-        b"reach",
-        &carried::bin(),
-        &mut first,
-        &mut second,
-        &mut sum,
-        &mut whole,
+        "reach",
+        &table,
+        [1, 0, 0],
+        [0, 1, 0],
+        [9; 5],
         &REACH_EDITS,
     )
 }
 
 pub fn cubic_list(rt: &impl Print) -> io::Result<()> {
-    let mut first = [2u8, 1, 3];
-    let mut second = [2u8, 2, 4];
-    let mut sum = [9u8; 4];
-    let mut whole = [8u8; 4];
+    let table = degrees::cubic();
     listed(
         rt,
-        b"cubic",
-        &degrees::cubic(),
-        &mut first,
-        &mut second,
-        &mut sum,
-        &mut whole,
+        "cubic",
+        &table,
+        [2, 1, 3],
+        [2, 2, 4],
+        [9; 4],
         &CUBIC_EDITS,
     )
 }
 
 pub fn quartic_list(rt: &impl Print) -> io::Result<()> {
-    let mut first = [1u8, 1, 2];
-    let mut second = [1u8, 0, 2];
-    let mut sum = [9u8; 5];
-    let mut whole = [8u8; 5];
+    let table = degrees::quartic();
     listed(
         rt,
-        b"quartic",
-        &degrees::quartic(),
-        &mut first,
-        &mut second,
-        &mut sum,
-        &mut whole,
+        "quartic",
+        &table,
+        [1, 1, 2],
+        [1, 0, 2],
+        [9; 5],
         &QUARTIC_EDITS,
     )
 }
@@ -237,24 +212,24 @@ pub fn earlier_faults(rt: &impl Print) -> io::Result<()> {
     let mut sum = [9u8; 2];
     changed(
         rt,
-        b"faults",
+        "faults",
         b"",
         &mut first,
         &mut second,
         &mut sum,
         [2, 2, 5],
     )?;
-    output::word(rt, b"\n")?;
+    println!(rt; "")?;
     changed(
         rt,
-        b"faults",
+        "faults",
         &carried::tern(),
         &mut first,
         &mut second,
         &mut sum,
         [2, 2, 5],
     )?;
-    output::word(rt, b"\n")
+    println!(rt; "")
 }
 
 // 27, of a table that only the check refuses; nothing is written.
@@ -264,14 +239,14 @@ pub fn damaged_edit(rt: &impl Print) -> io::Result<()> {
     let mut sum = [1u8, 2, 0];
     changed(
         rt,
-        b"damaged",
+        "damaged",
         &tables::damaged(),
         &mut first,
         &mut second,
         &mut sum,
         [0, 1, 1],
     )?;
-    output::word(rt, b"\n")
+    println!(rt; "")
 }
 
 // 256 digits: the top place is edited after the addition.
@@ -279,17 +254,17 @@ pub fn longest_rows(rt: &impl Print) -> io::Result<()> {
     let mut first = [1u8; 256];
     let mut second = [1u8; 256];
     let mut sum = [9u8; 257];
-    adder::add(&carried::tern(), &first, &second, &mut sum);
+    let _ = adder::add(&carried::tern(), &first, &second, &mut sum);
     changed(
         rt,
-        b"TERN 256",
+        "TERN 256",
         &carried::tern(),
         &mut first,
         &mut second,
         &mut sum,
         [0, 255, 4],
     )?;
-    output::word(rt, b"\n")
+    println!(rt; "")
 }
 
 // 257 digits.
@@ -299,12 +274,12 @@ pub fn longer_rows(rt: &impl Print) -> io::Result<()> {
     let mut sum = [9u8; 258];
     changed(
         rt,
-        b"TERN 257",
+        "TERN 257",
         &carried::tern(),
         &mut first,
         &mut second,
         &mut sum,
         [0, 255, 4],
     )?;
-    output::word(rt, b"\n")
+    println!(rt; "")
 }

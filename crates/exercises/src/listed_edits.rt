@@ -2,7 +2,8 @@
 ghost use Rattle.std.specs.Prelude.{◌≤◌, length};
 
 use exercise_calls::{output, tables};
-use runner::Ran;
+use faults::Fault;
+use runner_rules::RanFacts;
 use std::io;
 
 // M8 after its addition; 24, 25 and 26; another that is taken.
@@ -13,10 +14,10 @@ const PLACES: [usize; 5] = [0, 0, 2, 1, 1];
 const DIGITS: [usize; 5] = [4, 0, 1, 5, 0];
 
 // ` ran K`, or the fault.
-fn ran(rt: &impl Print, answer: Ran) -> io::Result<()> {
+fn ran(rt: &impl Print, answer: Result<RanFacts, Fault>) -> io::Result<()> {
     match answer {
-        Ran::Edits(facts) => output::item(rt, b" ran ", facts.edits),
-        Ran::Refused(fault) => output::refused(rt, fault),
+        Ok(facts) => print!(rt; " ran {}", facts.edits),
+        Err(fault) => output::refused(rt, fault),
     }
 }
 
@@ -27,12 +28,8 @@ fn told(
     numbers: &[usize; 6],
     values: &[usize; 6],
 ) -> io::Result<()> {
-    let mut i = 0;
-    while i < 6 {
-        output::item(rt, b" | ", whose[i])?;
-        output::item(rt, b" ", numbers[i])?;
-        output::item(rt, b" ", values[i])?;
-        i += 1;
+    for i in 0..6 {
+        print!(rt; " | {} {} {}", whose[i], numbers[i], values[i])?;
     }
     Ok(())
 }
@@ -40,7 +37,7 @@ fn told(
 // `LABEL ran K FIRST SECOND SUM`, or the fault and the buffers; then what the slices of answers hold, 7 at first.
 fn listed(
     rt: &impl Print,
-    label: &[u8],
+    label: &str,
     table: &[u8],
     first: &mut [u8],
     second: &mut [u8],
@@ -51,7 +48,7 @@ fn listed(
     let mut whose = [7usize; 6];
     let mut numbers = [7usize; 6];
     let mut values = [7usize; 6];
-    output::word(rt, label)?;
+    print!(rt; "{label}")?;
     ran(
         rt,
         runner::run(
@@ -71,7 +68,7 @@ fn listed(
     output::buffer(rt, second)?;
     output::buffer(rt, sum)?;
     told(rt, &whose, &numbers, &values)?;
-    output::word(rt, b"\n")
+    println!(rt; "")
 }
 
 // A list that starts, one that the check refuses with 14, one that the addition refuses with 23.
@@ -81,7 +78,7 @@ pub fn runs(rt: &impl Print) -> io::Result<()> {
     let mut sum = [9u8; 4];
     listed(
         rt,
-        b"list",
+        "list",
         &tables::damaged(),
         &mut first,
         &mut second,
@@ -89,7 +86,7 @@ pub fn runs(rt: &impl Print) -> io::Result<()> {
     )?;
     listed(
         rt,
-        b"list",
+        "list",
         &carried::tern(),
         &mut first,
         &mut second,
@@ -98,7 +95,7 @@ pub fn runs(rt: &impl Print) -> io::Result<()> {
     let mut short = [9u8; 2];
     listed(
         rt,
-        b"list",
+        "list",
         &carried::tern(),
         &mut first,
         &mut second,

@@ -17,11 +17,11 @@ const NONE: [u8; 7] = [0, 0, 0, 0, 0, 0, 9];
 
 const WRONG: [u8; 7] = [0, 1, 0, 0, 0, 0, 9];
 
-fn change(edit: [u8; 3]) -> Change {
+fn change([row, place, digit]: [u8; 3]) -> Change {
     Change {
-        row: edit[0] as usize,
-        place: edit[1] as usize,
-        digit: edit[2],
+        row: row as usize,
+        place: place as usize,
+        digit,
     }
 }
 
@@ -29,10 +29,8 @@ fn change(edit: [u8; 3]) -> Change {
 fn order(rt: &impl Print, turns: Turns, first: &[u8], second: &[u8], sum: &[u8]) -> io::Result<()>
     requires { (length first.now ≤ 260) × (length second.now ≤ 260) × (length sum.now ≤ 260) }
 {
-    let answer = turns.first;
-    let next = turns.second;
-    output::edited(rt, answer)?;
-    output::edited(rt, next)?;
+    output::edited(rt, turns.first)?;
+    output::edited(rt, turns.second)?;
     output::buffer(rt, first)?;
     output::buffer(rt, second)?;
     output::buffer(rt, sum)
@@ -41,7 +39,7 @@ fn order(rt: &impl Print, turns: Turns, first: &[u8], second: &[u8], sum: &[u8])
 // `LABEL`, e and then f, and behind a bar f and then e.
 fn turned(
     rt: &impl Print,
-    label: &[u8],
+    label: &str,
     table: &[u8],
     row: [u8; 4],
     sum: [u8; 7],
@@ -65,35 +63,27 @@ fn turned(
         change(e),
         change(f),
     );
-    output::word(rt, label)?;
+    print!(rt; "{label}")?;
     order(rt, orders.forth, &first, &second, &forth)?;
-    output::word(rt, b" |")?;
+    print!(rt; " |")?;
     order(rt, orders.back, &again, &other, &back)?;
-    output::word(rt, b"\n")
+    println!(rt; "")
 }
 
 // BIN: h + 1 and h apart the counts are the same, h − 1 apart they aren't, and h apart the reach needn't be.
 pub fn of_bin(rt: &impl Print) -> io::Result<()> {
     let table = carried::bin();
-    turned(rt, b"h + 1 apart", &table, ROW, SUM, [0, 0, 0], [1, 3, 2])?;
-    turned(rt, b"h apart", &table, ROW, SUM, [0, 0, 0], [1, 2, 1])?;
-    turned(
-        rt,
-        b"h - 1 apart",
-        &table,
-        ZEROS,
-        NONE,
-        [0, 0, 1],
-        [0, 1, 1],
-    )?;
-    turned(rt, b"reach", &table, ZEROS, NONE, [0, 0, 0], [0, 2, 1])
+    turned(rt, "h + 1 apart", &table, ROW, SUM, [0, 0, 0], [1, 3, 2])?;
+    turned(rt, "h apart", &table, ROW, SUM, [0, 0, 0], [1, 2, 1])?;
+    turned(rt, "h - 1 apart", &table, ZEROS, NONE, [0, 0, 1], [0, 1, 1])?;
+    turned(rt, "reach", &table, ZEROS, NONE, [0, 0, 0], [0, 2, 1])
 }
 
 // TERN: one place of both rows, one place of one row, a sum that isn't right, and an edit that is refused.
 pub fn of_tern(rt: &impl Print) -> io::Result<()> {
     let table = carried::tern();
-    turned(rt, b"both rows", &table, ZEROS, NONE, [0, 0, 1], [1, 0, 1])?;
-    turned(rt, b"one row", &table, ZEROS, NONE, [0, 0, 0], [0, 0, 1])?;
-    turned(rt, b"not right", &table, ZEROS, WRONG, [0, 0, 0], [0, 1, 0])?;
-    turned(rt, b"refused", &table, ZEROS, NONE, [2, 0, 0], [0, 1, 2])
+    turned(rt, "both rows", &table, ZEROS, NONE, [0, 0, 1], [1, 0, 1])?;
+    turned(rt, "one row", &table, ZEROS, NONE, [0, 0, 0], [0, 0, 1])?;
+    turned(rt, "not right", &table, ZEROS, WRONG, [0, 0, 0], [0, 1, 0])?;
+    turned(rt, "refused", &table, ZEROS, NONE, [2, 0, 0], [0, 1, 2])
 }

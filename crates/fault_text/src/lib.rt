@@ -14,10 +14,7 @@ fn hex_byte(d: u8) -> u8
     requires { d < 16 }
     ensures { result ≡ hex_byte d }
 {
-    if d < 10 {
-        return 48 + d;
-    }
-    87 + d
+    if d < 10 { 48 + d } else { 87 + d }
 }
 
 // Writes two hexadecimal digits for each byte from a place on; the next place.
@@ -27,13 +24,10 @@ fn put_hex_digits(out: &mut [u8], at: usize, bytes: &[u8]) -> usize
     ensures buffer { out.new ≡ overwrite out.old at (hex_digits bytes.now) }
 {
     let mut end = at;
-    let mut i = 0;
-    while i < bytes.len() {
-        let byte = bytes[i];
-        out[end] = hex_byte(byte / 16);
-        out[end + 1] = hex_byte(byte % 16);
+    for byte in bytes {
+        out[end] = hex_byte(*byte / 16);
+        out[end + 1] = hex_byte(*byte % 16);
         end += 2;
-        i += 1;
     }
     end
 }
@@ -45,9 +39,10 @@ pub fn put_hex(out: &mut [u8], at: usize, bytes: &[u8]) -> usize
     ensures buffer { out.new ≡ overwrite out.old at (hex bytes.now) }
 {
     if bytes.len() == 0 {
-        return octets::put(out, at, b"-");
+        octets::put(out, at, b"-")
+    } else {
+        put_hex_digits(out, at, bytes)
     }
-    put_hex_digits(out, at, bytes)
 }
 
 // Writes a word, a fault's number and its place from a place on; the next place. Each number has at most 20 digits.

@@ -4,3 +4,5 @@ pub mod Rule
 pub mod Exit
 pub mod Unless
 pub mod Numbers
+pub mod Passed
+pub mod Answer

@@ -4,3 +4,5 @@ pub mod Check
 pub mod Rule
 pub mod Exact
 pub mod Unless
+pub mod Passed
+pub mod Answer

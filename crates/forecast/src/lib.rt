@@ -7,11 +7,10 @@ ghost use Rattle.numeration.specs.PairCount.{pair_count};
 ghost use Rattle.reader_rules.specs.Table.{leaves_in};
 ghost use Rattle.reader_rules.specs.Check.{table_check};
 ghost use Rattle.forecast_rules.specs.Forecast.{forecast_outcome};
-ghost use Rattle.forecast.specs.Answer.{forecast_as};
+ghost use Rattle.faults.specs.Answer.{outcome_of};
 
 use faults::Fault;
-use forecast_rules::{Forecast, ForecastFacts};
-use reader_rules::Reading;
+use forecast_rules::ForecastFacts;
 
 // The number of fitting leaf pairs of a table that passes 1 to 13.
 fn fitting_pairs(table: &[u8]) -> usize
@@ -28,32 +27,18 @@ fn facts_of(pairs: usize, digits: usize, depth: usize) -> ForecastFacts
     ensures { result ≡ record { pairs = pairs; bytes = digits + depth } }
 {
     ForecastFacts {
-        pairs: pairs,
+        pairs,
         bytes: digits + depth,
     }
 }
 
 // The forecast of a table and a number of digits, or the first fault: the author's of the table, or the rows' where the digits are over 256.
-pub fn forecast(table: &[u8], digits: usize) -> Forecast
-    ensures { forecast_as result ≡ forecast_outcome table.now digits }
+pub fn forecast(table: &[u8], digits: usize) -> Result<ForecastFacts, Fault>
+    ensures { outcome_of result ≡ forecast_outcome table.now digits }
 {
-    let answer = reader::read(table);
-    let Reading::Facts(facts) = answer else {
-        // the table's fault is passed on
-        let Reading::Refused(fault) = answer else {
-            return Forecast::Refused(Fault::Author {
-                number: 0,
-                place: 0,
-            });
-        };
-        return Forecast::Refused(fault);
-    };
-    let found = rows::digits_check(digits);
-    if found.number != 0 {
-        return Forecast::Refused(Fault::Rows {
-            number: found.number,
-            place: found.place,
-        });
+    let facts = reader::read(table)?;
+    if let Err(found) = rows::digits_check(digits) {
+        return Err(found.by_rows());
     }
-    Forecast::Facts(facts_of(fitting_pairs(table), digits, facts.depth))
+    Ok(facts_of(fitting_pairs(table), digits, facts.depth))
 }

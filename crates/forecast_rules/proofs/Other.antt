@@ -5,7 +5,6 @@ use Prim.Native.Nat.{ℕ, ◌+◌, ◌≤◌}
 use lib.ListN.{length}
 use Rattle.faults.specs.declared.Refusal.{Refusal}
 use Rattle.faults.specs.Outcome.{facts, author, rows}
-use Rattle.faults.specs.Unless.{unless}
 use Rattle.faults.proofs.Unless.{unless_none}
 use Rattle.calls.proofs.Answers.{unless_given}
 use Rattle.ring.specs.declared.Operation.{Operation}

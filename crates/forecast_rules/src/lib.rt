@@ -1,18 +1,9 @@
 // No function: the forecast as a definition, with demand 1 and what its facts are as theorems.
 #![tactic(auto)]
 
-use faults::Fault;
-
 // The facts of the forecast: the number of fitting leaf pairs, and the bytes that the sum of two rows needs.
 #[derive(Clone, Copy)]
 pub struct ForecastFacts {
     pub pairs: usize,
     pub bytes: usize,
-}
-
-// The answer of the call.
-#[derive(Clone, Copy)]
-pub enum Forecast {
-    Facts(ForecastFacts),
-    Refused(Fault),
 }

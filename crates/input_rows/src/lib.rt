@@ -93,8 +93,9 @@ fn learn_by(
 {
     match degree {
         Degree::Two => learn_at_two(operation, alphabet, inputs, upper, lower, known),
-        Degree::Three => learn(degree, operation, alphabet, inputs, upper, lower, known),
-        Degree::Four => learn(degree, operation, alphabet, inputs, upper, lower, known),
+        Degree::Three | Degree::Four => learn(
+            degree, operation, alphabet, inputs, upper, lower, known,
+        ),
     }
 }
 
@@ -115,16 +116,14 @@ fn known_run(
     ensures row { KnownRun known.now (changed change 0 first.now) (changed change 1 second.now)
         place row.old result row.new }
 {
-    let mut at = place;
-    while at < end {
+    for at in place..end {
         let index = known[pair_at(change, first, second, at)];
         if index == 255 {
             return at;
         }
         row[at] = index;
-        at += 1;
     }
-    at
+    end
 }
 
 // The input indexes at the places from `from` up to `end`; zeros elsewhere. A pair of digits is looked for once; between two that are new
@@ -148,6 +147,7 @@ pub fn input_row(
         (changed change 1 second.now)) from end }
 {
     let mut row = [0u8; 256];
+    // 255 is no input index: `Option`s would take twice the room, which the header's bound on the stack hasn't
     let mut known = [255u8; 256];
     let mut place = from;
     while place < end {

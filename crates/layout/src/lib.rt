@@ -21,13 +21,11 @@ const FOUR: [usize; 5] = [8, 8, 8, 12, 1];
 pub fn degree_of(length: usize) -> Degree
     ensures { result ≡ degree_of length }
 {
-    if length == 12 {
-        return Degree::Three;
+    match length {
+        12 => Degree::Three,
+        16 => Degree::Four,
+        _ => Degree::Two,
     }
-    if length == 16 {
-        return Degree::Four;
-    }
-    Degree::Two
 }
 
 // How many parts an element has, and how many bytes.
@@ -111,35 +109,14 @@ pub fn degree_in(file: &[u8]) -> Degree
     degree_of(octets::wide(octets::byte_at(file, 2)) + 256 * octets::wide(octets::byte_at(file, 3)))
 }
 
-fn size_at_two(section: usize) -> usize
-    requires { section < 5 }
-    ensures { result ≡ record_size Two section }
-{
-    TWO[section]
-}
-
-fn size_at_three(section: usize) -> usize
-    requires { section < 5 }
-    ensures { result ≡ record_size Three section }
-{
-    THREE[section]
-}
-
-fn size_at_four(section: usize) -> usize
-    requires { section < 5 }
-    ensures { result ≡ record_size Four section }
-{
-    FOUR[section]
-}
-
 pub fn size_of_record(degree: Degree, section: usize) -> usize
     requires { section < 5 }
     ensures { result ≡ record_size degree section }
 {
     match degree {
-        Degree::Two => size_at_two(section),
-        Degree::Three => size_at_three(section),
-        Degree::Four => size_at_four(section),
+        Degree::Two => TWO[section],
+        Degree::Three => THREE[section],
+        Degree::Four => FOUR[section],
     }
 }
 
@@ -150,8 +127,8 @@ pub fn record_count(degree: Degree, part: &[u8], section: usize) -> usize
 {
     let bytes = part.len();
     match degree {
-        Degree::Two => bytes / size_at_two(section),
-        Degree::Three => bytes / size_at_three(section),
-        Degree::Four => bytes / size_at_four(section),
+        Degree::Two => bytes / TWO[section],
+        Degree::Three => bytes / THREE[section],
+        Degree::Four => bytes / FOUR[section],
     }
 }

@@ -29,9 +29,10 @@ fn input_text(degree: Degree, inputs: &[u8], k: usize, out: &mut [u8]) -> usize
     ensures buffer { out.new ≡ overwrite out.old 0 (input_text (of_degree degree inputs.now) k) }
 {
     if k < layout::record_count(degree, inputs, INPUTS) {
-        return element_text::put_element(out, 0, digits::record_at(degree, inputs, k));
+        element_text::put_element(out, 0, digits::record_at(degree, inputs, k))
+    } else {
+        octets::put(out, 0, b"?")
     }
-    octets::put(out, 0, b"?")
 }
 
 // Writes the digit of a word in a column; the count of its bytes.
@@ -41,12 +42,12 @@ fn digit_text(degree: Degree, inputs: &[u8], word: &[u8], i: usize, out: &mut [u
     ensures buffer { out.new ≡ overwrite out.old 0 (digit_text (of_degree degree inputs.now) word.now i) }
 {
     if i < word.len() {
-        return input_text(degree, inputs, octets::wide(word[i]), out);
+        input_text(degree, inputs, octets::wide(word[i]), out)
+    } else if i == 0 {
+        octets::put(out, 0, b"?")
+    } else {
+        0
     }
-    if i == 0 {
-        return octets::put(out, 0, b"?");
-    }
-    0
 }
 
 // Writes a column from a place on; the next place.
@@ -84,10 +85,8 @@ pub fn put_word(
     ensures buffer { out.new ≡ overwrite out.old at (word_text width (of_degree degree inputs.now) word.now columns) }
 {
     let mut end = at;
-    let mut i = 0;
-    while i < columns {
+    for i in 0..columns {
         end = put_column(degree, inputs, word, i, width, out, end);
-        i += 1;
     }
     end
 }

@@ -50,12 +50,12 @@ pub fn word<'a>(degree: Degree, leaves: &[u8], words: &'a [u8], leaf: usize) -> 
     ensures { result.now ≡ word_given (of_degree degree leaves.now) words.now leaf }
 {
     if leaf_count(degree, leaves) <= leaf {
-        return &words[0..0];
+        return &[];
     }
     let start = word_start(degree, leaves, leaf);
     let end = start + word_length(degree, leaves, leaf);
     if words.len() < end {
-        return &words[0..0];
+        return &[];
     }
     &words[start..end]
 }
@@ -65,9 +65,10 @@ pub fn length(degree: Degree, leaves: &[u8], leaf: usize) -> usize
     ensures { result ≡ length_given (of_degree degree leaves.now) leaf }
 {
     if leaf < leaf_count(degree, leaves) {
-        return word_length(degree, leaves, leaf);
+        word_length(degree, leaves, leaf)
+    } else {
+        0
     }
-    0
 }
 
 // The weight of a leaf that there is.
@@ -85,24 +86,19 @@ pub fn weight(degree: Degree, leaves: &[u8], leaf: usize) -> [i64; 4]
     ensures within { Within 32768 result }
 {
     if leaf < leaf_count(degree, leaves) {
-        return weight_at(degree, leaves, leaf);
+        weight_at(degree, leaves, leaf)
+    } else {
+        [0; 4]
     }
-    [0, 0, 0, 0]
 }
 
 // The depth: the longest word length.
 pub fn depth(degree: Degree, leaves: &[u8]) -> usize
     ensures { (words : List ℕ) → result ≡ depths.depth (code_of (of_degree degree leaves.now) words) }
 {
-    let count = leaf_count(degree, leaves);
-    let mut longest = 0;
-    let mut leaf = 0;
-    while leaf < count {
-        let length = word_length(degree, leaves, leaf);
-        if longest < length {
-            longest = length;
-        }
-        leaf += 1;
+    let mut longest: usize = 0;
+    for leaf in 0..leaf_count(degree, leaves) {
+        longest = longest.max(word_length(degree, leaves, leaf));
     }
     longest
 }

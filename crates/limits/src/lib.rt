@@ -6,7 +6,9 @@ ghost use Rattle.ring.specs.declared.Degree.TheVariants.{Two};
 ghost use Rattle.ring.specs.Degree.{part_count, base_limit};
 ghost use Rattle.faults.specs.Check.{none};
 ghost use Rattle.layout_rules.specs.Section.{element_size, record_size, of_degree, degree_in};
+ghost use Rattle.faults.specs.Passed.{passed};
 ghost use Rattle.lists.specs.Scan.{first_failing, every};
+ghost use Rattle.lists.specs.Found.{below};
 ghost use Rattle.layout_rules.specs.Number.{signed_at};
 ghost use Rattle.layout_rules.specs.Directory.{directory_check};
 ghost use Rattle.layout_rules.specs.Limit.{size_limit, number_place, number_count, number_allowed, limit_check_in, limit_check_of, limit_check};
@@ -63,19 +65,23 @@ fn number_count(degree: Degree, part: &[u8], size: usize) -> usize
     part.len() / size * layout::part_count(degree)
 }
 
-// The first number of a section that is outside its limit, or the count of numbers.
-fn first_outside(degree: Degree, part: &[u8], size: usize, limit: usize, count: usize) -> usize
+// The first number of a section that is outside its limit.
+fn first_outside(
+    degree: Degree,
+    part: &[u8],
+    size: usize,
+    limit: usize,
+    count: usize,
+) -> Option<usize>
     requires { (element_size degree ≤ size) × (count ≡ number_count degree size (length part.now)) }
-    ensures { result ≡ first_failing (number_allowed size limit (of_degree degree part.now)) 0 count }
+    ensures { result ≡ below count (first_failing (number_allowed size limit (of_degree degree part.now)) 0 count) }
 {
-    let mut m = 0;
-    while m < count {
+    for m in 0..count {
         if limit < magnitude(part, number_place(degree, size, m)) {
-            return m;
+            return Some(m);
         }
-        m += 1;
     }
-    m
+    None
 }
 
 // A byte in 32 bits.
@@ -126,40 +132,31 @@ fn none_outside(degree: Degree, part: &[u8], size: usize, limit: usize) -> bool
     let bound = limit as u32;
     let element = layout::element_size(degree);
     let count = part.len() / size;
-    let mut k = 0;
     let mut most = 0;
-    while k < count {
+    for k in 0..count {
         let at = k * size + (size - element);
         most = at_least(most, raised_parts(degree, part, at, bound));
-        k += 1;
     }
     most < 65536
 }
 
 // Rule 4 in one section, handed on as its part of the file; `start` is where the part starts in the file.
-pub fn limits_in(degree: Degree, part: &[u8], start: usize, section: usize) -> Refusal
+pub fn limits_in(degree: Degree, part: &[u8], start: usize, section: usize) -> Result<(), Refusal>
     requires { (section < 4) × (start ≤ 65535) }
-    ensures { result ≡ limit_check_in (of_degree degree part.now) start section }
+    ensures { result ≡ passed (limit_check_in (of_degree degree part.now) start section) }
 {
     let size = layout::size_of_record(degree, section);
     let limit = size_limit(degree, section);
     if none_outside(degree, part, size, limit) {
-        return Refusal {
-            number: 0,
-            place: 0,
-        };
+        return Ok(());
     }
     let count = number_count(degree, part, size);
-    let m = first_outside(degree, part, size, limit, count);
-    if m < count {
-        return Refusal {
+    match first_outside(degree, part, size, limit, count) {
+        Some(m) => Err(Refusal {
             number: 4,
             place: start + number_place(degree, size, m),
-        };
-    }
-    Refusal {
-        number: 0,
-        place: 0,
+        }),
+        None => Ok(()),
     }
 }
 
@@ -179,16 +176,10 @@ fn sections_at_two(file: &[u8]) -> bool
     requires { (directory_check file.now).number ≡ 0 }
     ensures { result ≡ true → degree_in file.now ≡ Two → none ≡ limit_check file.now }
 {
-    if !section_at_two(file, 0, 4, 64) {
-        return false;
-    }
-    if !section_at_two(file, 1, 4, 64) {
-        return false;
-    }
-    if !section_at_two(file, 2, 4, 128) {
-        return false;
-    }
-    section_at_two(file, 3, 8, 1024)
+    section_at_two(file, 0, 4, 64)
+        && section_at_two(file, 1, 4, 64)
+        && section_at_two(file, 2, 4, 128)
+        && section_at_two(file, 3, 8, 1024)
 }
 
 // A quick look at rule 4, for degree two: it is kept, or there is no answer.
@@ -198,35 +189,23 @@ fn limits_kept(degree: Degree, file: &[u8]) -> bool
 {
     match degree {
         Degree::Two => sections_at_two(file),
-        Degree::Three => false,
-        Degree::Four => false,
+        Degree::Three | Degree::Four => false,
     }
 }
 
 // Rule 4 in the four sections that have elements, of a file that passes rules 1 and 2.
-pub fn limits(file: &[u8]) -> Refusal
+pub fn limits(file: &[u8]) -> Result<(), Refusal>
     requires { (directory_check file.now).number ≡ 0 }
-    ensures { result ≡ limit_check file.now }
+    ensures { result ≡ passed (limit_check file.now) }
 {
     let degree = layout::degree_in(file);
     if limits_kept(degree, file) {
-        return Refusal {
-            number: 0,
-            place: 0,
-        };
+        return Ok(());
     }
-    let mut section = 0;
-    while section < 4 {
+    for section in 0..4 {
         let start = layout::section_start(file, section);
         let end = layout::section_end(file, section);
-        let found = limits_in(degree, &file[start..end], start, section);
-        if found.number != 0 {
-            return found;
-        }
-        section += 1;
+        limits_in(degree, &file[start..end], start, section)?;
     }
-    Refusal {
-        number: 0,
-        place: 0,
-    }
+    Ok(())
 }

@@ -11,9 +11,8 @@ use Rattle.faults.specs.Outcome.{Outcome}
 use Rattle.faults.specs.Stated.{number_of, place_of}
 use Rattle.table_rules.specs.declared.Facts.{Facts}
 use Rattle.line_rules.specs.Line.{refused_line, line_of, line_into, line_count}
-use Rattle.table.specs.declared.Checked.{Checked}
-use Rattle.table.specs.declared.Checked.TheVariants.{Refused}
-use Rattle.table.specs.Answer.{outcome_of}
+use Rattle.std.proofs.Common.{Result, Err}
+use Rattle.faults.specs.Answer.{outcome_of}
 
 -- one that is too short: nothing is written
 pub line_short : (o : Outcome Facts) (s : List ℕ) → length s < 128 → (0 ≡ line_count o (length s)) × ((s ≡ line_into o s) × (0 ≤ length s))
@@ -27,6 +26,6 @@ line_long o s t text r h e (p, (q, w)) =
     (p ∙ ap length (sym e) ∙ rw (le-ltb (length s) 128 h, line_count), (q ∙ ap (overwrite s 0) (sym e) ∙ rw (le-ltb (length s) 128 h, line_into), omega arith))
 
 -- the line of an answer whose fault is known by its case
-pub refused_case : (answer : Checked) (fault known : Fault) → answer ≡ Refused fault → fault ≡ known → line_of (outcome_of answer) ≡ refused_line (number_of known) (place_of known)
+pub refused_case : (answer : Result Facts Fault) (fault known : Fault) → answer ≡ Err fault → fault ≡ known → line_of (outcome_of answer) ≡ refused_line (number_of known) (place_of known)
 unfolding line_of
 refused_case answer fault known e f = rw (e, f)

@@ -5,10 +5,9 @@ ghost use Rattle.std.specs.Prelude.{◌≡◌, length, ◌≤◌, ◌<◌};
 ghost use Rattle.lists.specs.Overwrite.{overwrite};
 ghost use Rattle.table_rules.specs.Check.{check_outcome};
 ghost use Rattle.line_rules.specs.Line.{accepted_line, refused_line, line_count, line_into};
-ghost use Rattle.table.specs.Answer.{outcome_of};
+ghost use Rattle.faults.specs.Answer.{outcome_of};
 
 use faults::Fault;
-use table::Checked;
 use table_rules::Facts;
 
 fn accepted_line(f: Facts, out: &mut [u8]) -> usize
@@ -35,7 +34,7 @@ fn refused_line(number: usize, place: usize, out: &mut [u8]) -> usize
 }
 
 // Writes the program's line; the count of its bytes. A buffer under 128 bytes is left as it is, and the count is 0.
-pub fn line(answer: Checked, out: &mut [u8]) -> usize
+pub fn line(answer: Result<Facts, Fault>, out: &mut [u8]) -> usize
     ensures count { result ≡ line_count (outcome_of answer) (length out.old) }
     ensures buffer { out.new ≡ line_into (outcome_of answer) out.old }
     ensures within { result ≤ length out.old }
@@ -44,8 +43,8 @@ pub fn line(answer: Checked, out: &mut [u8]) -> usize
         return 0;
     }
     match answer {
-        Checked::Accepted(f) => accepted_line(f, out),
-        Checked::Refused(fault) => match fault {
+        Ok(f) => accepted_line(f, out),
+        Err(fault) => match fault {
             Fault::Author { number, place } => refused_line(number, place, out),
             Fault::Rows { number, place } => refused_line(number, place, out),
             Fault::Editor { number, place } => refused_line(number, place, out),

@@ -42,7 +42,7 @@ pub fn is_limited(degree: Degree, base: &[u8]) -> bool
     ensures { result ≡ limited_base (of_degree degree base.now) }
 {
     base.len() == 4 * layout::part_count(degree)
-        && limits::limits_in(degree, base, START, BASE).number == 0
+        && limits::limits_in(degree, base, START, BASE).is_ok()
 }
 
 // Writes whether the base is expanding, and the line's end; the next place.
@@ -52,9 +52,10 @@ fn put_expanding(expanding: bool, at: usize, out: &mut [u8]) -> usize
     ensures buffer { out.new ≡ overwrite out.old at (expanding_word expanding) }
 {
     if expanding {
-        return octets::put(out, at, b", expanding\n");
+        octets::put(out, at, b", expanding\n")
+    } else {
+        octets::put(out, at, b", not expanding\n")
     }
-    octets::put(out, at, b", not expanding\n")
 }
 
 // Writes the line of T and N at degree two; the count of its bytes.
@@ -82,9 +83,10 @@ fn put_allowed(allowed: bool, at: usize, out: &mut [u8]) -> usize
     ensures buffer { out.new ≡ overwrite out.old at (allowed_word allowed) }
 {
     if allowed {
-        return octets::put(out, at, b"\n");
+        octets::put(out, at, b"\n")
+    } else {
+        octets::put(out, at, b", refused by 6\n")
     }
-    octets::put(out, at, b", refused by 6\n")
 }
 
 // Writes the line of N above degree two; the count of its bytes.
@@ -131,10 +133,7 @@ pub fn word_shown<'a>(degree: Degree, leaves: &[u8], words: &'a [u8], leaf: usiz
     ensures within { length result.now ≤ 8 }
 {
     let word = leaves::word(degree, leaves, words, leaf);
-    if 8 < word.len() {
-        return &words[0..0];
-    }
-    word
+    if 8 < word.len() { &[] } else { word }
 }
 
 // How many columns the words of a table get: as many as the longest that is shown.
@@ -142,15 +141,9 @@ pub fn columns(degree: Degree, leaves: &[u8], words: &[u8]) -> usize
     ensures count { result ≡ columns_for (of_degree degree leaves.now) words.now }
     ensures within { result ≤ 8 }
 {
-    let count = leaves::leaf_count(degree, leaves);
-    let mut most = 1;
-    let mut leaf = 0;
-    while leaf < count {
-        let length = word_shown(degree, leaves, words, leaf).len();
-        if most < length {
-            most = length;
-        }
-        leaf += 1;
+    let mut most: usize = 1;
+    for leaf in 0..leaves::leaf_count(degree, leaves) {
+        most = most.max(word_shown(degree, leaves, words, leaf).len());
     }
     most
 }
@@ -173,15 +166,10 @@ pub fn width(degree: Degree, part: &[u8], section: usize) -> usize
 {
     let size = layout::size_of_record(degree, section);
     let skip = size - layout::element_size(degree);
-    let count = part.len() / size;
-    let mut longest = 0;
-    let mut k = 0;
-    while k < count {
+    let mut longest: usize = 0;
+    for k in 0..part.len() / size {
         let length = text_length(digits::element(degree, part, k * size + skip));
-        if longest < length {
-            longest = length;
-        }
-        k += 1;
+        longest = longest.max(length);
     }
     longest
 }

@@ -4,6 +4,7 @@ pub mod Span
 pub mod Overwrite
 pub mod Pieces
 pub mod Scan
+pub mod Found
 pub mod Test
 pub mod Entries
 pub mod Once

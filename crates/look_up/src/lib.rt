@@ -5,6 +5,7 @@ ghost use Rattle.std.specs.Prelude.{◌≡◌, ◌+◌, ◌-◌, ◌<◌, ◌≤
 ghost use lib.ListN.{length, get_or};
 ghost use Rattle.layout_rules.specs.Section.{of_degree};
 ghost use Rattle.lists.specs.Scan.{first_failing};
+ghost use Rattle.lists.specs.Found.{below};
 ghost use Rattle.numeration.specs.Code.{Begins};
 ghost use Rattle.numeration.specs.Prefix as prefixes;
 ghost use Rattle.leaf_rules.specs.Leaf.{leaf_count, code_of};
@@ -24,19 +25,17 @@ pub struct Found {
     pub length: usize,
 }
 
-// The first of n places at which the bytes from a on differ from the other bytes from b on, or n.
-fn first_difference(bytes: &[u8], a: usize, other: &[u8], b: usize, n: usize) -> usize
+// The first of n places at which the bytes from a on differ from the other bytes from b on.
+fn first_difference(bytes: &[u8], a: usize, other: &[u8], b: usize, n: usize) -> Option<usize>
     requires { (a < 65536) × (b < 65536) × (n < 65536) }
-    ensures { result ≡ first_failing (λ i. eqb (get_or bytes.now (a + i) 0) (get_or other.now (b + i) 0)) 0 n }
+    ensures { result ≡ below n (first_failing (λ i. eqb (get_or bytes.now (a + i) 0) (get_or other.now (b + i) 0)) 0 n) }
 {
-    let mut i = 0;
-    while i < n {
+    for i in 0..n {
         if octets::byte_at(bytes, a + i) != octets::byte_at(other, b + i) {
-            return i;
+            return Some(i);
         }
-        i += 1;
     }
-    i
+    None
 }
 
 // Of n places, at the first where the bytes from a on differ from the other bytes from b on, the other byte is the higher.
@@ -44,11 +43,10 @@ pub fn lower(bytes: &[u8], a: usize, other: &[u8], b: usize, n: usize) -> bool
     requires { (a < 65536) × (b < 65536) × (n < 65536) }
     ensures { result ≡ prefixes.lower (λ i. get_or bytes.now (a + i) 0) (λ i. get_or other.now (b + i) 0) n }
 {
-    let i = first_difference(bytes, a, other, b, n);
-    if n <= i {
-        return false;
+    match first_difference(bytes, a, other, b, n) {
+        Some(i) => octets::byte_at(bytes, a + i) < octets::byte_at(other, b + i),
+        None => false,
     }
-    octets::byte_at(bytes, a + i) < octets::byte_at(other, b + i)
 }
 
 // Whether a word of one to eight digits lies inside section 4, so that it can be read as a number.
@@ -56,13 +54,7 @@ fn is_inside(words: &[u8], start: usize, length: usize) -> bool
     requires { (start < 65536) × (length < 65536) }
     ensures { result ≡ true → (1 ≤ length) × (length ≤ 8) × (start + length ≤ lib.ListN.length words.now) }
 {
-    if length < 1 {
-        return false;
-    }
-    if LONGEST < length {
-        return false;
-    }
-    start + length <= words.len()
+    1 <= length && length <= LONGEST && start + length <= words.len()
 }
 
 // Whether a leaf's word is above the window at the first place where they differ.
@@ -73,9 +65,10 @@ fn above(degree: Degree, leaves: &[u8], words: &[u8], window: &[u8; 8], leaf: us
     let start = leaves::word_start(degree, leaves, leaf);
     let length = leaves::word_length(degree, leaves, leaf);
     if is_inside(words, start, length) {
-        return word_numbers::eight(window, 0) < word_numbers::word_number(words, start, length);
+        word_numbers::eight(window, 0) < word_numbers::word_number(words, start, length)
+    } else {
+        lower(window, 0, words, start, length.min(LONGEST))
     }
-    lower(window, 0, words, start, octets::least(length, LONGEST))
 }
 
 // Where the search goes on: in the lower half, or in the upper one. One number is chosen, without a jump that could be guessed wrong.
@@ -135,14 +128,8 @@ pub fn look_up(degree: Degree, leaves: &[u8], words: &[u8], window: [u8; 8]) -> 
     ensures leaf { windows.LookedUp (code_of (of_degree degree leaves.now) words.now) window result.leaf }
     ensures length { result.length ≡ length_given (of_degree degree leaves.now) result.leaf }
 {
-    let leaf = search_part(
-        degree,
-        leaves,
-        words,
-        &window,
-        0,
-        leaves::leaf_count(degree, leaves),
-    );
+    let count = leaves::leaf_count(degree, leaves);
+    let leaf = search_part(degree, leaves, words, &window, 0, count);
     with_length(degree, leaves, leaf)
 }
 
@@ -158,19 +145,10 @@ fn is_between(
     ensures { result ≡ true → searches.Between (code_of (of_degree degree leaves.now) words.now) window.now low high }
 {
     let count = leaves::leaf_count(degree, leaves);
-    if high <= low {
+    if high <= low || count < high || above(degree, leaves, words, window, low) {
         return false;
     }
-    if count < high {
-        return false;
-    }
-    if above(degree, leaves, words, window, low) {
-        return false;
-    }
-    if count <= high {
-        return true;
-    }
-    above(degree, leaves, words, window, high)
+    count <= high || above(degree, leaves, words, window, high)
 }
 
 // The look-up with a part of the leaves that may have the one: all are searched where it can't be told.
@@ -187,9 +165,10 @@ pub fn look_up_within(
 {
     if is_between(degree, leaves, words, &window, low, high) {
         let leaf = search_part(degree, leaves, words, &window, low, high - low);
-        return with_length(degree, leaves, leaf);
+        with_length(degree, leaves, leaf)
+    } else {
+        look_up(degree, leaves, words, window)
     }
-    look_up(degree, leaves, words, window)
 }
 
 // Whether a leaf's word begins the window.
@@ -199,7 +178,7 @@ fn begins(degree: Degree, leaves: &[u8], words: &[u8], window: &[u8; 8], leaf: u
 {
     let start = leaves::word_start(degree, leaves, leaf);
     let n = leaves::word_length(degree, leaves, leaf);
-    n <= first_difference(words, start, window, 0, n)
+    first_difference(words, start, window, 0, n).is_none()
 }
 
 // The look-up with a guess: the search is only made where the guessed leaf doesn't begin the window.
@@ -213,10 +192,9 @@ pub fn look_up_from(
     ensures leaf { windows.LookedUp (code_of (of_degree degree leaves.now) words.now) window result.leaf }
     ensures length { result.length ≡ length_given (of_degree degree leaves.now) result.leaf }
 {
-    if guess < leaves::leaf_count(degree, leaves) {
-        if begins(degree, leaves, words, &window, guess) {
-            return with_length(degree, leaves, guess);
-        }
+    if guess < leaves::leaf_count(degree, leaves) && begins(degree, leaves, words, &window, guess) {
+        with_length(degree, leaves, guess)
+    } else {
+        look_up(degree, leaves, words, window)
     }
-    look_up(degree, leaves, words, window)
 }

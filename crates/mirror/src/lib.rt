@@ -34,12 +34,12 @@ fn mirror(positive: usize, index: usize) -> usize
     ensures within { result < 256 }
 {
     if index == 0 {
-        return 0;
+        0
+    } else if index <= positive {
+        index + positive
+    } else {
+        index - positive
     }
-    if index <= positive {
-        return index + positive;
-    }
-    index - positive
 }
 
 // The 16 bits of a stored number.
@@ -48,10 +48,7 @@ fn stored_bits(byte: u8) -> usize
     ensures within { (result < 65536) × (byte < 256) }
 {
     let low = octets::wide(byte);
-    if low < 128 {
-        return low;
-    }
-    low + 65280
+    if low < 128 { low } else { low + 65280 }
 }
 
 // Those of the number, or of minus the number for a mirror image.
@@ -60,9 +57,10 @@ fn bits(byte: u8, mirrored: bool) -> usize
 {
     let stored = stored_bits(byte);
     if mirrored {
-        return (65536 - stored) % 65536;
+        (65536 - stored) % 65536
+    } else {
+        stored
     }
-    stored
 }
 
 fn store(out: &mut [u8], at: usize, byte: u8)
@@ -95,10 +93,8 @@ fn put_digits(out: &mut [u8], at: usize, half: &[u8])
     requires { (at < 65536) × (length half.now ≤ 128) }
     ensures { out.new ≡ put_digits half.now at out.old (length half.now) }
 {
-    let mut k = 0;
-    while k < half.len() {
+    for k in 0..half.len() {
         put_digit(out, at, half, k);
-        k += 1;
     }
 }
 
@@ -110,9 +106,10 @@ fn digit(words: &[u8], at: usize, positive: usize, mirrored: bool) -> usize
 {
     let stored = octets::wide(octets::byte_at(words, at));
     if mirrored {
-        return mirror(positive, stored);
+        mirror(positive, stored)
+    } else {
+        stored
     }
-    stored
 }
 
 // A word, or its mirror image, as a number, whose order is that of the words.
@@ -120,13 +117,10 @@ fn number(shape: Shape, words: &[u8], k: usize, mirrored: bool) -> usize
     requires { (shape.positive < 128) × (shape.width ≤ 8) × (k < 256) }
     ensures { result ≡ word_number shape.positive shape.width words.now mirrored k }
 {
-    let width = shape.width;
-    let positive = shape.positive;
+    let Shape { positive, width } = shape;
     let mut all = 0;
-    let mut i = 0;
-    while i < width {
+    for i in 0..width {
         all = all * 256 + digit(words, width * k + i, positive, mirrored);
-        i += 1;
     }
     all
 }
@@ -135,7 +129,7 @@ fn below(number: usize, limit: usize) -> usize
     ensures one { result ≡ cond (ltb number limit) 1 0 }
     ensures within { result ≤ 1 }
 {
-    if number < limit { 1 } else { 0 }
+    usize::from(number < limit)
 }
 
 // How many of a leaf's word and its mirror image are below a number.
@@ -146,9 +140,10 @@ fn images_below(shape: Shape, words: &[u8], k: usize, limit: usize) -> usize
 {
     let stored = below(number(shape, words, k, false), limit);
     if octets::byte_at(words, shape.width * k) == 0 {
-        return stored;
+        stored
+    } else {
+        stored + below(number(shape, words, k, true), limit)
     }
-    stored + below(number(shape, words, k, true), limit)
 }
 
 // How many leaves, and how many digits of their words, are below a number.
@@ -162,12 +157,10 @@ fn place_of(shape: Shape, words: &[u8], lengths: &[u8], limit: usize) -> Place
 {
     let mut leaf = 0;
     let mut word = 0;
-    let mut k = 0;
-    while k < lengths.len() {
+    for k in 0..lengths.len() {
         let images = images_below(shape, words, k, limit);
         leaf += images;
         word += images * octets::wide(octets::byte_at(lengths, k));
-        k += 1;
     }
     Place { leaf, word }
 }
@@ -184,16 +177,13 @@ fn put_word(
     requires { (at < 1048576) × (shape.positive < 128) × (shape.width ≤ 8) × (k < 256) × (size < 256) }
     ensures { out.new ≡ put_word shape.positive shape.width words.now mirrored k out.old at size }
 {
-    let width = shape.width;
-    let positive = shape.positive;
-    let mut i = 0;
-    while i < size {
+    let Shape { positive, width } = shape;
+    for i in 0..size {
         store(
             out,
             at + i,
             digit(words, width * k + i, positive, mirrored) as u8,
         );
-        i += 1;
     }
 }
 
@@ -238,11 +228,9 @@ fn put_leaves(
         ≡ put_leaves shape.positive shape.width words.now lengths.now weights.now
         at.leaves at.words out.old (length lengths.now) }
 {
-    let mut k = 0;
-    while k < lengths.len() {
+    for k in 0..lengths.len() {
         put_leaf(out, at, shape, words, lengths, weights, k, false);
         put_leaf(out, at, shape, words, lengths, weights, k, true);
-        k += 1;
     }
 }
 

@@ -13,7 +13,6 @@ use Rattle.lists.proofs.Scan.{scan_failed, every_sound}
 use Rattle.lists.proofs.Test.{both}
 use Rattle.numeration.specs.Group.{Operations}
 use Rattle.numeration.specs.Code.{Code, Inputs}
-use Rattle.numeration.specs.LeafOf.{leaf_of}
 use Rattle.numeration.specs.Prefix.{PrefixCode}
 use Rattle.numeration.specs.Conversion.{window, out_digit, leaf_into, weight_into, weight_at, convert}
 use Rattle.numeration.specs.Reach.{length_at}

@@ -4,7 +4,6 @@ use mathlib.Core.Bool.{true, false}
 use Prim.Native.Nat.{ℕ, zero, suc, ◌+◌, ◌-◌, ◌*◌, ◌<◌, ◌≤◌}
 use native.Mathlib.Omega.{arith}
 use native.Mathlib.Nat.{le_antisymm, le_trans, sub-zero, mul-le-mul}
-use Rattle.lists.specs.Count.{total, count}
 use Rattle.lists.proofs.Count.{total_next, total_most, total_least, count_run, count_most, count_some, pairs_once}
 use Rattle.lists.proofs.Once.{once_same, once_long}
 use Rattle.lists.proofs.Test.{not_passed}

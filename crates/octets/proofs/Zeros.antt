@@ -4,14 +4,11 @@ use mathlib.Core.List.{List}
 use Prim.Native.Nat.{ℕ, ◌+◌, ◌-◌, ◌<◌, ◌≤◌}
 use native.Mathlib.Decide.{dec_lt}
 use native.Mathlib.Omega.{arith}
-use lib.ListN.{length, get_or, take, drop, length-take, length-drop, get_or-eq_default}
+use lib.ListN.{length, get_or, take, drop, length-take, length-drop}
 use lib.Seq.{get_or-take, get_or-drop}
 
 abbrev pub ZerosFrom : List ℕ → ℕ → Type 0
 ZerosFrom s n = (k : ℕ) → n ≤ k → get_or s k 0 ≡ 0
-
-pub zeros_end : (s : List ℕ) → ZerosFrom s (length s)
-zeros_end s k h = get_or-eq_default s 0 {n = k} h
 
 -- a part in front of them whose highest byte is 0
 pub zeros_part : (s : List ℕ) (half end top : ℕ) → half ≤ end → end ≤ length s → ZerosFrom s end → ((k : ℕ) → k < length (take (end - half) (drop half s)) → get_or (take (end - half) (drop half s)) k 0 ≤ top) → top ≡ 0 → ZerosFrom s half
@@ -29,11 +26,3 @@ zeros_part s half end top h l zeros high none k low =
 
     lowest : {n : ℕ} → n ≤ top → n ≡ 0
     lowest e = omega arith
-
--- one byte in front of them
-pub zeros_one : (s : List ℕ) (end : ℕ) → 0 < end → ZerosFrom s end → get_or s (end - 1) 0 ≡ 0 → ZerosFrom s (end - 1)
-zeros_one s end some zeros here k low =
-    elim (dec_lt k end) [
-      | yes m ↦ let at : k ≡ end - 1 = omega arith in ap (λ (n : ℕ). get_or s n 0) at ∙ here
-      | no m ↦ zeros k (omega arith)
-    ]

@@ -1,7 +1,7 @@
 // Bytes: one as a number, one at a place, many written, the highest of many, and how many there are up to the last that isn't 0.
 #![tactic(auto)]
 
-ghost use Rattle.std.specs.Prelude.{◌≡◌, ℕ, ◌+◌, ◌≤◌, ◌<◌, min, max, length, get_or};
+ghost use Rattle.std.specs.Prelude.{◌≡◌, ℕ, ◌+◌, ◌≤◌, ◌<◌, length, get_or};
 ghost use Rattle.lists.specs.Overwrite.{overwrite};
 
 // Bytes that aren't halved any more.
@@ -13,18 +13,6 @@ pub fn wide(x: u8) -> usize
     ensures small { result < 256 }
 {
     x as usize
-}
-
-pub fn least(a: usize, b: usize) -> usize
-    ensures { result ≡ min a b }
-{
-    if a < b { a } else { b }
-}
-
-pub fn greatest(a: usize, b: usize) -> usize
-    ensures { result ≡ max a b }
-{
-    if a < b { b } else { a }
 }
 
 // The byte at a place, 0 past the end.
@@ -40,25 +28,18 @@ pub fn put(out: &mut [u8], at: usize, bytes: &[u8]) -> usize
     ensures next { result ≡ at + length bytes.now }
     ensures written { out.new ≡ overwrite out.old at bytes.now }
 {
-    let mut i = 0;
-    while i < bytes.len() {
-        out[at + i] = bytes[i];
-        i += 1;
-    }
-    at + i
+    let end = at + bytes.len();
+    out[at..end].copy_from_slice(bytes);
+    end
 }
 
 // The highest byte, 0 where there is none.
 pub fn highest(bytes: &[u8]) -> u8
     ensures { (k : ℕ) → k < length bytes.now → get_or bytes.now k 0 ≤ result }
 {
-    let mut top = 0;
-    let mut i = 0;
-    while i < bytes.len() {
-        if top < bytes[i] {
-            top = bytes[i];
-        }
-        i += 1;
+    let mut top: u8 = 0;
+    for x in bytes {
+        top = top.max(*x);
     }
     top
 }
@@ -69,12 +50,8 @@ fn halved(bytes: &[u8]) -> usize
     ensures zeros { (k : ℕ) → result ≤ k → get_or bytes.now k 0 ≡ 0 }
 {
     let mut end = bytes.len();
-    while FEW < end {
-        let half = end / 2;
-        if highest(&bytes[half..end]) != 0 {
-            return end;
-        }
-        end = half;
+    while FEW < end && highest(&bytes[end / 2..end]) == 0 {
+        end /= 2;
     }
     end
 }
@@ -84,12 +61,10 @@ pub fn significant(bytes: &[u8]) -> usize
     ensures inside { result ≤ length bytes.now }
     ensures zeros { (k : ℕ) → result ≤ k → get_or bytes.now k 0 ≡ 0 }
 {
-    let mut end = halved(bytes);
-    while 0 < end {
-        if bytes[end - 1] != 0 {
-            return end;
+    for k in (0..halved(bytes)).rev() {
+        if bytes[k] != 0 {
+            return k + 1;
         }
-        end -= 1;
     }
-    end
+    0
 }

@@ -5,7 +5,7 @@ use Prim.Native.Nat.{ℕ, ◌+◌, ◌-◌, ◌≤◌}
 use native.Mathlib.Omega.{arith}
 use native.Mathlib.Nat.{le_antisymm}
 use native.Mathlib.Decide.{dec_lt}
-use lib.ListN.{get_or, set}
+use lib.ListN.{get_or}
 use lib.Bits.{bit_or}
 use Rattle.weight_sets.specs.Bits.{Has}
 use Rattle.pair_sets.specs.Runs.{InRun}

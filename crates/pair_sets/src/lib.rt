@@ -18,21 +18,16 @@ ghost use Rattle.weight_sets.specs.Bits.{Has};
 ghost use Rattle.pair_sets.specs.Runs.{InRun, Judgement};
 ghost use Rattle.weight_sets.specs.Weights.{WeightsNumbered, Covers};
 
+use pair_digits::{EMPTY, SLOTS};
 use ring::Degree;
+use weight_sets::WEIGHTS;
 
-// The fewest leaves, few leaves, the most leaves, and the most different weights.
+// The fewest leaves, few leaves, and the most leaves.
 const FEWEST: usize = 32;
 
 const FEW: usize = 512;
 
 const LEAVES: usize = 4096;
-
-const WEIGHTS: usize = 64;
-
-// The count of slots for alphabet digits, and the mark of an empty one.
-const SLOTS: usize = 256;
-
-const EMPTY: u8 = 255;
 
 // The weights of leaves that are neighbours, and where these end.
 #[derive(Clone, Copy)]
@@ -56,6 +51,12 @@ pub struct PassedLeaves {
     pub pairs: usize,
 }
 
+// No leaf is seen to pass.
+const NONE_PASSED: PassedLeaves = PassedLeaves {
+    uppers: 0,
+    pairs: 0,
+};
+
 // The first digit of a word, by its number.
 fn first_digit(key: u64) -> usize
     ensures digit { result ≡ key / 72057594037927936 }
@@ -72,12 +73,13 @@ fn by_eights(keys: &[u64], sets: &[u64], count: usize, start: usize, last: u64) 
 {
     let mut set = 0;
     let mut leaf = start;
+    // a range with `step_by` wouldn't tell the leaf that the walk one by one goes on from
     while leaf + 8 <= count {
         let next = leaf + 7;
         if last < keys[next] {
             return Run { set, end: leaf };
         }
-        set = set | sets[leaf];
+        set |= sets[leaf];
         leaf += 8;
     }
     Run { set, end: leaf }
@@ -93,15 +95,13 @@ fn one_by_one(keys: &[u64], numbers: &[u8], count: usize, run: Run, last: u64) -
         → InRun numbers.now start result.set result.end }
 {
     let mut set = run.set;
-    let mut leaf = run.end;
-    while leaf < count {
+    for leaf in run.end..count {
         if last < keys[leaf] {
             return Run { set, end: leaf };
         }
-        set = set | weight_sets::single(octets::wide(numbers[leaf]));
-        leaf += 1;
+        set |= weight_sets::single(octets::wide(numbers[leaf]));
     }
-    Run { set, end: leaf }
+    Run { set, end: count }
 }
 
 // The weights of all lower leaves that fit an upper one. All leaves fit one whose word has one digit; often one alone fits.
@@ -191,10 +191,7 @@ fn all_in(
 {
     let mut slots = [EMPTY; SLOTS];
     if !pair_digits::slot_digits(degree, alphabet, &mut slots) {
-        return PassedLeaves {
-            uppers: 0,
-            pairs: 0,
-        };
+        return NONE_PASSED;
     }
     let mut made = [0; WEIGHTS];
     let mut good = [0; WEIGHTS];
@@ -202,8 +199,7 @@ fn all_in(
     let all = weight_sets::all_weights(count);
     let mut pairs = 0;
     let mut guess = 0;
-    let mut upper = 0;
-    while upper < leaf_count {
+    for upper in 0..leaf_count {
         let run = fitting(degree, leaves, keys, numbers, sets, all, upper, guess);
         let mark = first_digit(keys[upper]) + 1;
         let number = octets::wide(numbers[upper]);
@@ -220,10 +216,9 @@ fn all_in(
         }
         pairs += run.count;
         guess = run.end;
-        upper += 1;
     }
     PassedLeaves {
-        uppers: upper,
+        uppers: leaf_count,
         pairs,
     }
 }
@@ -248,13 +243,9 @@ fn look(
         (of_degree degree leaves.now) words.now result }
 {
     let mut first = [0; WEIGHTS];
-    let count = weight_sets::number_weights_by(degree, leaves, numbers, &mut first);
-    if WEIGHTS < count {
-        return PassedLeaves {
-            uppers: 0,
-            pairs: 0,
-        };
-    }
+    let Some(count) = weight_sets::number_weights_by(degree, leaves, numbers, &mut first) else {
+        return NONE_PASSED;
+    };
     runs::keys_of_by(degree, leaves, words, keys);
     weight_sets::eights(numbers, leaves::leaf_count(degree, leaves), sets);
     let matrix = digits::base_of(degree, base);
@@ -263,8 +254,8 @@ fn look(
     )
 }
 
-// The same for the fewest leaves, for few and for many, since cleared room costs time.
-fn look_at_fewest(
+// The same with room for so many leaves, since cleared room costs time.
+fn look_with_room<const ROOM: usize>(
     degree: Degree,
     base: &[u8],
     alphabet: &[u8],
@@ -274,73 +265,13 @@ fn look_at_fewest(
 ) -> PassedLeaves
     requires table { BasePart (of_degree degree base.now) × (0 < element_count (of_degree degree inputs.now))
         × ((leaf_check (of_degree degree leaves.now) words.now (element_count (of_degree degree inputs.now))).number ≡ 0) }
-    requires fewest { leaf_count (of_degree degree leaves.now) ≤ 32 }
+    requires room { (leaf_count (of_degree degree leaves.now) ≤ ROOM) × (ROOM ≤ 4096) }
     ensures { Judgement (base_matrix (of_degree degree base.now)) (of_degree degree alphabet.now) (of_degree degree inputs.now)
         (of_degree degree leaves.now) words.now result }
 {
-    let mut keys = [0; FEWEST];
-    let mut sets = [0; FEWEST];
-    let mut numbers = [0; FEWEST];
-    look(
-        degree,
-        base,
-        alphabet,
-        inputs,
-        leaves,
-        words,
-        &mut keys,
-        &mut sets,
-        &mut numbers,
-    )
-}
-
-fn look_at_few(
-    degree: Degree,
-    base: &[u8],
-    alphabet: &[u8],
-    inputs: &[u8],
-    leaves: &[u8],
-    words: &[u8],
-) -> PassedLeaves
-    requires table { BasePart (of_degree degree base.now) × (0 < element_count (of_degree degree inputs.now))
-        × ((leaf_check (of_degree degree leaves.now) words.now (element_count (of_degree degree inputs.now))).number ≡ 0) }
-    requires few { leaf_count (of_degree degree leaves.now) ≤ 512 }
-    ensures { Judgement (base_matrix (of_degree degree base.now)) (of_degree degree alphabet.now) (of_degree degree inputs.now)
-        (of_degree degree leaves.now) words.now result }
-{
-    let mut keys = [0; FEW];
-    let mut sets = [0; FEW];
-    let mut numbers = [0; FEW];
-    look(
-        degree,
-        base,
-        alphabet,
-        inputs,
-        leaves,
-        words,
-        &mut keys,
-        &mut sets,
-        &mut numbers,
-    )
-}
-
-fn look_at_many(
-    degree: Degree,
-    base: &[u8],
-    alphabet: &[u8],
-    inputs: &[u8],
-    leaves: &[u8],
-    words: &[u8],
-) -> PassedLeaves
-    requires table { BasePart (of_degree degree base.now) × (0 < element_count (of_degree degree inputs.now))
-        × ((leaf_check (of_degree degree leaves.now) words.now (element_count (of_degree degree inputs.now))).number ≡ 0) }
-    requires many { leaf_count (of_degree degree leaves.now) ≤ 4096 }
-    ensures { Judgement (base_matrix (of_degree degree base.now)) (of_degree degree alphabet.now) (of_degree degree inputs.now)
-        (of_degree degree leaves.now) words.now result }
-{
-    let mut keys = [0; LEAVES];
-    let mut sets = [0; LEAVES];
-    let mut numbers = [0; LEAVES];
+    let mut keys = [0; ROOM];
+    let mut sets = [0; ROOM];
+    let mut numbers = [0; ROOM];
     look(
         degree,
         base,
@@ -370,16 +301,12 @@ pub fn passed(
 {
     let count = leaves::leaf_count(degree, leaves);
     if count <= FEWEST {
-        return look_at_fewest(degree, base, alphabet, inputs, leaves, words);
-    }
-    if count <= FEW {
-        return look_at_few(degree, base, alphabet, inputs, leaves, words);
-    }
-    if count <= LEAVES {
-        return look_at_many(degree, base, alphabet, inputs, leaves, words);
-    }
-    PassedLeaves {
-        uppers: 0,
-        pairs: 0,
+        look_with_room::<FEWEST>(degree, base, alphabet, inputs, leaves, words)
+    } else if count <= FEW {
+        look_with_room::<FEW>(degree, base, alphabet, inputs, leaves, words)
+    } else if count <= LEAVES {
+        look_with_room::<LEAVES>(degree, base, alphabet, inputs, leaves, words)
+    } else {
+        NONE_PASSED
     }
 }

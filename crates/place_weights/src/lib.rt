@@ -18,7 +18,7 @@ pub const WINDOWS: usize = 256;
 
 pub const STARTS: usize = 257;
 
-// More than any leaf's number: a slot that holds none.
+// More than any leaf's number: a slot that holds none. An `Option` would take twice the room, which the header's bound on the stack hasn't.
 pub const NO_LEAF: u16 = 65535;
 
 // A leaf, and the reach with its word counted.
@@ -79,13 +79,10 @@ fn begins_below(
     if octets::byte_at(words, start) != first {
         return false;
     }
-    let n = leaves::word_length(degree, leaves, leaf);
-    let mut k = 1;
-    while k < n {
+    for k in 1..leaves::word_length(degree, leaves, leaf) {
         if octets::byte_at(words, start + k) != digit_below(row, place, k) {
             return false;
         }
-        k += 1;
     }
     true
 }
@@ -111,10 +108,10 @@ fn leaf_below(
     ensures reach { result.reach ≡ max reach (word_length (of_degree degree leaves.now) result.leaf) }
 {
     let leaf = guess as usize;
-    if leaf < leaves::leaf_count(degree, leaves) {
-        if begins_below(degree, leaves, words, row, place, first, leaf) {
-            return Tried { leaf, reach };
-        }
+    if leaf < leaves::leaf_count(degree, leaves)
+        && begins_below(degree, leaves, words, row, place, first, leaf)
+    {
+        return Tried { leaf, reach };
     }
     let below = look_up::look_up_within(
         degree,
@@ -126,7 +123,7 @@ fn leaf_below(
     );
     Tried {
         leaf: below.leaf,
-        reach: octets::greatest(reach, below.length),
+        reach: reach.max(below.length),
     }
 }
 
@@ -187,11 +184,9 @@ pub fn first_leaves(degree: Degree, leaves: &[u8], words: &[u8], inputs: usize) 
     if 255 < inputs {
         return starts;
     }
-    let mut digit = 0;
-    while digit < inputs {
+    for digit in 0..inputs {
         let lowest = look_up::look_up(degree, leaves, words, [digit as u8, 0, 0, 0, 0, 0, 0, 0]);
         starts[digit] = (lowest.leaf % 65536) as u16;
-        digit += 1;
     }
     starts[inputs] = (leaves::leaf_count(degree, leaves) % 65536) as u16;
     starts

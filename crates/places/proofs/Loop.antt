@@ -38,7 +38,6 @@ module _ (o : Operations (List ℤ)) (alphabet inputs leaves : Section) (words r
     pub weight : weight_given leaves below ≡ weight_into (code_of leaves words) row (from + k)
     pub listed : below < leaf_count leaves
     pub longest : reach ≡ reach_of (code_of leaves words) row from k
-    pub reached : k ≤ count
 
   -- what the call gives
   abbrev pub Gives : List ℕ → ℕ → ℕ → Type 0
@@ -54,7 +53,6 @@ module _ (o : Operations (List ℤ)) (alphabet inputs leaves : Section) (words r
         weight = w ∙ ap (weight_into (code_of leaves words) row) (sym (add-zero from));
         listed = s;
         longest = l;
-        reached = omega arith;
       }
 
   module _ (out : List ℕ) (below reach k : ℕ) (is : Converted out below reach k) where
@@ -68,7 +66,6 @@ module _ (o : Operations (List ℤ)) (alphabet inputs leaves : Section) (words r
           weight = w ∙ ap (weight_into (code_of leaves words) row) (add_assoc from k 1);
           listed = s;
           longest = longer ∙ (λ i. max (is.longest i) (looked i)) ∙ sym (reach_next (code_of leaves words) row from k);
-          reached = omega arith;
         }
 
     pub converted_here : (v : ℕ) → k < count → v ≡ index k → element_count alphabet ≤ v → Gives out reach k

@@ -8,7 +8,6 @@ use lib.ListN.{length, get_or, set, replicate, length-set, get_or-eq_default}
 use lib.Seq.{get_or-set_same, get_or-set_other}
 use lib.IntN.{ℤ}
 use Rattle.layout_rules.specs.Section.{Section}
-use Rattle.ring.specs.Tests.{same}
 use Rattle.digit_rules.specs.Record.{record_at, element_count}
 use Rattle.digit_rules.proofs.Index.{index_is, index_first}
 use Rattle.place_rules.specs.Place.{alphabet_index}

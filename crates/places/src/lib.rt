@@ -3,6 +3,7 @@
 
 ghost use Rattle.std.specs.Prelude.{◌≡◌, ◌+◌, ◌≤◌, ◌<◌, ◌^◌, length};
 ghost use Rattle.ring.specs.Degree.{part_count};
+ghost use Rattle.lists.specs.Found.{below};
 ghost use Rattle.lists.specs.Span.{span};
 ghost use Rattle.lists.specs.Scan.{first_failing};
 ghost use Rattle.lists.specs.Overwrite.{overwrite};
@@ -15,10 +16,9 @@ ghost use Rattle.numeration.specs.Conversion.{out_digit};
 ghost use Rattle.numeration.specs.Elements.{elements};
 ghost use Rattle.numeration.specs.ReachOf.{reach_of};
 ghost use Rattle.leaf_rules.specs.Leaf.{leaf_count, code_of};
-ghost use Rattle.leaf_rules.specs.Given.{weight_given};
 ghost use Rattle.place_rules.specs.Place.{alphabet_index, index_at, digit_allowed};
 ghost use Rattle.place_rules.specs.Helpers.{Begun};
-ghost use Rattle.places.specs.Helpers.{Firsts};
+ghost use Rattle.places.specs.Helpers.{Firsts, OutIndex};
 
 use ring::Degree;
 
@@ -28,29 +28,24 @@ const FEW: usize = 16;
 // The slots that alphabet digits are kept in by their elements.
 const DIGITS: usize = 256;
 
-// The alphabet index of an element, or the alphabet's size. The digit in the element's slot is tried before the search, and a digit
-// that was found is put there.
-fn index_of(degree: Degree, alphabet: &[u8], x: [i64; 4], slots: &mut [u8; DIGITS]) -> usize
+// The alphabet index of an element. The digit in the element's slot is tried before the search, and a digit that was found is put there.
+fn index_of(degree: Degree, alphabet: &[u8], x: [i64; 4], slots: &mut [u8; DIGITS]) -> Option<usize>
     requires { Within (2 ^ 42) x × (element_count (of_degree degree alphabet.now) ≤ 256) × Firsts (of_degree degree alphabet.now) slots.old }
-    ensures index { result ≡ alphabet_index (of_degree degree alphabet.now) x }
+    ensures index { let alphabet = of_degree degree alphabet.now in result ≡ below (element_count alphabet) (alphabet_index alphabet x) }
     ensures slots { Firsts (of_degree degree alphabet.now) slots.new }
 {
     let size = layout::record_count(degree, alphabet, 1);
     let slot = slots::slot_of(x);
     let last = octets::wide(slots[slot]);
-    if last < size {
-        if elements::equal(digits::record_at(degree, alphabet, last), x) {
-            return last;
-        }
+    if last < size && elements::equal(digits::record_at(degree, alphabet, last), x) {
+        return Some(last);
     }
-    let index = digits::find(degree, alphabet, size, x);
-    if index < size {
-        slots[slot] = index as u8;
-    }
-    index
+    let index = digits::find(degree, alphabet, size, x)?;
+    slots[slot] = index as u8;
+    Some(index)
 }
 
-// The alphabet index of the digit that comes out, or the alphabet's size, by the leaves that the weights are read from.
+// The alphabet index of the digit that comes out, by the leaves that the weights are read from.
 fn out_index(
     degree: Degree,
     base: [[i64; 4]; 4],
@@ -61,13 +56,11 @@ fn out_index(
     below: usize,
     own: usize,
     slots: &mut [u8; DIGITS],
-) -> usize
+) -> Option<usize>
     requires sizes { RowsWithin (2 ^ 21) base × (input < element_count (of_degree degree inputs.now))
         × (below < leaf_count (of_degree degree leaves.now)) × (own < leaf_count (of_degree degree leaves.now)) }
     requires alphabet { (element_count (of_degree degree alphabet.now) ≤ 256) × Firsts (of_degree degree alphabet.now) slots.old }
-    ensures index { result ≡ alphabet_index (of_degree degree alphabet.now)
-        (out_digit (elements (part_count degree) base) (record_at (of_degree degree inputs.now) input)
-        (weight_given (of_degree degree leaves.now) below) (weight_given (of_degree degree leaves.now) own)) }
+    ensures index { OutIndex degree base (of_degree degree alphabet.now) (of_degree degree inputs.now) (of_degree degree leaves.now) input below own result }
     ensures slots { Firsts (of_degree degree alphabet.now) slots.new }
 {
     let digit = converted_digit::out_digit(
@@ -90,13 +83,11 @@ fn out_index_at_two(
     below: usize,
     own: usize,
     slots: &mut [u8; DIGITS],
-) -> usize
+) -> Option<usize>
     requires sizes { RowsWithin (2 ^ 21) base × (input < element_count (of_degree Two inputs.now))
         × (below < leaf_count (of_degree Two leaves.now)) × (own < leaf_count (of_degree Two leaves.now)) }
     requires alphabet { (element_count (of_degree Two alphabet.now) ≤ 256) × Firsts (of_degree Two alphabet.now) slots.old }
-    ensures index { result ≡ alphabet_index (of_degree Two alphabet.now)
-        (out_digit (elements (part_count Two) base) (record_at (of_degree Two inputs.now) input)
-        (weight_given (of_degree Two leaves.now) below) (weight_given (of_degree Two leaves.now) own)) }
+    ensures index { OutIndex Two base (of_degree Two alphabet.now) (of_degree Two inputs.now) (of_degree Two leaves.now) input below own result }
     ensures slots { Firsts (of_degree Two alphabet.now) slots.new }
 {
     out_index(
@@ -123,13 +114,11 @@ fn out_index_above_two(
     below: usize,
     own: usize,
     slots: &mut [u8; DIGITS],
-) -> usize
+) -> Option<usize>
     requires sizes { RowsWithin (2 ^ 21) base × (input < element_count (of_degree degree inputs.now))
         × (below < leaf_count (of_degree degree leaves.now)) × (own < leaf_count (of_degree degree leaves.now)) }
     requires alphabet { (element_count (of_degree degree alphabet.now) ≤ 256) × Firsts (of_degree degree alphabet.now) slots.old }
-    ensures index { result ≡ alphabet_index (of_degree degree alphabet.now)
-        (out_digit (elements (part_count degree) base) (record_at (of_degree degree inputs.now) input)
-        (weight_given (of_degree degree leaves.now) below) (weight_given (of_degree degree leaves.now) own)) }
+    ensures index { OutIndex degree base (of_degree degree alphabet.now) (of_degree degree inputs.now) (of_degree degree leaves.now) input below own result }
     ensures slots { Firsts (of_degree degree alphabet.now) slots.new }
 {
     out_index(
@@ -147,21 +136,16 @@ fn out_index_by(
     below: usize,
     own: usize,
     slots: &mut [u8; DIGITS],
-) -> usize
+) -> Option<usize>
     requires sizes { RowsWithin (2 ^ 21) base × (input < element_count (of_degree degree inputs.now))
         × (below < leaf_count (of_degree degree leaves.now)) × (own < leaf_count (of_degree degree leaves.now)) }
     requires alphabet { (element_count (of_degree degree alphabet.now) ≤ 256) × Firsts (of_degree degree alphabet.now) slots.old }
-    ensures index { result ≡ alphabet_index (of_degree degree alphabet.now)
-        (out_digit (elements (part_count degree) base) (record_at (of_degree degree inputs.now) input)
-        (weight_given (of_degree degree leaves.now) below) (weight_given (of_degree degree leaves.now) own)) }
+    ensures index { OutIndex degree base (of_degree degree alphabet.now) (of_degree degree inputs.now) (of_degree degree leaves.now) input below own result }
     ensures slots { Firsts (of_degree degree alphabet.now) slots.new }
 {
     match degree {
         Degree::Two => out_index_at_two(base, alphabet, inputs, leaves, input, below, own, slots),
-        Degree::Three => out_index_above_two(
-            degree, base, alphabet, inputs, leaves, input, below, own, slots,
-        ),
-        Degree::Four => out_index_above_two(
+        Degree::Three | Degree::Four => out_index_above_two(
             degree, base, alphabet, inputs, leaves, input, below, own, slots,
         ),
     }
@@ -170,13 +154,7 @@ fn out_index_by(
 // How many first digits are looked up beforehand: none for the few places of an edit, or where a first digit alone tells the leaf, since
 // that would cost more than it saves.
 fn digits_ahead(count: usize, single: bool, inputs: usize) -> usize {
-    if single {
-        return 0;
-    }
-    if count < FEW {
-        return 0;
-    }
-    inputs
+    if single || count < FEW { 0 } else { inputs }
 }
 
 // How many digits were written, and the longest word that was looked up for them.
@@ -219,7 +197,6 @@ pub fn convert(
         (of_degree degree leaves.now) words.now row.now in
         out.new ≡ overwrite out.old 0 (span (λ k. index (from + k)) 0 result.count) }
 {
-    let size = layout::record_count(degree, alphabet, 1);
     let single = words.len() <= leaves::leaf_count(degree, leaves);
     let ahead = digits_ahead(count, single, layout::record_count(degree, inputs, 2));
     let starts = place_weights::first_leaves(degree, leaves, words, ahead);
@@ -228,8 +205,7 @@ pub fn convert(
     let lowest = place_weights::leaf_into(degree, leaves, words, row, from);
     let mut below = lowest.leaf;
     let mut reach = reach_below(from, lowest.length);
-    let mut k = 0;
-    while k < count {
+    for k in 0..count {
         let first = octets::byte_at(row, from + k);
         let upper = place_weights::leaf_tried(
             degree,
@@ -245,16 +221,14 @@ pub fn convert(
         );
         let own = upper.leaf;
         let input = first as usize;
-        let index = out_index_by(
+        let Some(index) = out_index_by(
             degree, base, alphabet, inputs, leaves, input, below, own, &mut slots,
-        );
-        if size <= index {
+        ) else {
             return Written { count: k, reach };
-        }
+        };
         out[k] = index as u8;
         below = own;
         reach = upper.reach;
-        k += 1;
     }
-    Written { count: k, reach }
+    Written { count, reach }
 }

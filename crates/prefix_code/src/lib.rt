@@ -4,6 +4,7 @@
 
 ghost use Rattle.std.specs.Prelude.{◌≡◌, ℕ, ◌+◌, ◌≤◌, ◌<◌, true, length, get_or};
 ghost use Rattle.layout_rules.specs.Section.{of_degree};
+ghost use Rattle.faults.specs.Passed.{passed};
 ghost use Rattle.leaf_rules.specs.Leaf.{leaf_count, code_of};
 ghost use Rattle.prefix_rules.specs.Check.{leaf_allowed, leaf_check};
 ghost use Rattle.prefix_code.specs.Numbers.{Numbered};
@@ -47,8 +48,7 @@ fn numbered(degree: Degree, leaves: &[u8], words: &[u8], inputs: u64) -> bool
     let mut end = 0;
     let mut floor = 0;
     let mut strings = 0;
-    let mut leaf = 0;
-    while leaf < count {
+    for leaf in 0..count {
         let start = leaves::word_start(degree, leaves, leaf);
         let length = leaves::word_length(degree, leaves, leaf);
         if !lies(start, length, end, words.len()) {
@@ -61,7 +61,6 @@ fn numbered(degree: Degree, leaves: &[u8], words: &[u8], inputs: u64) -> bool
         end = start + length;
         floor = number + units[length];
         strings += shares[length];
-        leaf += 1;
     }
     if end != words.len() {
         return false;
@@ -89,8 +88,13 @@ fn well_coded(degree: Degree, leaves: &[u8], words: &[u8], inputs: usize) -> boo
 }
 
 // Rules 9 to 13, of sections 3 and 4 and the count of input digits. The scans run only where the quick look doesn't say yes.
-pub fn prefix_code(degree: Degree, leaves: &[u8], words: &[u8], inputs: usize) -> Refusal
-    ensures { result ≡ leaf_check (of_degree degree leaves.now) words.now inputs }
+pub fn prefix_code(
+    degree: Degree,
+    leaves: &[u8],
+    words: &[u8],
+    inputs: usize,
+) -> Result<(), Refusal>
+    ensures { result ≡ passed (leaf_check (of_degree degree leaves.now) words.now inputs) }
 {
     if well_coded(degree, leaves, words, inputs) {
         return prefix_scan::zero_weight(degree, leaves);

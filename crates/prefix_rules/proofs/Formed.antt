@@ -7,7 +7,7 @@ use native.Mathlib.Omega.{arith}
 use lib.ListN.{length}
 use borrow.Author.Tests.{ltb-true}
 use Rattle.layout_rules.specs.Section.{Section}
-use Rattle.faults.specs.Check.{none, ◌then◌}
+use Rattle.faults.specs.Check.{none}
 use Rattle.faults.proofs.Check.{then_kept, judge_passed}
 use Rattle.ring.proofs.Element.{same→≡}
 use Rattle.numeration.specs.Code.{Code, Agree, Inputs, Precedes, HasLeaf}

@@ -3,6 +3,7 @@
 
 ghost use Rattle.std.specs.Prelude.{◌≡◌, ◌+◌, ◌-◌, ◌≤◌, ◌<◌, true, length};
 ghost use Rattle.layout_rules.specs.Section.{of_degree};
+ghost use Rattle.faults.specs.Passed.{passed};
 ghost use Rattle.numeration.specs.Prefix as prefixes;
 ghost use Rattle.leaf_rules.specs.Leaf.{leaf_count, code_of};
 ghost use Rattle.prefix_rules.specs.Coverage as coverage;
@@ -52,44 +53,34 @@ fn leaf_allowed(degree: Degree, leaves: &[u8], all: usize, leaf: usize) -> bool
 }
 
 // Rule 9: the words lie one after the other.
-fn places(degree: Degree, leaves: &[u8], words: &[u8]) -> Refusal
-    ensures { result ≡ place_check (of_degree degree leaves.now) words.now }
+fn places(degree: Degree, leaves: &[u8], words: &[u8]) -> Result<(), Refusal>
+    ensures { result ≡ passed (place_check (of_degree degree leaves.now) words.now) }
 {
     let count = leaves::leaf_count(degree, leaves);
-    let mut leaf = 0;
-    while leaf < count {
+    for leaf in 0..count {
         if !leaf_allowed(degree, leaves, words.len(), leaf) {
-            return Refusal {
+            return Err(Refusal {
                 number: 9,
                 place: leaf,
-            };
+            });
         }
-        leaf += 1;
     }
-    Refusal {
-        number: 0,
-        place: 0,
-    }
+    Ok(())
 }
 
 // Rule 10: every word byte is an input index.
-fn indexes(words: &[u8], inputs: usize) -> Refusal
-    ensures { result ≡ word_index_check words.now inputs }
+fn indexes(words: &[u8], inputs: usize) -> Result<(), Refusal>
+    ensures { result ≡ passed (word_index_check words.now inputs) }
 {
-    let mut i = 0;
-    while i < words.len() {
-        if inputs <= octets::wide(words[i]) {
-            return Refusal {
+    for (i, digit) in words.iter().enumerate() {
+        if inputs <= octets::wide(*digit) {
+            return Err(Refusal {
                 number: 10,
                 place: i,
-            };
+            });
         }
-        i += 1;
     }
-    Refusal {
-        number: 0,
-        place: 0,
-    }
+    Ok(())
 }
 
 // Rule 11 at a leaf and the next one: the later word is above, and neither begins the other.
@@ -99,32 +90,28 @@ fn precedes(degree: Degree, leaves: &[u8], words: &[u8], leaf: usize) -> bool
 {
     let a = leaves::word_start(degree, leaves, leaf);
     let b = leaves::word_start(degree, leaves, leaf + 1);
-    let n = octets::least(
-        leaves::word_length(degree, leaves, leaf),
-        leaves::word_length(degree, leaves, leaf + 1),
-    );
+    let n = leaves::word_length(degree, leaves, leaf).min(leaves::word_length(
+        degree,
+        leaves,
+        leaf + 1,
+    ));
     look_up::lower(words, a, words, b, n)
 }
 
 // Rule 11: the words rise, and none begins another.
-fn order(degree: Degree, leaves: &[u8], words: &[u8]) -> Refusal
-    ensures { result ≡ order_check (of_degree degree leaves.now) words.now }
+fn order(degree: Degree, leaves: &[u8], words: &[u8]) -> Result<(), Refusal>
+    ensures { result ≡ passed (order_check (of_degree degree leaves.now) words.now) }
 {
     let count = leaves::leaf_count(degree, leaves);
-    let mut leaf = 0;
-    while leaf + 1 < count {
-        if !precedes(degree, leaves, words, leaf) {
-            return Refusal {
+    for leaf in 1..count {
+        if !precedes(degree, leaves, words, leaf - 1) {
+            return Err(Refusal {
                 number: 11,
-                place: leaf + 1,
-            };
+                place: leaf,
+            });
         }
-        leaf += 1;
     }
-    Refusal {
-        number: 0,
-        place: 0,
-    }
+    Ok(())
 }
 
 // Of the leaves from low up to high, the first whose digit at a place isn't this one.
@@ -140,16 +127,14 @@ fn run_end(
     requires { (place ≤ 8) × (low ≤ high) × (high ≤ leaf_count (of_degree degree leaves.now)) }
     ensures { result ≡ coverage.run_end (code_of (of_degree degree leaves.now) words.now) place digit low high }
 {
-    let mut leaf = low;
-    while leaf < high {
+    for leaf in low..high {
         if octets::wide(octets::byte_at(words, leaves::word_start(degree, leaves, leaf) + place))
             != digit
         {
             return leaf;
         }
-        leaf += 1;
     }
-    leaf
+    high
 }
 
 // Rule 12 among the leaves from low up to high, which share their first digits: strings without a leaf are looked for one digit
@@ -177,78 +162,58 @@ fn covered(
         return false;
     }
     let mut from = low;
-    let mut digit = 0;
-    while digit < inputs {
+    for digit in 0..inputs {
         let end = run_end(degree, leaves, words, place, digit, from, high);
         if !covered(degree, leaves, words, inputs, left - 1, from, end) {
             return false;
         }
         from = end;
-        digit += 1;
     }
     true
 }
 
 // Rule 12: every string of eight begins with a leaf.
-fn cover(degree: Degree, leaves: &[u8], words: &[u8], inputs: usize) -> Refusal
-    ensures { result ≡ cover_check (of_degree degree leaves.now) words.now inputs }
+fn cover(degree: Degree, leaves: &[u8], words: &[u8], inputs: usize) -> Result<(), Refusal>
+    ensures { result ≡ passed (cover_check (of_degree degree leaves.now) words.now inputs) }
 {
-    if covered(
-        degree,
-        leaves,
-        words,
-        inputs,
-        LONGEST,
-        0,
-        leaves::leaf_count(degree, leaves),
-    ) {
-        return Refusal {
-            number: 0,
+    let high = leaves::leaf_count(degree, leaves);
+    if covered(degree, leaves, words, inputs, LONGEST, 0, high) {
+        Ok(())
+    } else {
+        Err(Refusal {
+            number: 12,
             place: 0,
-        };
-    }
-    Refusal {
-        number: 12,
-        place: 0,
+        })
     }
 }
 
 // Rule 13: leaf 0 has the weight zero.
-pub fn zero_weight(degree: Degree, leaves: &[u8]) -> Refusal
+pub fn zero_weight(degree: Degree, leaves: &[u8]) -> Result<(), Refusal>
     requires { 0 < leaf_count (of_degree degree leaves.now) }
-    ensures { result ≡ zero_check (of_degree degree leaves.now) }
+    ensures { result ≡ passed (zero_check (of_degree degree leaves.now)) }
 {
     if elements::equal(leaves::weight(degree, leaves, 0), [0, 0, 0, 0]) {
-        return Refusal {
-            number: 0,
+        Ok(())
+    } else {
+        Err(Refusal {
+            number: 13,
             place: 0,
-        };
-    }
-    Refusal {
-        number: 13,
-        place: 0,
+        })
     }
 }
 
 // Rules 9 to 13, each by a scan that names the place.
-pub fn first_broken(degree: Degree, leaves: &[u8], words: &[u8], inputs: usize) -> Refusal
-    ensures { result ≡ leaf_check (of_degree degree leaves.now) words.now inputs }
+pub fn first_broken(
+    degree: Degree,
+    leaves: &[u8],
+    words: &[u8],
+    inputs: usize,
+) -> Result<(), Refusal>
+    ensures { result ≡ passed (leaf_check (of_degree degree leaves.now) words.now inputs) }
 {
-    let nine = places(degree, leaves, words);
-    if nine.number != 0 {
-        return nine;
-    }
-    let ten = indexes(words, inputs);
-    if ten.number != 0 {
-        return ten;
-    }
-    let eleven = order(degree, leaves, words);
-    if eleven.number != 0 {
-        return eleven;
-    }
-    let twelve = cover(degree, leaves, words, inputs);
-    if twelve.number != 0 {
-        return twelve;
-    }
+    places(degree, leaves, words)?;
+    indexes(words, inputs)?;
+    order(degree, leaves, words)?;
+    cover(degree, leaves, words, inputs)?;
     zero_weight(degree, leaves)
 }

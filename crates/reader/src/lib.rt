@@ -2,13 +2,15 @@
 #![tactic(auto)]
 
 ghost use Rattle.std.specs.Prelude.{◌≡◌, ◌<◌};
+ghost use Rattle.faults.specs.Passed.{passed};
+ghost use Rattle.faults.specs.Answer.{outcome_of};
 ghost use Rattle.layout_rules.specs.Directory.{directory_check};
 ghost use Rattle.layout_rules.specs.Section.{bytes_of};
 ghost use Rattle.reader_rules.specs.TableFacts.{part_facts, table_facts};
-ghost use Rattle.reader_rules.specs.Check.{layout_check, digit_check_of, leaf_check_of, table_check, read_as, read_outcome};
+ghost use Rattle.reader_rules.specs.Check.{layout_check, digit_check_of, leaf_check_of, table_check, read_outcome};
 
 use faults::{Fault, Refusal};
-use reader_rules::{Part, Reading, Table};
+use reader_rules::{Part, Table};
 
 // A section as that part of the file.
 pub fn section(file: &[u8], number: usize) -> &[u8]
@@ -21,33 +23,27 @@ pub fn section(file: &[u8], number: usize) -> &[u8]
 }
 
 // Rules 1 to 4.
-fn layout_rules(file: &[u8]) -> Refusal
-    ensures { result ≡ layout_check file.now }
+fn layout_rules(file: &[u8]) -> Result<(), Refusal>
+    ensures { result ≡ passed (layout_check file.now) }
 {
-    let directory = directory::directory(file);
-    if directory.number != 0 {
-        return directory;
-    }
-    let lengths = directory::lengths(layout::section_lengths(file));
-    if lengths.number != 0 {
-        return lengths;
-    }
+    directory::directory(file)?;
+    directory::lengths(layout::section_lengths(file))?;
     limits::limits(file)
 }
 
 // Rules 5 to 8, each section handed on as its part of the file.
-fn digit_rules(file: &[u8]) -> Refusal
+fn digit_rules(file: &[u8]) -> Result<(), Refusal>
     requires { (layout_check file.now).number ≡ 0 }
-    ensures { result ≡ digit_check_of file.now }
+    ensures { result ≡ passed (digit_check_of file.now) }
 {
     let degree = layout::degree_in(file);
     digit_check::digits(degree, section(file, 0), section(file, 1), section(file, 2))
 }
 
 // Rules 9 to 13.
-fn leaf_rules(file: &[u8]) -> Refusal
+fn leaf_rules(file: &[u8]) -> Result<(), Refusal>
     requires { (layout_check file.now).number ≡ 0 }
-    ensures { result ≡ leaf_check_of file.now }
+    ensures { result ≡ passed (leaf_check_of file.now) }
 {
     let degree = layout::degree_in(file);
     let inputs = layout::record_count(degree, section(file, 2), 2);
@@ -55,17 +51,11 @@ fn leaf_rules(file: &[u8]) -> Refusal
 }
 
 // Rules 1 to 13.
-pub fn rules(file: &[u8]) -> Refusal
-    ensures { result ≡ table_check file.now }
+pub fn rules(file: &[u8]) -> Result<(), Refusal>
+    ensures { result ≡ passed (table_check file.now) }
 {
-    let layout = layout_rules(file);
-    if layout.number != 0 {
-        return layout;
-    }
-    let digits = digit_rules(file);
-    if digits.number != 0 {
-        return digits;
-    }
+    layout_rules(file)?;
+    digit_rules(file)?;
     leaf_rules(file)
 }
 
@@ -103,15 +93,11 @@ fn table_facts(file: &[u8]) -> Table
 }
 
 // The table's facts, or the author's fault.
-pub fn read(file: &[u8]) -> Reading
-    ensures { read_as result ≡ read_outcome file.now }
+pub fn read(file: &[u8]) -> Result<Table, Fault>
+    ensures { outcome_of result ≡ read_outcome file.now }
 {
-    let found = rules(file);
-    if found.number != 0 {
-        return Reading::Refused(Fault::Author {
-            number: found.number,
-            place: found.place,
-        });
+    if let Err(found) = rules(file) {
+        return Err(found.by_author());
     }
-    Reading::Facts(table_facts(file))
+    Ok(table_facts(file))
 }

@@ -7,12 +7,17 @@ use native.Mathlib.Decide.{ℕ_discrete}
 use Rattle.faults.specs.Outcome.{Group, Outcome, facts, refused, author}
 use Rattle.faults.specs.Unless.{unless}
 use Rattle.faults.proofs.Unless.{unless_found, unless_none}
+use Rattle.std.proofs.Common.{Result}
+use Rattle.std.specs.Result.{IsErrAnd}
+use Rattle.faults.specs.declared.Fault.{Fault}
+use Rattle.faults.specs.Stated.{refused_by}
+use Rattle.faults.specs.Answer.{outcome_by}
+use Rattle.faults.proofs.Answer.{exit_states}
 use Rattle.digit_rules.specs.Record.{element_count}
 use Rattle.reader_rules.specs.declared.Table.{Table}
-use Rattle.reader_rules.specs.declared.Reading.{Reading}
 use Rattle.reader_rules.specs.Table.{alphabet_part}
 use Rattle.reader_rules.specs.TableFacts.{table_facts, part_facts}
-use Rattle.reader_rules.specs.Check.{table_check, read_as, read_outcome}
+use Rattle.reader_rules.specs.Check.{table_check, read_outcome}
 
 no_fault : (t : Table) (g : Group) (n p : ℕ) → facts t ≡ refused g n p → ⊥
 no_fault t g n p e = let z : ◌≡◌ {A = ℕ} 0 1 = cc in omega arith
@@ -35,11 +40,10 @@ pub record Told (file : List ℕ) (t : Table) : Type 0 where
   pub size : t.alphabet.count ≡ element_count (alphabet_part file)
   pub depth : t.depth ≡ (table_facts file).depth
 
--- an answer that is found to be facts tells this
-pub found_facts : (file : List ℕ) (answer : Reading) (t : Table) → answer ≡ Reading.Facts t → read_as answer ≡ read_outcome file → Told file t
+pub found_facts : (file : List ℕ) (t : Table) → facts t ≡ read_outcome file → Told file t
 unfolding table_facts part_facts
-found_facts file answer t is e =
-    let known = read_facts file t (sym (ap read_as is) ∙ e) in
+found_facts file t e =
+    let known = read_facts file t e in
     record { passes = known.0; size = ap (λ (s : Table). s.alphabet.count) known.1; depth = ap (λ (s : Table). s.depth) known.1 }
 
 -- a fault: the call that passes it on refuses as its own definition does
@@ -57,3 +61,7 @@ read_fault F file g n p rest e =
         let b : n ≡ (table_check file).number = cc in
         let c : p ≡ (table_check file).place = cc in
         λ i. refused (a i) (b i) (c i)
+
+-- the same of a call that ends with the reader's fault
+pub read_exit : {A F : Type 0} (told : A → F) (file : List ℕ) (rest : Outcome F) (r : Result A Fault) (e : Fault) → IsErrAnd r (λ x. x ≡ e) → refused_by e ≡ read_outcome file → outcome_by told r ≡ unless author (table_check file) rest
+read_exit {F = F} told file rest r e ends stated = exit_states told r e ends ∙ read_fault F file _ _ _ rest stated

@@ -4,7 +4,7 @@ use mathlib.Core.List.{List}
 use Prim.Native.Nat.{ℕ, ◌+◌, ◌-◌, ◌<◌}
 use native.Mathlib.Nat.{le_antisymm, div-one}
 use native.Mathlib.Omega.{arith}
-use lib.ListN.{length, take, drop, length-take, length-drop}
+use lib.ListN.{length, drop, length-take, length-drop}
 use Rattle.faults.specs.Outcome.{facts}
 use Rattle.ring.specs.Degree.{part_count}
 use Rattle.layout_rules.specs.Section.{record_count, degree_in, bytes_of, part_of}

@@ -3,7 +3,6 @@ use Rattle.std.specs.Prelude.{List, ℕ}
 use Rattle.faults.specs.declared.Refusal.{Refusal}
 use Rattle.faults.specs.Check.{◌then◌}
 use Rattle.faults.specs.Outcome.{Outcome, facts, author}
-use Rattle.faults.specs.Stated.{refused_by}
 use Rattle.faults.specs.Unless.{unless}
 use Rattle.layout_rules.specs.Directory.{directory_check}
 use Rattle.layout_rules.specs.Length.{length_check}
@@ -13,8 +12,6 @@ use Rattle.digit_rules.specs.Record.{element_count}
 use Rattle.digit_rules.specs.Digits.{digit_check}
 use Rattle.prefix_rules.specs.Check.{leaf_check}
 use Rattle.reader_rules.specs.declared.Table.{Table}
-use Rattle.reader_rules.specs.declared.Reading.{Reading}
-use Rattle.reader_rules.specs.declared.Reading.TheVariants.{Facts, Refused}
 use Rattle.reader_rules.specs.Table.{base_part, alphabet_part, input_part, leaf_part, word_part}
 use Rattle.reader_rules.specs.TableFacts.{table_facts}
 
@@ -31,10 +28,6 @@ leaf_check_of file = leaf_check (leaf_part file) (word_part file) (element_count
 unfoldable pub table_check : List ℕ → Refusal
 table_check file = layout_check file then digit_check_of file then leaf_check_of file
 
--- the reader's answer, and what it is for every list of bytes
-abbrev pub read_as : Reading → Outcome Table
-read_as (Facts table) = facts table
-read_as (Refused fault) = refused_by fault
-
+-- what the reader's answer states for every list of bytes
 unfoldable pub read_outcome : List ℕ → Outcome Table
 read_outcome file = unless author (table_check file) (facts (table_facts file))

@@ -1,8 +1,6 @@
 // No function: rules 1 to 13 of document 01 together as definitions, with demand 1 for the reader as a theorem.
 #![tactic(auto)]
 
-use faults::Fault;
-
 // Where a section lies in the file, and how many records it has.
 #[derive(Clone, Copy)]
 pub struct Part {
@@ -20,10 +18,4 @@ pub struct Table {
     pub leaves: Part,
     pub words: Part,
     pub depth: usize,
-}
-
-#[derive(Clone, Copy)]
-pub enum Reading {
-    Facts(Table),
-    Refused(Fault),
 }

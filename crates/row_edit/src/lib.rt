@@ -1,7 +1,7 @@
 // The digit edit on rows that pass 20 to 26.
 #![tactic(auto)]
 
-ghost use Rattle.std.specs.Prelude.{◌≡◌, ℕ, ◌+◌, ◌-◌, ◌≤◌, ◌<◌, length};
+ghost use Rattle.std.specs.Prelude.{◌≡◌, ℕ, ◌+◌, ◌≤◌, ◌<◌, length};
 ghost use Rattle.faults.specs.Outcome.{rows};
 ghost use Rattle.reader_rules.specs.TableFacts.{table_facts};
 ghost use Rattle.reader_rules.specs.Check.{table_check};
@@ -12,28 +12,12 @@ ghost use Rattle.adder_rules.specs.Sum.{digit_count};
 ghost use Rattle.edit_rules.specs.Count.{differing};
 ghost use Rattle.edit_rules.specs.Edit.{renew_outcome, renew_state};
 ghost use Rattle.edit_rules.specs.State.{state};
-ghost use Rattle.row_edit.specs.Answer.{outcome_of};
+ghost use Rattle.faults.specs.Answer.{outcome_of};
 
 use edit_rules::EditedFacts;
 use faults::Fault;
 use ring::Operation;
 use row_rules::Change;
-
-#[derive(Clone, Copy)]
-pub enum Edited {
-    Count(EditedFacts),
-    Refused(Fault),
-}
-
-// The lowest place that a digit at `place` depends on.
-fn part_start(place: usize, depth: usize) -> usize
-    ensures { result ≡ place - depth }
-{
-    if place < depth {
-        return 0;
-    }
-    place - depth
-}
 
 // The end of the part of a row of n digits that the digits up to place + depth depend on.
 fn part_end(place: usize, depth: usize, n: usize) -> usize
@@ -42,10 +26,7 @@ fn part_end(place: usize, depth: usize, n: usize) -> usize
     ensures within { result ≤ n }
     ensures reach { (k : ℕ) → k ≤ place + depth → k < n → k < result }
 {
-    if place + depth < n {
-        return place + depth + 1;
-    }
-    n
+    n.min(place + depth + 1)
 }
 
 // Stores the digit in the row that is named, and in no other.
@@ -54,12 +35,11 @@ fn store(change: Change, first: &mut [u8], second: &mut [u8])
     ensures first { first.new ≡ changed change 0 first.old }
     ensures second { second.new ≡ changed change 1 second.old }
 {
-    let place = change.place;
     if change.row == 0 {
-        first[place] = change.digit;
-        return;
+        first[change.place] = change.digit;
+    } else {
+        second[change.place] = change.digit;
     }
-    second[place] = change.digit;
 }
 
 // Writes digits over a part of the sum; how many of its bytes are others than before.
@@ -69,13 +49,11 @@ fn renew(part: &mut [u8], digits: &[u8]) -> usize
     ensures part { part.new ≡ digits.now }
 {
     let mut count = 0;
-    let mut k = 0;
-    while k < part.len() {
+    for k in 0..part.len() {
         if part[k] != digits[k] {
             count += 1;
         }
         part[k] = digits[k];
-        k += 1;
     }
     count
 }
@@ -88,7 +66,7 @@ pub fn edit_rows(
     sum: &mut [u8],
     depth: usize,
     change: Change,
-) -> Edited
+) -> Result<EditedFacts, Fault>
     requires table { (table_check table.now).number ≡ 0 }
     requires rows { RowsFit first.old second.old (length sum.old) (digit_count table.now) (table_facts table.now).depth }
     requires edit { EditFits change.row change.place change.digit (length first.old) (digit_count table.now) }
@@ -99,20 +77,20 @@ pub fn edit_rows(
         ≡ renew_state table.now change (state first.old second.old sum.old) }
 {
     let place = change.place;
-    let from = part_start(place, depth);
+    let from = place.saturating_sub(depth);
     let end = part_end(place, depth, first.len());
     let row = adder::inputs_of(Operation::Plus, table, change, first, second, from, end);
     let mut digits = [0u8; 9];
     let found = adder::digits_of(table, &row, place, depth + 1, &mut digits);
     if found.count <= depth {
-        return Edited::Refused(Fault::Author {
+        return Err(Fault::Author {
             number: 27,
             place: place + found.count,
         });
     }
     store(change, first, second);
     let count = renew(&mut sum[place..place + depth + 1], &digits[..depth + 1]);
-    Edited::Count(EditedFacts {
+    Ok(EditedFacts {
         count,
         reach: found.reach,
     })

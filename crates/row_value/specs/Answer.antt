@@ -2,10 +2,11 @@
 use Rattle.std.specs.Prelude.{List, ℤ}
 use Rattle.midpoint.specs.Midpoint.{parts}
 use Rattle.faults.specs.Outcome.{Outcome, facts, refused, rows}
-use Rattle.row_value.specs.declared.Worth.{Worth}
-use Rattle.row_value.specs.declared.Worth.TheVariants.{Whole, Over}
+use Rattle.std.specs.Prelude.{Result, Ok, Err}
+use Rattle.midpoint.specs.declared.Element.{Element}
+use Rattle.row_value.specs.declared.Over.{Over}
 
 -- the outcome that an answer states
-abbrev pub outcome_of : Worth → Outcome (List ℤ)
-outcome_of (Whole e) = facts (parts e)
-outcome_of (Over p) = refused rows 28 p
+abbrev pub outcome_of : Result Element Over → Outcome (List ℤ)
+outcome_of (Ok e) = facts (parts e)
+outcome_of (Err over) = refused rows 28 over.place

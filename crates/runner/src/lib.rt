@@ -8,54 +8,28 @@ ghost use Rattle.edit_rules.specs.State.{state};
 ghost use Rattle.adder_rules.specs.Calls.{add_sum};
 ghost use Rattle.runner_rules.specs.Told.{groups_of, numbers_of, values_of};
 ghost use Rattle.runner_rules.specs.Run.{asked_edits, run_outcome, run_all};
-ghost use Rattle.runner.specs.Answer.{outcome_of};
+ghost use Rattle.faults.specs.Answer.{outcome_of};
 
-use adder::Added;
 use faults::Fault;
 use runner_rules::RanFacts;
-use table::Checked;
-
-#[derive(Clone, Copy)]
-pub enum Ran {
-    Edits(RanFacts),
-    Refused(Fault),
-}
-
-fn shortest_of(a: usize, b: usize, c: usize) -> usize
-    ensures { result ≡ min a (min b c) }
-{
-    octets::least(a, octets::least(b, c))
-}
 
 // The check, then the addition: a fault and nothing written, or the sum written and the number of edits that are to be called.
-fn start(table: &[u8], first: &[u8], second: &[u8], sum: &mut [u8], edits: usize) -> Ran
+fn start(
+    table: &[u8],
+    first: &[u8],
+    second: &[u8],
+    sum: &mut [u8],
+    edits: usize,
+) -> Result<RanFacts, Fault>
     ensures outcome { outcome_of result
         ≡ run_outcome table.now (state first.now second.now sum.old) edits }
     ensures sum { sum.new
         ≡ at_exit (outcome_of result) sum.old
         (add_sum table.now first.now second.now sum.old) }
 {
-    let checked = table::check(table);
-    let Checked::Accepted(_) = checked else {
-        let Checked::Refused(fault) = checked else {
-            return Ran::Refused(Fault::Author {
-                number: 0,
-                place: 0,
-            });
-        };
-        return Ran::Refused(fault);
-    };
-    let added = adder::add(table, first, second, sum);
-    let Added::Sum(_) = added else {
-        let Added::Refused(fault) = added else {
-            return Ran::Refused(Fault::Author {
-                number: 0,
-                place: 0,
-            });
-        };
-        return Ran::Refused(fault);
-    };
-    Ran::Edits(RanFacts { edits })
+    table::check(table)?;
+    adder::add(table, first, second, sum)?;
+    Ok(RanFacts { edits })
 }
 
 // The check, the addition, and the edits that the three slices of numbers list, as many as the shortest of the six slices: each
@@ -71,7 +45,7 @@ pub fn run(
     whose: &mut [usize],
     numbers: &mut [usize],
     values: &mut [usize],
-) -> Ran
+) -> Result<RanFacts, Fault>
     ensures outcome { let s = state first.old second.old sum.old in
         let es = asked_edits rows.now places.now digits.now
         whose.old numbers.old values.old in
@@ -87,14 +61,12 @@ pub fn run(
         × (numbers.new ≡ overwrite numbers.old 0 (numbers_of (run_all table.now s es).answers))
         × (values.new ≡ overwrite values.old 0 (values_of (run_all table.now s es).answers)) }
 {
-    let listed = shortest_of(rows.len(), places.len(), digits.len());
-    let answered = shortest_of(whose.len(), numbers.len(), values.len());
-    let count = octets::least(listed, answered);
-    let answer = start(table, first, second, sum, count);
-    if let Ran::Edits(_) = answer {
-        edit_list::edit_each(
-            table, first, second, sum, rows, places, digits, whose, numbers, values, count,
-        );
-    }
-    answer
+    let listed = rows.len().min(places.len().min(digits.len()));
+    let answered = whose.len().min(numbers.len().min(values.len()));
+    let count = listed.min(answered);
+    let ran = start(table, first, second, sum, count)?;
+    edit_list::edit_each(
+        table, first, second, sum, rows, places, digits, whose, numbers, values, count,
+    );
+    Ok(ran)
 }

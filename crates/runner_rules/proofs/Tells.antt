@@ -4,7 +4,7 @@ use mathlib.Core.List.{List}
 use Prim.Native.Nat.{ℕ}
 use native.Mathlib.Omega.{arith}
 use lib.ListN.{get_or, get_or-map}
-use Rattle.faults.specs.Outcome.{Outcome, facts, refused, author, rows, editor}
+use Rattle.faults.specs.Outcome.{Outcome, facts, refused}
 use Rattle.edit_rules.specs.declared.EditedFacts.{EditedFacts}
 use Rattle.edit_rules.specs.Follows.{no_facts}
 use Rattle.runner_rules.specs.declared.Told.{Told}

@@ -8,7 +8,7 @@ use native.Mathlib.Nat.{le_antisymm}
 use lib.IntN.{ℤ}
 use lib.ListN.{get_or}
 use lib.Bits.{bit_or}
-use Rattle.radix.specs.Number.{number, aligned, Digits}
+use Rattle.radix.specs.Number.{number, Digits}
 use Rattle.radix.proofs.Order.{aligned_agree, aligned_eight, aligned_zeros, begins_number, neither_lower, unit_some}
 use Rattle.layout_rules.specs.Section.{Section}
 use Rattle.numeration.specs.Code.{Code}

@@ -29,13 +29,10 @@ fn keys_of(degree: Degree, leaves: &[u8], words: &[u8], keys: &mut [u64])
     requires ordered { WordsOrdered (of_degree degree leaves.now) words.now }
     ensures { Keyed (of_degree degree leaves.now) words.now keys.new (leaf_count (of_degree degree leaves.now)) }
 {
-    let count = leaves::leaf_count(degree, leaves);
-    let mut leaf = 0;
-    while leaf < count {
+    for leaf in 0..leaves::leaf_count(degree, leaves) {
         let start = leaves::word_start(degree, leaves, leaf);
         let length = leaves::word_length(degree, leaves, leaf);
         keys[leaf] = word_numbers::word_number(words, start, length);
-        leaf += 1;
     }
 }
 
@@ -55,8 +52,7 @@ pub fn keys_of_by(degree: Degree, leaves: &[u8], words: &[u8], keys: &mut [u64])
 {
     match degree {
         Degree::Two => keys_of_at_two(leaves, words, keys),
-        Degree::Three => keys_of(degree, leaves, words, keys),
-        Degree::Four => keys_of(degree, leaves, words, keys),
+        Degree::Three | Degree::Four => keys_of(degree, leaves, words, keys),
     }
 }
 
@@ -65,10 +61,10 @@ pub fn behind(length: usize) -> u64
     requires { (1 ≤ length) × (length ≤ 8) }
     ensures { result + 1 ≡ 256 ^ (8 - pred length) }
 {
-    18446744073709551615 >> (8 * (length - 1))
+    u64::MAX >> (8 * (length - 1))
 }
 
-// The first place whose number is above a bound, by halves.
+// The first place whose number is above a bound, by halves: `partition_point`, which says nothing of numbers that aren't known to be sorted.
 fn by_halves(keys: &[u64], from: usize, end: usize, bound: u64) -> usize
     requires { (from ≤ end) × (end ≤ length keys.now) }
     ensures { FirstAbove keys.now bound from end result }
@@ -110,16 +106,11 @@ pub fn low_leaf(keys: &[u64], count: usize, guess: usize, tail: u64) -> usize
     ensures within { result < count }
     ensures low { 0 < result → get_or keys.now result 0 ≤ tail }
 {
-    if guess < count {
-        if keys[guess] <= tail {
-            return guess;
-        }
+    if guess < count && keys[guess] <= tail {
+        return guess;
     }
-    if 0 < guess {
-        let before = guess - 1;
-        if keys[before] <= tail {
-            return before;
-        }
+    if 0 < guess && keys[guess - 1] <= tail {
+        return guess - 1;
     }
     0
 }
@@ -130,10 +121,7 @@ pub fn next_above(keys: &[u64], count: usize, leaf: usize, number: u64) -> bool
     ensures { result ≡ true → (leaf + 1 < count) × (number < get_or keys.now (leaf + 1) 0) }
 {
     let next = leaf + 1;
-    if count <= next {
-        return false;
-    }
-    number < keys[next]
+    next < count && number < keys[next]
 }
 
 // From a leaf on whose word is at most a tail with zeros behind it, or from leaf 0, the last such leaf. Most of the time the next leaf's is
@@ -143,10 +131,8 @@ pub fn last_from(keys: &[u64], count: usize, low: usize, tail: u64) -> usize
     ensures { LastLow keys.now tail count result }
 {
     let next = low + 1;
-    if next < count {
-        if keys[next] <= tail {
-            return first_above(keys, next, count, tail) - 1;
-        }
+    if next < count && keys[next] <= tail {
+        return first_above(keys, next, count, tail) - 1;
     }
     low
 }
@@ -173,10 +159,8 @@ fn run_of(degree: Degree, leaves: &[u8], keys: &[u64], upper: usize, guess: usiz
     let low = low_leaf(keys, count, guess, tail);
     let start = last_from(keys, count, low, tail);
     let end = first_above(keys, start, count, tail | behind(length));
-    Run {
-        fitting: end - start,
-        end,
-    }
+    let fitting = end - start;
+    Run { fitting, end }
 }
 
 // The number of fitting pairs, with room lent for the words as numbers.
@@ -189,32 +173,21 @@ fn count_in(degree: Degree, leaves: &[u8], words: &[u8], keys: &mut [u64]) -> us
     let count = leaves::leaf_count(degree, leaves);
     let mut pairs = 0;
     let mut guess = 0;
-    let mut upper = 0;
-    while upper < count {
+    for upper in 0..count {
         let run = run_of(degree, leaves, keys, upper, guess);
         pairs += run.fitting;
         guess = run.end;
-        upper += 1;
     }
     pairs
 }
 
-// The same for few leaves and for many, since cleared room costs time.
-fn count_few(degree: Degree, leaves: &[u8], words: &[u8]) -> usize
+// The same with room for so many leaves, since cleared room costs time.
+fn count_with_room<const ROOM: usize>(degree: Degree, leaves: &[u8], words: &[u8]) -> usize
     requires formed { LeavesPass (of_degree degree leaves.now) words.now }
-    requires few { leaf_count (of_degree degree leaves.now) ≤ 64 }
+    requires room { (leaf_count (of_degree degree leaves.now) ≤ ROOM) × (ROOM ≤ 4096) }
     ensures { result ≡ pair_count (code_of (of_degree degree leaves.now) words.now) }
 {
-    let mut keys = [0; FEW];
-    count_in(degree, leaves, words, &mut keys)
-}
-
-fn count_many(degree: Degree, leaves: &[u8], words: &[u8]) -> usize
-    requires formed { LeavesPass (of_degree degree leaves.now) words.now }
-    requires many { leaf_count (of_degree degree leaves.now) ≤ 4096 }
-    ensures { result ≡ pair_count (code_of (of_degree degree leaves.now) words.now) }
-{
-    let mut keys = [0; LEAVES];
+    let mut keys = [0; ROOM];
     count_in(degree, leaves, words, &mut keys)
 }
 
@@ -225,7 +198,8 @@ pub fn pair_count(degree: Degree, leaves: &[u8], words: &[u8]) -> usize
     ensures { result ≡ pair_count (code_of (of_degree degree leaves.now) words.now) }
 {
     if leaves::leaf_count(degree, leaves) <= FEW {
-        return count_few(degree, leaves, words);
+        count_with_room::<FEW>(degree, leaves, words)
+    } else {
+        count_with_room::<LEAVES>(degree, leaves, words)
     }
-    count_many(degree, leaves, words)
 }

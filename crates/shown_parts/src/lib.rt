@@ -13,10 +13,10 @@ pub fn write(rt: &impl Print, bytes: &[u8]) -> io::Result<()> {
 
 // What a buffer holds up to a place.
 pub fn written(rt: &impl Print, out: &[u8], end: usize) -> io::Result<()> {
-    if end <= out.len() {
-        write(rt, &out[..end])?;
+    match out.get(..end) {
+        Some(text) => write(rt, text),
+        None => Ok(()),
     }
-    Ok(())
 }
 
 // The line of `check`.
@@ -50,13 +50,10 @@ pub fn base(rt: &impl Print, degree: Degree, part: &[u8]) -> io::Result<()> {
 // A name and the digits of a section of elements, on one line.
 pub fn digits(rt: &impl Print, degree: Degree, name: &[u8], part: &[u8]) -> io::Result<()> {
     write(rt, name)?;
-    let count = layout::record_count(degree, part, INPUTS);
-    let mut k = 0;
-    while k < count {
+    for k in 0..layout::record_count(degree, part, INPUTS) {
         let mut out = [0u8; 32];
         let end = listing::item(degree, part, k, &mut out);
         written(rt, &out, end)?;
-        k += 1;
     }
     write(rt, b"\n")
 }

@@ -1,30 +1,20 @@
 // The check of a table.
 #![tactic(auto)]
 
-ghost use Rattle.std.specs.Prelude.{◌≡◌, ◌≤◌};
-ghost use Rattle.leaf_rules.specs.Leaf.{leaf_count};
-ghost use Rattle.numeration.specs.PairCount.{pair_count};
-ghost use Rattle.reader_rules.specs.Table.{leaf_part, leaves_in};
+ghost use Rattle.std.specs.Prelude.{◌≡◌};
+ghost use Rattle.reader_rules.specs.Table.{base_part, alphabet_part, input_part, leaf_part, word_part};
 ghost use Rattle.reader_rules.specs.Check.{table_check};
-ghost use Rattle.table_rules.specs.Check.{bad_pair_of, check_outcome};
-ghost use Rattle.table.specs.Answer.{outcome_of};
+ghost use Rattle.pairs.specs.Answer.{Searched};
+ghost use Rattle.table_rules.specs.Check.{check_outcome};
+ghost use Rattle.faults.specs.Answer.{outcome_of};
 
 use faults::Fault;
-use pairs::Scan;
-use reader_rules::Reading;
-use table_rules::Facts;
+use table_rules::{Facts, Pair};
 
-#[derive(Clone, Copy)]
-pub enum Checked {
-    Accepted(Facts),
-    Refused(Fault),
-}
-
-// The search of rule 14 in a file that passes 1 to 13: the failing pair, or the leaf count twice and the number of fitting pairs.
-pub fn search(file: &[u8]) -> Scan
+// The search of rule 14 in a file that passes 1 to 13: the number of fitting pairs, or the failing pair.
+pub fn search(file: &[u8]) -> Result<usize, Pair>
     requires { (table_check file.now).number ≡ 0 }
-    ensures pairs { leaf_count (leaf_part file.now) ≤ result.pair.upper → result.pairs ≡ pair_count (leaves_in file.now) }
-    ensures pair { result.pair ≡ bad_pair_of file.now }
+    ensures { Searched (base_part file.now) (alphabet_part file.now) (input_part file.now) (leaf_part file.now) (word_part file.now) result }
 {
     let degree = layout::degree_in(file);
     pairs::search(
@@ -38,29 +28,20 @@ pub fn search(file: &[u8]) -> Scan
 }
 
 // The check of a table file: accepted with its facts, or the author's fault.
-pub fn check(file: &[u8]) -> Checked
+pub fn check(file: &[u8]) -> Result<Facts, Fault>
     ensures { outcome_of result ≡ check_outcome file.now }
 {
-    let answer = reader::read(file);
-    match answer {
-        Reading::Refused(fault) => Checked::Refused(fault),
-        Reading::Facts(table) => {
-            let found = search(file);
-            let pair = found.pair;
-            let leaves = table.leaves;
-            if pair.upper < leaves.count {
-                return Checked::Refused(Fault::Author {
-                    number: 14,
-                    place: pair.upper,
-                });
-            }
-            let alphabet = table.alphabet;
-            Checked::Accepted(Facts {
-                depth: table.depth,
-                leaves: leaves.count,
-                digits: alphabet.count,
-                pairs: found.pairs,
-            })
-        }
+    let table = reader::read(file)?;
+    match search(file) {
+        Ok(pairs) => Ok(Facts {
+            depth: table.depth,
+            leaves: table.leaves.count,
+            digits: table.alphabet.count,
+            pairs,
+        }),
+        Err(pair) => Err(Fault::Author {
+            number: 14,
+            place: pair.upper,
+        }),
     }
 }

@@ -9,7 +9,6 @@ use native.Mathlib.Nat.{le_antisymm}
 use lib.Dec.{ltb}
 use borrow.Author.Tests.{lt-ltb, le-ltb}
 use Rattle.layout_rules.specs.Section.{Section}
-use Rattle.lists.specs.Scan.{every}
 use Rattle.lists.proofs.Scan.{scan_all, scan_unique, scan_high, every_below, every_reached}
 use Rattle.digit_rules.specs.Record.{record_at}
 use Rattle.numeration.specs.PairTests.{upper_passes}

@@ -11,7 +11,7 @@ use borrow.Author.Tests.{ltb-true, lt-ltb}
 use Rattle.layout_rules.specs.Section.{Section}
 use Rattle.lists.proofs.Scan.{every_sound, every_fails}
 use Rattle.lists.proofs.Test.{clash}
-use Rattle.faults.specs.Check.{judge, ◌then◌}
+use Rattle.faults.specs.Check.{◌then◌}
 use Rattle.faults.specs.Rule.{rule}
 use Rattle.faults.specs.Outcome.{Group, facts, refused, author}
 use Rattle.faults.specs.Unless.{unless}

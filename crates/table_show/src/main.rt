@@ -49,16 +49,13 @@ fn leaves(
     words: &[u8],
 ) -> io::Result<()> {
     shown_parts::write(rt, b"leaves:\n")?;
-    let count = leaves::leaf_count(degree, leaves);
     let columns = Columns {
         count: listing::columns(degree, leaves, words),
         digits: listing::width(degree, inputs, INPUTS),
         weights: listing::width(degree, leaves, LEAVES),
     };
-    let mut k = 0;
-    while k < count {
+    for k in 0..leaves::leaf_count(degree, leaves) {
         leaf(rt, degree, inputs, leaves, words, k, columns)?;
-        k += 1;
     }
     Ok(())
 }
@@ -83,10 +80,10 @@ fn sections(rt: &impl Print, file: &[u8]) -> io::Result<()>
 
 fn show(rt: &impl Print, file: &[u8]) -> io::Result<()> {
     shown_parts::verdict(rt, file)?;
-    if directory::directory(file).number != 0 {
-        return Ok(());
+    match directory::directory(file) {
+        Ok(()) => sections(rt, file),
+        Err(_) => Ok(()),
     }
-    sections(rt, file)
 }
 
 fn main(rt: HostRuntime) -> io::Result<()> {

@@ -8,7 +8,7 @@ ghost use Rattle.layout_rules.specs.Section.{of_degree};
 ghost use Rattle.digit_rules.specs.Record.{element_count};
 ghost use Rattle.ring.specs.Tests.{Within};
 
-use bad_row_rules::{BadRow, Shown};
+use bad_row_rules::BadRow;
 use faults::Fault;
 use midpoint::Element;
 use ring::{Degree, Operation};
@@ -113,10 +113,7 @@ fn element(rt: &impl Print, name: &[u8], k: usize, x: [i64; 4]) -> io::Result<()
 
 // Rule 4.
 fn number(rt: &impl Print, file: &[u8], place: usize) -> io::Result<()> {
-    if file.len() < 2 {
-        return Ok(());
-    }
-    if file.len() - 2 < place {
+    if file.len() < 2 || file.len() - 2 < place {
         return Ok(());
     }
     element(
@@ -132,9 +129,10 @@ fn digit_at(degree: Degree, part: &[u8], k: usize) -> [i64; 4]
     ensures { Within 32768 result }
 {
     if k < layout::record_count(degree, part, INPUTS) {
-        return digits::record_at(degree, part, k);
+        digits::record_at(degree, part, k)
+    } else {
+        [0, 0, 0, 0]
     }
-    [0, 0, 0, 0]
 }
 
 // Rule 7, and rule 8 where a record breaks it.
@@ -149,28 +147,20 @@ fn record(
     shown_parts::digits(rt, degree, name, part)
 }
 
-// The first of the alphabet digits before `end` whose sum with digit i is no input digit, or `end`.
-fn partner(degree: Degree, alphabet: &[u8], inputs: &[u8], i: usize, end: usize) -> usize
-    requires { (i < element_count (of_degree degree alphabet.now)) × (end ≤ element_count (of_degree degree alphabet.now)) }
+// The first of the alphabet digits up to digit i whose sum with it is no input digit.
+fn partner(degree: Degree, alphabet: &[u8], inputs: &[u8], i: usize) -> Option<usize>
+    requires { i < element_count (of_degree degree alphabet.now) }
 {
     let count = layout::record_count(degree, inputs, INPUTS);
-    let mut j = 0;
-    while j < end {
-        if digits::pair_index(degree, Operation::Plus, alphabet, inputs, i, j) >= count {
-            return j;
-        }
-        j += 1;
-    }
-    j
+    (0..=i).find(|&j| {
+        digits::pair_index(degree, Operation::Plus, alphabet, inputs, i, j) >= count
+    })
 }
 
 // Rule 8 where a sum is missing: the two digits.
 fn sum_missing(rt: &impl Print, degree: Degree, alphabet: &[u8], inputs: &[u8]) -> io::Result<()> {
-    let count = layout::record_count(degree, alphabet, ALPHABET);
-    let mut i = 0;
-    while i < count {
-        let j = partner(degree, alphabet, inputs, i, i + 1);
-        if j <= i {
+    for i in 0..layout::record_count(degree, alphabet, ALPHABET) {
+        if let Some(j) = partner(degree, alphabet, inputs, i) {
             element(rt, b"  alphabet record ", i, digit_at(degree, alphabet, i))?;
             element(rt, b"  alphabet record ", j, digit_at(degree, alphabet, j))?;
             return shown_parts::digits(
@@ -180,7 +170,6 @@ fn sum_missing(rt: &impl Print, degree: Degree, alphabet: &[u8], inputs: &[u8]) 
                 inputs,
             );
         }
-        i += 1;
     }
     Ok(())
 }
@@ -319,9 +308,9 @@ fn refused(rt: &impl Print, file: &[u8], broken: usize, place: usize) -> io::Res
         3 => section(rt, file, place),
         4 => number(rt, file, place),
         _ => {
-            if directory::directory(file).number != 0 {
+            let Ok(()) = directory::directory(file) else {
                 return Ok(());
-            }
+            };
             if broken < 9 {
                 at_digits(rt, file, broken, place)
             } else {
@@ -432,23 +421,23 @@ fn row(rt: &impl Print, file: &[u8], shown: BadRow, string: &[u8]) -> io::Result
 // What is shown of a table that rule 14 refuses; its directory is as it should be.
 fn bad(rt: &impl Print, file: &[u8], shown: BadRow, string: &[u8; 9]) -> io::Result<()> {
     rule(rt, 14)?;
-    if directory::directory(file).number != 0 {
-        return Ok(());
+    match directory::directory(file) {
+        Ok(()) => row(rt, file, shown, string),
+        Err(_) => Ok(()),
     }
-    row(rt, file, shown, string)
 }
 
 fn why(rt: &impl Print, file: &[u8]) -> io::Result<()> {
     shown_parts::verdict(rt, file)?;
     let mut string = [0u8; 9];
     match bad_row::bad_row(file, &mut string) {
-        Shown::Row(shown) => bad(rt, file, shown, &string),
-        Shown::Nothing => rule(rt, 0),
-        Shown::Refused(fault) => match fault {
-            Fault::Author { number, place } => refused(rt, file, number, place),
-            Fault::Rows { number, place } => refused(rt, file, number, place),
-            Fault::Editor { number, place } => refused(rt, file, number, place),
-        },
+        Ok(Some(shown)) => bad(rt, file, shown, &string),
+        Ok(None) => rule(rt, 0),
+        Err(
+            Fault::Author { number, place }
+            | Fault::Rows { number, place }
+            | Fault::Editor { number, place },
+        ) => refused(rt, file, number, place),
     }
 }
 

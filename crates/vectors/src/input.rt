@@ -1,80 +1,56 @@
-// Reading what follows a call.
-ghost use Rattle.std.specs.Prelude.{◌+◌, ◌<◌, ◌≤◌, length};
-ghost use Rattle.vectors.specs.Read.{value_of};
+// Reading what follows a call; an error where the input ends before all of it.
+ghost use Rattle.std.specs.Prelude.{◌≤◌, length, IfOk};
 
 use midpoint::Element;
-use std::io::Read as _;
+use ring::Degree;
+use std::io;
+use std::io::Read;
 
-// A number, or an input that ends before all of it.
-#[derive(Clone, Copy)]
-pub enum Read {
-    Got(usize),
-    Cut,
+// Fills a buffer.
+pub fn fill(rt: &impl Input, out: &mut [u8]) -> io::Result<()> {
+    rt.reader().read_exact(out)
 }
 
-// Fills a buffer; false where the input ends before or can't be read.
-pub fn filled(rt: &impl Input, out: &mut [u8]) -> bool {
-    rt.reader().read_exact(out).is_ok()
+pub fn byte(rt: &impl Input) -> io::Result<u8> {
+    let mut bytes = [0u8; 1];
+    fill(rt, &mut bytes)?;
+    Ok(bytes[0])
 }
 
-// The unsigned 32-bit number at a place.
-fn bits(bytes: &[u8], at: usize) -> usize
-    requires { at + 3 < length bytes.now }
-    ensures { result < 4294967296 }
+// A 64-bit number, little-endian.
+pub fn long(rt: &impl Input) -> io::Result<usize> {
+    let mut bytes = [0u8; 8];
+    fill(rt, &mut bytes)?;
+    Ok(usize::from_le_bytes(bytes))
+}
+
+// A buffer: its length, four bytes, then its bytes, which go to the start of `out`; the length. One that is longer than `out` counts as cut.
+pub fn buffer(rt: &impl Input, out: &mut [u8]) -> io::Result<usize>
+    ensures { IfOk result (λ n. n ≤ length out.old) }
 {
-    layout::unsigned(bytes, at) + 65536 * layout::unsigned(bytes, at + 2)
-}
-
-// The unsigned 64-bit number at a place.
-pub fn long(bytes: &[u8], at: usize) -> usize
-    requires { at + 7 < length bytes.now }
-{
-    bits(bytes, at) + 4294967296 * bits(bytes, at + 4)
-}
-
-// A length: four bytes, little-endian.
-fn count(rt: &impl Input) -> Read {
-    let mut bytes = [0u8; 4];
-    if !filled(rt, &mut bytes) {
-        return Read::Cut;
-    }
-    Read::Got(bits(&bytes, 0))
-}
-
-// A buffer: its length, then its bytes, which go to the start of `out`; the length. One that is longer than `out` counts as cut.
-pub fn buffer(rt: &impl Input, out: &mut [u8]) -> Read
-    ensures { value_of result ≤ length out.old }
-{
-    let size = count(rt);
-    let Read::Got(n) = size else {
-        return Read::Cut;
-    };
+    let mut size = [0u8; 4];
+    fill(rt, &mut size)?;
+    let n = u32::from_le_bytes(size) as usize;
     if out.len() < n {
-        return Read::Cut;
+        return Err(io::Error::from(io::ErrorKind::UnexpectedEof));
     }
-    if !filled(rt, &mut out[..n]) {
-        return Read::Cut;
-    }
-    Read::Got(n)
+    fill(rt, &mut out[..n])?;
+    Ok(n)
 }
 
-// The signed 32-bit number at a place: its bits as they are, or less 2^32.
-fn number(bytes: &[u8], at: usize) -> i32
-    requires { at + 3 < length bytes.now }
-{
-    let n = bits(bytes, at);
-    if n < 2147483648 {
-        return n as i32;
-    }
-    (n as i64 - 4294967296) as i32
+// A part of an element: a signed 32-bit number.
+fn part(rt: &impl Input) -> io::Result<i32> {
+    let mut bytes = [0u8; 4];
+    fill(rt, &mut bytes)?;
+    Ok(i32::from_le_bytes(bytes))
 }
 
-// The element of a buffer: its four parts, those above the degree being zero.
-pub fn element(bytes: &[u8; 16]) -> Element {
-    Element {
-        a: number(bytes, 0),
-        b: number(bytes, 4),
-        c: number(bytes, 8),
-        d: number(bytes, 12),
+// An element: as many parts as its degree says, those above it being zero.
+pub fn element(rt: &impl Input, degree: Degree) -> io::Result<Element> {
+    let mut parts = [0; 4];
+    for x in &mut parts[..layout::part_count(degree)] {
+        *x = part(rt)?;
     }
+    let [a, b, c, d] = parts;
+    Ok(Element { a, b, c, d })
 }

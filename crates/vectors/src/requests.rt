@@ -1,23 +1,22 @@
 // The calls that something follows: what is read, the call, its line.
 ghost use Rattle.std.specs.Prelude.{◌≤◌, length};
 
-use crate::input::Read;
 use crate::{input, output};
-use reader_rules::Reading;
 use ring::Degree;
+use std::io;
 
-// The calls on rows but for addition.
-const EDIT: u8 = 3;
-
-const SUBTRACT: u8 = 8;
+// A call that has a table, two rows and a buffer.
+#[derive(Clone, Copy)]
+pub enum OnRows {
+    Addition,
+    Subtraction,
+    Edit,
+}
 
 // 1: the file.
-pub fn check(rt: &(impl Input + Print)) -> bool {
+pub fn check(rt: &(impl Input + Print)) -> io::Result<()> {
     let mut file = [0u8; 70000];
-    let read = input::buffer(rt, &mut file);
-    let Read::Got(n) = read else {
-        return false;
-    };
+    let n = input::buffer(rt, &mut file)?;
     output::checked(rt, table::check(&file[..n]))
 }
 
@@ -28,67 +27,53 @@ fn edit_line(
     first: &mut [u8],
     second: &mut [u8],
     sum: &mut [u8],
-) -> bool
+) -> io::Result<()>
     requires { (length first.old ≤ 600) × (length second.old ≤ 600) × (length sum.old ≤ 1000) }
 {
-    let mut numbers = [0u8; 24];
-    if !input::filled(rt, &mut numbers) {
-        return false;
-    }
-    let row = input::long(&numbers, 0);
-    let place = input::long(&numbers, 8);
-    let digit = input::long(&numbers, 16);
+    let row = input::long(rt)?;
+    let place = input::long(rt)?;
+    let digit = input::long(rt)?;
     let answer = edit_call::edit(table, first, second, sum, row, place, digit);
     output::edited(rt, answer, first, second, sum)
 }
 
-// The addition, the edit or the subtraction, and its line. The caller's buffers are never longer than the line has room for; the test
-// makes it plain.
+// The addition, the subtraction or the edit, and its line. The caller's buffers are never longer than `output` writes out; the test makes it
+// plain.
 fn called(
     rt: &(impl Input + Print),
-    call: u8,
+    call: OnRows,
     table: &[u8],
     first: &mut [u8],
     second: &mut [u8],
     sum: &mut [u8],
-) -> bool {
+) -> io::Result<()> {
     if 600 < first.len() || 600 < second.len() || 1000 < sum.len() {
-        return false;
+        return Err(io::Error::from(io::ErrorKind::InvalidData));
     }
-    if call == EDIT {
-        return edit_line(rt, table, first, second, sum);
+    match call {
+        OnRows::Addition => {
+            let answer = adder::add(table, first, second, sum);
+            output::added(rt, "sum", answer, sum)
+        }
+        OnRows::Subtraction => {
+            let answer = adder::subtract(table, first, second, sum);
+            output::added(rt, "difference", answer, sum)
+        }
+        OnRows::Edit => edit_line(rt, table, first, second, sum),
     }
-    if call == SUBTRACT {
-        let answer = adder::subtract(table, first, second, sum);
-        return output::subtracted(rt, answer, sum);
-    }
-    let answer = adder::add(table, first, second, sum);
-    output::added(rt, answer, sum)
 }
 
 // 2, 3 and 8: the table, the first row, the second row, the buffer for the result; then what is the edit's alone. Whole buffers are
 // written, so a fault shows that they were left alone.
-pub fn on_rows(rt: &(impl Input + Print), call: u8) -> bool {
+pub fn on_rows(rt: &(impl Input + Print), call: OnRows) -> io::Result<()> {
     let mut table = [0u8; 70000];
     let mut first = [0u8; 600];
     let mut second = [0u8; 600];
     let mut sum = [0u8; 1000];
-    let table_read = input::buffer(rt, &mut table);
-    let Read::Got(t) = table_read else {
-        return false;
-    };
-    let first_read = input::buffer(rt, &mut first);
-    let Read::Got(f) = first_read else {
-        return false;
-    };
-    let second_read = input::buffer(rt, &mut second);
-    let Read::Got(s) = second_read else {
-        return false;
-    };
-    let sum_read = input::buffer(rt, &mut sum);
-    let Read::Got(room) = sum_read else {
-        return false;
-    };
+    let t = input::buffer(rt, &mut table)?;
+    let f = input::buffer(rt, &mut first)?;
+    let s = input::buffer(rt, &mut second)?;
+    let room = input::buffer(rt, &mut sum)?;
     called(
         rt,
         call,
@@ -99,32 +84,20 @@ pub fn on_rows(rt: &(impl Input + Print), call: u8) -> bool {
     )
 }
 
-// The value of a row and its line: the degree of the table says how many parts it has.
-fn value_line(rt: &impl Print, table: &[u8], row: &[u8]) -> bool {
-    let degree = layout::degree_in(table);
-    output::valued(rt, degree, value_call::value(table, row))
-}
-
-// 4: the table, the row.
-pub fn value(rt: &(impl Input + Print)) -> bool {
+// 4: the table, the row. The degree of the table says how many parts the value has.
+pub fn value(rt: &(impl Input + Print)) -> io::Result<()> {
     let mut table = [0u8; 70000];
     let mut row = [0u8; 600];
-    let table_read = input::buffer(rt, &mut table);
-    let Read::Got(t) = table_read else {
-        return false;
-    };
-    let row_read = input::buffer(rt, &mut row);
-    let Read::Got(r) = row_read else {
-        return false;
-    };
-    value_line(rt, &table[..t], &row[..r])
+    let t = input::buffer(rt, &mut table)?;
+    let r = input::buffer(rt, &mut row)?;
+    let degree = layout::degree_in(&table[..t]);
+    output::valued(rt, degree, value_call::value(&table[..t], &row[..r]))
 }
 
 // The look-up of a window in a table that passes 1 to 13. No other table comes with it; there the run ends.
-fn leaf_line(rt: &impl Print, table: &[u8], window: [u8; 8]) -> bool {
-    let answer = reader::read(table);
-    let Reading::Facts(_) = answer else {
-        return false;
+fn leaf_line(rt: &impl Print, table: &[u8], window: [u8; 8]) -> io::Result<()> {
+    let Ok(_) = reader::read(table) else {
+        return Err(io::Error::from(io::ErrorKind::InvalidData));
     };
     let degree = layout::degree_in(table);
     let leaves = reader::section(table, 3);
@@ -133,78 +106,41 @@ fn leaf_line(rt: &impl Print, table: &[u8], window: [u8; 8]) -> bool {
 }
 
 // 19: the table, the eight bytes of the window.
-pub fn look_up(rt: &(impl Input + Print)) -> bool {
+pub fn look_up(rt: &(impl Input + Print)) -> io::Result<()> {
     let mut table = [0u8; 70000];
-    let read = input::buffer(rt, &mut table);
-    let Read::Got(n) = read else {
-        return false;
-    };
+    let n = input::buffer(rt, &mut table)?;
     let mut window = [0u8; 8];
-    if !input::filled(rt, &mut window) {
-        return false;
-    }
+    input::fill(rt, &mut window)?;
     leaf_line(rt, &table[..n], window)
 }
 
-// What is shown of a table, and its line: the degree of the table says how many parts the digit has.
-fn bad_row_line(rt: &impl Print, table: &[u8]) -> bool {
-    let degree = layout::degree_in(table);
+// 9: the table, whose degree says how many parts the digit has.
+pub fn bad_row(rt: &(impl Input + Print)) -> io::Result<()> {
+    let mut table = [0u8; 70000];
+    let n = input::buffer(rt, &mut table)?;
+    let degree = layout::degree_in(&table[..n]);
     let mut string = [0u8; 9];
-    let answer = bad_row::bad_row(table, &mut string);
+    let answer = bad_row::bad_row(&table[..n], &mut string);
     output::shown(rt, degree, answer, &string)
 }
 
-// 9: the table.
-pub fn bad_row(rt: &(impl Input + Print)) -> bool {
-    let mut table = [0u8; 70000];
-    let read = input::buffer(rt, &mut table);
-    let Read::Got(n) = read else {
-        return false;
-    };
-    bad_row_line(rt, &table[..n])
-}
-
 // 17: the table, the number of digits.
-pub fn forecast(rt: &(impl Input + Print)) -> bool {
+pub fn forecast(rt: &(impl Input + Print)) -> io::Result<()> {
     let mut table = [0u8; 70000];
-    let read = input::buffer(rt, &mut table);
-    let Read::Got(n) = read else {
-        return false;
-    };
-    let mut digits = [0u8; 8];
-    if !input::filled(rt, &mut digits) {
-        return false;
-    }
-    let answer = forecast::forecast(&table[..n], input::long(&digits, 0));
-    output::forecasted(rt, answer)
-}
-
-// The midpoint of two elements of a degree, as many parts of each, and its line.
-fn midpoint_line(rt: &(impl Input + Print), degree: Degree) -> bool {
-    let mut first = [0u8; 16];
-    let mut second = [0u8; 16];
-    let end = 4 * layout::part_count(degree);
-    if !input::filled(rt, &mut first[..end]) {
-        return false;
-    }
-    if !input::filled(rt, &mut second[..end]) {
-        return false;
-    }
-    let x = input::element(&first);
-    let y = input::element(&second);
-    output::parts(rt, b"midpoint", degree, midpoint::midpoint(x, y))
+    let n = input::buffer(rt, &mut table)?;
+    let digits = input::long(rt)?;
+    output::forecasted(rt, forecast::forecast(&table[..n], digits))
 }
 
 // 5: the degree, one byte, then the parts of the first element and those of the second. Another byte than 2, 3 or 4 ends the run.
-pub fn midpoint(rt: &(impl Input + Print)) -> bool {
-    let mut told = [0u8; 1];
-    if !input::filled(rt, &mut told) {
-        return false;
-    }
-    match told[0] {
-        2 => midpoint_line(rt, Degree::Two),
-        3 => midpoint_line(rt, Degree::Three),
-        4 => midpoint_line(rt, Degree::Four),
-        _ => false,
-    }
+pub fn midpoint(rt: &(impl Input + Print)) -> io::Result<()> {
+    let degree = match input::byte(rt)? {
+        2 => Degree::Two,
+        3 => Degree::Three,
+        4 => Degree::Four,
+        _ => return Err(io::Error::from(io::ErrorKind::InvalidData)),
+    };
+    let x = input::element(rt, degree)?;
+    let y = input::element(rt, degree)?;
+    output::element(rt, "midpoint", degree, midpoint::midpoint(x, y))
 }

@@ -1,9 +1,9 @@
 -- Laws of weight numbers and sets: one entry more, sets of twice as many neighbours, good weights, judged sets.
 use mathlib.Core.Path.{◌≡◌, sym, ap, subst, ◌∙◌}
-use mathlib.Core.Bool.{Bool, true}
+use mathlib.Core.Bool.{true}
 use mathlib.Core.Logic.{⊎_elim}
 use mathlib.Core.List.{List}
-use Prim.Native.Nat.{ℕ, ◌+◌, ◌-◌, ◌<◌, ◌≤◌}
+use Prim.Native.Nat.{ℕ, ◌+◌, ◌-◌, ◌^◌, ◌<◌, ◌≤◌}
 use native.Mathlib.Omega.{arith}
 use native.Mathlib.Decide.{dec_lt, ℕ_discrete}
 use lib.IntN.{ℤ}
@@ -20,7 +20,7 @@ use Rattle.leaf_rules.specs.Given.{weight_given}
 use Rattle.table_rules.specs.Pairs.{in_alphabet}
 use Rattle.weight_sets.specs.Bits.{Has}
 use Rattle.weight_sets.specs.Weights.{WeightsNumbered, Covers, Good, Judged}
-use Rattle.weight_sets.proofs.Bits.{has_left, has_right, has_either, has_none}
+use Rattle.weight_sets.proofs.Bits.{has_left, has_right, has_either, has_none, single_has}
 
 -- ---- weight numbers
 
@@ -72,9 +72,9 @@ module _ (numbers : List ℕ) (count : ℕ) where
 
 -- ---- good weights
 
-pub good_next : (alphabet leaves : Section) (first : List ℕ) (part : List ℤ) (good one number : ℕ) (given : Bool) → given ≡ in_alphabet alphabet (plus part (weight_given leaves (get_or first number 0))) → ((j : ℕ) → Has one j → (given ≡ true) × (j ≡ number)) → Good alphabet leaves first part good → Good alphabet leaves first part (bit_or good one)
-good_next alphabet leaves first part good one number given is new before j h =
-    ⊎_elim (before j) (λ n. let (holds, e) = new j n in ap (λ (i : ℕ). in_alphabet alphabet (plus part (weight_given leaves (get_or first i 0)))) e ∙ sym is ∙ holds) (has_either good one j h)
+pub good_next : (alphabet leaves : Section) (first : List ℕ) (part : List ℤ) (good number : ℕ) → in_alphabet alphabet (plus part (weight_given leaves (get_or first number 0))) ≡ true → Good alphabet leaves first part good → Good alphabet leaves first part (bit_or good (2 ^ number))
+good_next alphabet leaves first part good number holds before j h =
+    ⊎_elim (before j) (λ one. ap (λ (i : ℕ). in_alphabet alphabet (plus part (weight_given leaves (get_or first i 0)))) (single_has number j one) ∙ holds) (has_either good (2 ^ number) j h)
 
 -- ---- judged sets
 

@@ -1,7 +1,7 @@
 // The different weights of leaves, by number, and sets of them: those of neighbouring leaves, and those that give alphabet digits.
 #![tactic(auto)]
 
-ghost use Rattle.std.specs.Prelude.{◌≡◌, true, List, ℕ, ◌+◌, ◌<◌, ◌≤◌, ◌^◌, length, get_or};
+ghost use Rattle.std.specs.Prelude.{◌≡◌, List, ℕ, ◌+◌, ◌<◌, ◌≤◌, ◌^◌, length, get_or, IfSome};
 ghost use Rattle.ring.specs.declared.Degree.TheVariants.{Two};
 ghost use Rattle.layout_rules.specs.Section.{of_degree};
 ghost use Rattle.ring.specs.Tests.{Within, RowsWithin};
@@ -13,18 +13,14 @@ ghost use Rattle.pair_digits.specs.Slots.{Slotted};
 ghost use Rattle.weight_sets.specs.Bits.{Has};
 ghost use Rattle.weight_sets.specs.Weights.{WeightsNumbered, Covers, Good, Judged};
 
+use pair_digits::{EMPTY, SLOTS};
 use ring::Degree;
 
 // The most different weights.
-const WEIGHTS: usize = 64;
+pub const WEIGHTS: usize = 64;
 
-// The count of slots for weights, and the mark of an empty one.
-const SLOTS: usize = 256;
-
-const EMPTY: u8 = 255;
-
-// The number of a leaf's weight, of the count that are known: the one in the weight's slot, the next one where the slot is empty, or
-// too high a one where the slot has another weight.
+// The number of a leaf's weight, of the count that are known: the one in the weight's slot, or the next one where the slot is empty; none where
+// the slot has another weight, or there are too many.
 fn number_in(
     degree: Degree,
     leaves: &[u8],
@@ -32,62 +28,52 @@ fn number_in(
     count: usize,
     leaf: usize,
     number: usize,
-) -> usize
+) -> Option<usize>
     requires { (count ≤ 64) × (count ≤ length first.now) }
-    ensures within { result < 64 → result ≤ count }
-    ensures same { result < count
-        → weight_given (of_degree degree leaves.now) (get_or first.now result 0) ≡ weight_given (of_degree degree leaves.now) leaf }
+    ensures within { IfSome result (λ n. (n < 64) × (n ≤ count)) }
+    ensures same { IfSome result (λ n. n < count
+        → weight_given (of_degree degree leaves.now) (get_or first.now n 0) ≡ weight_given (of_degree degree leaves.now) leaf) }
 {
-    if count <= number {
-        return count;
+    if number < count {
+        let known = leaves::weight(degree, leaves, first[number]);
+        elements::equal(known, leaves::weight(degree, leaves, leaf)).then_some(number)
+    } else {
+        (count < WEIGHTS).then_some(count)
     }
-    if elements::equal(
-        leaves::weight(degree, leaves, first[number]),
-        leaves::weight(degree, leaves, leaf),
-    ) {
-        return number;
-    }
-    WEIGHTS
 }
 
-// Numbers the different weights as they come up, with a leaf for each number; their count, or too high a one where there are too many
-// or two have the same slot.
-fn number_weights(degree: Degree, leaves: &[u8], numbers: &mut [u8], first: &mut [usize]) -> usize
+// Numbers the different weights as they come up, with a leaf for each number; their count, unless there are too many or two have the same slot.
+fn number_weights(
+    degree: Degree,
+    leaves: &[u8],
+    numbers: &mut [u8],
+    first: &mut [usize],
+) -> Option<usize>
     requires { (leaf_count (of_degree degree leaves.now) ≤ length numbers.old) × (64 ≤ length first.old) }
-    ensures { result ≤ 64 → WeightsNumbered (of_degree degree leaves.now) numbers.new first.new result (leaf_count (of_degree degree leaves.now)) }
+    ensures { IfSome result (λ n. (n ≤ 64)
+        × WeightsNumbered (of_degree degree leaves.now) numbers.new first.new n (leaf_count (of_degree degree leaves.now))) }
 {
-    let leaf_count = leaves::leaf_count(degree, leaves);
     let mut slots = [EMPTY; SLOTS];
     let mut count = 0;
-    let mut leaf = 0;
-    while leaf < leaf_count {
+    for leaf in 0..leaves::leaf_count(degree, leaves) {
         let slot = slots::slot_of(leaves::weight(degree, leaves, leaf));
-        let number = number_in(
-            degree,
-            leaves,
-            first,
-            count,
-            leaf,
-            octets::wide(slots[slot]),
-        );
-        if WEIGHTS <= number {
-            return WEIGHTS + 1;
-        }
+        let kept = octets::wide(slots[slot]);
+        let number = number_in(degree, leaves, first, count, leaf, kept)?;
         if number == count {
             first[number] = leaf;
             slots[slot] = number as u8;
             count += 1;
         }
         numbers[leaf] = number as u8;
-        leaf += 1;
     }
-    count
+    Some(count)
 }
 
 // The same with the degree as a constant where it is two, so that sizes and parts are chosen once and not for each leaf.
-fn number_weights_at_two(leaves: &[u8], numbers: &mut [u8], first: &mut [usize]) -> usize
+fn number_weights_at_two(leaves: &[u8], numbers: &mut [u8], first: &mut [usize]) -> Option<usize>
     requires { (leaf_count (of_degree Two leaves.now) ≤ length numbers.old) × (64 ≤ length first.old) }
-    ensures { result ≤ 64 → WeightsNumbered (of_degree Two leaves.now) numbers.new first.new result (leaf_count (of_degree Two leaves.now)) }
+    ensures { IfSome result (λ n. (n ≤ 64)
+        × WeightsNumbered (of_degree Two leaves.now) numbers.new first.new n (leaf_count (of_degree Two leaves.now))) }
 {
     number_weights(Degree::Two, leaves, numbers, first)
 }
@@ -97,14 +83,14 @@ pub fn number_weights_by(
     leaves: &[u8],
     numbers: &mut [u8],
     first: &mut [usize],
-) -> usize
+) -> Option<usize>
     requires { (leaf_count (of_degree degree leaves.now) ≤ length numbers.old) × (64 ≤ length first.old) }
-    ensures { result ≤ 64 → WeightsNumbered (of_degree degree leaves.now) numbers.new first.new result (leaf_count (of_degree degree leaves.now)) }
+    ensures { IfSome result (λ n. (n ≤ 64)
+        × WeightsNumbered (of_degree degree leaves.now) numbers.new first.new n (leaf_count (of_degree degree leaves.now))) }
 {
     match degree {
         Degree::Two => number_weights_at_two(leaves, numbers, first),
-        Degree::Three => number_weights(degree, leaves, numbers, first),
-        Degree::Four => number_weights(degree, leaves, numbers, first),
+        Degree::Three | Degree::Four => number_weights(degree, leaves, numbers, first),
     }
 }
 
@@ -122,10 +108,8 @@ fn singles(numbers: &[u8], count: usize, sets: &mut [u64])
     requires weights { (k : ℕ) → k < count → get_or numbers.now k 0 < 64 }
     ensures { Covers numbers.now sets.new count 1 }
 {
-    let mut leaf = 0;
-    while leaf < count {
+    for leaf in 0..count {
         sets[leaf] = single(octets::wide(numbers[leaf]));
-        leaf += 1;
     }
 }
 
@@ -134,10 +118,8 @@ fn double(count: usize, sets: &mut [u64], step: usize)
     requires { (count ≤ length sets.old) × (step ≤ 8) }
     ensures { (numbers : List ℕ) → Covers numbers sets.old count step → Covers numbers sets.new count (step + step) }
 {
-    let mut leaf = 0;
-    while leaf + step < count {
-        sets[leaf] = sets[leaf] | sets[leaf + step];
-        leaf += 1;
+    for leaf in 0..count.saturating_sub(step) {
+        sets[leaf] |= sets[leaf + step];
     }
 }
 
@@ -159,23 +141,10 @@ pub fn all_weights(count: usize) -> u64
     ensures { (j : ℕ) → j < count → Has result j }
 {
     let mut set = 0;
-    let mut number = 0;
-    while number < count {
-        set = set | single(number);
-        number += 1;
+    for number in 0..count {
+        set |= single(number);
     }
     set
-}
-
-// A number alone, or nothing.
-fn single_if(given: bool, number: usize) -> u64
-    requires { number < 64 }
-    ensures { (j : ℕ) → Has result j → (given ≡ true) × (j ≡ number) }
-{
-    if given {
-        return single(number);
-    }
-    0
 }
 
 // The weights that give alphabet digits with an upper leaf's part.
@@ -193,12 +162,11 @@ fn good_set(
     ensures { Good (of_degree degree alphabet.now) (of_degree degree leaves.now) first.now part result }
 {
     let mut good = 0;
-    let mut number = 0;
-    while number < count {
+    for number in 0..count {
         let leaf = first[number];
-        let given = pair_digits::gives_digit_by(degree, alphabet, true, slots, part, leaves, leaf);
-        good = good | single_if(given, number);
-        number += 1;
+        if pair_digits::gives_digit_by(degree, alphabet, Some(slots), part, leaves, leaf) {
+            good |= single(number);
+        }
     }
     good
 }
@@ -280,10 +248,7 @@ fn judge_by(
         Degree::Two => judge_at_two(
             base, alphabet, slots, inputs, leaves, words, upper, first, count,
         ),
-        Degree::Three => judge(
-            degree, base, alphabet, slots, inputs, leaves, words, upper, first, count,
-        ),
-        Degree::Four => judge(
+        Degree::Three | Degree::Four => judge(
             degree, base, alphabet, slots, inputs, leaves, words, upper, first, count,
         ),
     }

@@ -18,38 +18,30 @@ fn file_rule(number: usize, out: &mut [u8]) -> usize
     ensures buffer { out.new ≡ overwrite out.old 0 (file_rule number) }
     ensures within { result ≤ 240 }
 {
-    if number == 0 {
-        return octets::put(
+    match number {
+        0 => octets::put(
             out,
             0,
             b"nothing to show: every row of input digits is converted into alphabet digits\n",
-        );
-    }
-    if number == 1 {
-        return octets::put(out, 0, b"rule 1: a table file has 20 to 65535 bytes\n");
-    }
-    if number == 2 {
-        return octets::put(
+        ),
+        1 => octets::put(out, 0, b"rule 1: a table file has 20 to 65535 bytes\n"),
+        2 => octets::put(
             out,
             0,
             b"rule 2: section 0 starts at byte 20, each other where the one before it ends, and section 4 ends the file\n",
-        );
-    }
-    if number == 3 {
-        return octets::put(
+        ),
+        3 => octets::put(
             out,
             0,
             b"rule 3: the lengths of sections 0 to 4 are 4d, 2 to 16 times 2d, 1 to 136 times 2d, 1 to 4000 times 4 + 2d, 1 to 32000; d is 2, 3 or 4\n",
-        );
-    }
-    if number == 4 {
-        return octets::put(
+        ),
+        4 => octets::put(
             out,
             0,
             b"rule 4: numbers are -64 to 64, those of a base of degree four -32 to 32, of input digits -128 to 128, of weights -1024 to 1024\n",
-        );
+        ),
+        _ => 0,
     }
-    0
 }
 
 // The same of base and digits.
@@ -59,35 +51,29 @@ fn digit_rule(number: usize, out: &mut [u8]) -> usize
     ensures buffer { out.new ≡ overwrite out.old 0 (digit_rule number) }
     ensures within { result ≤ 240 }
 {
-    if number == 5 {
-        return octets::put(
+    match number {
+        5 => octets::put(
             out,
             0,
             b"rule 5: omega^2 = t + sw, and s^2 + 4t isn't the square of a whole number\n",
-        );
-    }
-    if number == 6 {
-        return octets::put(
+        ),
+        6 => octets::put(
             out,
             0,
             b"rule 6: at degree two |N| is 2 or more and |T| less than |N + 1|; at degree three and four N isn't -1, 0 or 1\n",
-        );
-    }
-    if number == 7 {
-        return octets::put(
+        ),
+        7 => octets::put(
             out,
             0,
             b"rule 7: record 0 of the alphabet is 0, and no record is the same as an earlier one\n",
-        );
-    }
-    if number == 8 {
-        return octets::put(
+        ),
+        8 => octets::put(
             out,
             0,
             b"rule 8: record 0 of the input digits is 0, none is the same as an earlier one, and all sums of two alphabet digits are there\n",
-        );
+        ),
+        _ => 0,
     }
-    0
 }
 
 // The same of leaves.
@@ -97,49 +83,39 @@ fn leaf_rule(number: usize, out: &mut [u8]) -> usize
     ensures buffer { out.new ≡ overwrite out.old 0 (leaf_rule number) }
     ensures within { result ≤ 240 }
 {
-    if number == 9 {
-        return octets::put(
+    match number {
+        9 => octets::put(
             out,
             0,
             b"rule 9: a word has 1 to 8 bytes; the first starts at 0 in section 4, each other where one ends, and the last ends the section\n",
-        );
-    }
-    if number == 10 {
-        return octets::put(
+        ),
+        10 => octets::put(
             out,
             0,
             b"rule 10: each byte of a word is the number of an input digit, counted from 0\n",
-        );
-    }
-    if number == 11 {
-        return octets::put(
+        ),
+        11 => octets::put(
             out,
             0,
             b"rule 11: each word comes after the one before it, by number where they first differ, and neither begins the other\n",
-        );
-    }
-    if number == 12 {
-        return octets::put(
+        ),
+        12 => octets::put(
             out,
             0,
             b"rule 12: every string of eight input digits begins with the word of a leaf; here some string doesn't\n",
-        );
-    }
-    if number == 13 {
-        return octets::put(
+        ),
+        13 => octets::put(
             out,
             0,
             b"rule 13: leaf 0 has the weight 0, so that zeros stay zeros\n",
-        );
-    }
-    if number == 14 {
-        return octets::put(
+        ),
+        14 => octets::put(
             out,
             0,
             b"rule 14: where leaf U is used at a place and leaf L at the place below it, the digit that comes out is in the alphabet\n",
-        );
+        ),
+        _ => 0,
     }
-    0
 }
 
 // Writes a rule by its number, 0 for a table that breaks none; the count of its bytes.
@@ -150,12 +126,12 @@ pub fn rule_line(number: usize, out: &mut [u8]) -> usize
     ensures within { result ≤ 240 }
 {
     if number < 5 {
-        return file_rule(number, out);
+        file_rule(number, out)
+    } else if number < 9 {
+        digit_rule(number, out)
+    } else {
+        leaf_rule(number, out)
     }
-    if number < 9 {
-        return digit_rule(number, out);
-    }
-    leaf_rule(number, out)
 }
 
 // Writes two numbers, each behind a word; the next place.

@@ -8,23 +8,16 @@ ghost use Rattle.radix.specs.Number.{number, aligned};
 // The most digits of a word, and the digits of a window.
 const LONGEST: usize = 8;
 
-fn wide(x: u8) -> u64
-    ensures same { result ≡ x }
-    ensures small { result < 256 }
-{
-    x as u64
-}
-
 // The four bytes from a place on.
 fn four(bytes: &[u8], at: usize) -> u64
     requires { at + 4 ≤ length bytes.now }
     ensures number { result ≡ number 256 (λ i. get_or bytes.now (at + i) 0) 4 }
     ensures within { result < 4294967296 }
 {
-    wide(bytes[at]) * 16777216
-        + wide(bytes[at + 1]) * 65536
-        + wide(bytes[at + 2]) * 256
-        + wide(bytes[at + 3])
+    u64::from(bytes[at]) * 16777216
+        + u64::from(bytes[at + 1]) * 65536
+        + u64::from(bytes[at + 2]) * 256
+        + u64::from(bytes[at + 3])
 }
 
 // The eight bytes from a place on. That they are bytes is said for a caller whose bytes are an array, which doesn't tell it.
@@ -42,10 +35,8 @@ fn few(bytes: &[u8], at: usize, count: usize) -> u64
     ensures { result ≡ number 256 (λ i. get_or bytes.now (at + i) 0) count }
 {
     let mut all = 0;
-    let mut i = 0;
-    while i < count {
-        all = all * 256 + wide(bytes[at + i]);
-        i += 1;
+    for i in 0..count {
+        all = all * 256 + u64::from(bytes[at + i]);
     }
     all
 }
@@ -58,9 +49,10 @@ pub fn word_number(words: &[u8], start: usize, length: usize) -> u64
 {
     let end = start + length;
     if end < LONGEST {
-        return few(words, start, length) << (8 * (LONGEST - length));
+        few(words, start, length) << (8 * (LONGEST - length))
+    } else {
+        eight(words, end - LONGEST) << (8 * (LONGEST - length))
     }
-    eight(words, end - LONGEST) << (8 * (LONGEST - length))
 }
 
 // The same, where it is known how many strings of eight bytes begin with such a word: what stands behind the word is masked out.
@@ -69,9 +61,10 @@ pub fn word_number_by(words: &[u8], start: usize, length: usize, unit: u64) -> u
     ensures { result ≡ aligned 256 (λ i. get_or words.now (start + i) 0) length }
 {
     if words.len() - start < LONGEST {
-        return few(words, start, length) * unit;
+        few(words, start, length) * unit
+    } else {
+        eight(words, start) & !(unit - 1)
     }
-    eight(words, start) & !(unit - 1)
 }
 
 // For words of 1 to 8 digits in a base: how many strings of eight digits begin with one.
@@ -80,10 +73,8 @@ pub fn powers(base: u64) -> [u64; 9]
     ensures { (n : ℕ) → 1 ≤ n → n ≤ 8 → get_or result n 0 ≡ base ^ (8 - n) }
 {
     let mut all = [1; 9];
-    let mut n = 8;
-    while 1 < n {
-        all[n - 1] = all[n] * base;
-        n -= 1;
+    for n in (1..8).rev() {
+        all[n] = all[n + 1] * base;
     }
     all
 }

@@ -3,20 +3,16 @@ use Rattle.answer_rules.proofs.Answer.{not_operated, as_operated}
 use Rattle.ring.specs.declared.Operation.TheVariants.{Minus}
 use Rattle.adder_c.proofs.yoyomyrtle_subtract.Goals as goal
 
-pub returns-then-answer-lt8-clause-outcome : goal.returns-then-answer-lt8-clause-outcome
-returns-then-answer-lt8-clause-outcome c =
-    let a = c.args in (not_operated Minus a.table.now a.first.now a.second.now a.difference.now a.answer.now c.if-answer-lt8.true).0
-
-pub returns-then-answer-lt8-clause-difference : goal.returns-then-answer-lt8-clause-difference
-returns-then-answer-lt8-clause-difference c =
-    let a = c.args in (not_operated Minus a.table.now a.first.now a.second.now a.difference.now a.answer.now c.if-answer-lt8.true).1
-
-pub returns-clause-outcome : goal.returns-clause-outcome
-returns-clause-outcome c =
+pub returns-then-answer-lt8 : goal.returns-then-answer-lt8
+returns-then-answer-lt8 c =
     let a = c.args in
-    let room = c.if-answer-lt8.false in (as_operated Minus a.table.now a.first.now a.second.now a.difference.now a.answer.now _ _ _ _ room (c.subtract.ensures.outcome, c.subtract.ensures.difference) (c.subtracted.ensures.status, c.subtracted.ensures.answer)).0
+    let made = not_operated Minus a.table.now a.first.now a.second.now a.difference.now a.answer.now c.if-answer-lt8.true in
+    record { outcome = made.0; difference = made.1 }
 
-pub returns-clause-difference : goal.returns-clause-difference
-returns-clause-difference c =
+pub returns : goal.returns
+returns c =
     let a = c.args in
-    let room = c.if-answer-lt8.false in (as_operated Minus a.table.now a.first.now a.second.now a.difference.now a.answer.now _ _ _ _ room (c.subtract.ensures.outcome, c.subtract.ensures.difference) (c.subtracted.ensures.status, c.subtracted.ensures.answer)).1
+    let given = c.subtract.ensures in
+    let put = c.added.ensures in
+    let made = as_operated Minus a.table.now a.first.now a.second.now a.difference.now a.answer.now _ _ _ _ c.if-answer-lt8.false (given.outcome, given.difference) (put.status, put.answer) in
+    record { outcome = made.0; difference = made.1 }

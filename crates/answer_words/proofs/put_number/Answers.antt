@@ -7,6 +7,5 @@ use Rattle.answer_words.proofs.put_number.Goals as goal
 
 pub returns : goal.returns
 returns c =
-    let a = c.args in
-    let n = c.word in
-    record { status = refl; answer = c.put.ensures ∙ ap (overwrite a.answer.now 0) (cons≡ refl (cons≡ (kept n.result a.n n.type_inv n.ensures) refl)) }
+    let words = cons≡ refl (cons≡ (kept _ _ c.word.type_inv c.word.ensures) refl) in
+    record { status = refl; answer = c.put.ensures ∙ ap (overwrite c.args.answer.now 0) words }

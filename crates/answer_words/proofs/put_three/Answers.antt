@@ -9,7 +9,6 @@ use Rattle.answer_words.proofs.put_three.Goals as goal
 
 pub returns : goal.returns
 returns c =
-    let a = c.args in
-    let s = c in
-    let t = c in
-    c.put.ensures ∙ ap (overwrite a.answer.now 0) (cons≡ (to_z-of_z w64 a.head c.ranges.head) (cons≡ (kept s.word.result a.n s.word.type_inv s.word.ensures) (cons≡ (kept t.word-2.result a.m t.word-2.type_inv t.word-2.ensures) refl)))
+    let last = cons≡ (kept _ _ c.word-2.type_inv c.word-2.ensures) refl in
+    let words = cons≡ (to_z-of_z w64 c.args.head c.ranges.head) (cons≡ (kept _ _ c.word.type_inv c.word.ensures) last) in
+    c.put.ensures ∙ ap (overwrite c.args.answer.now 0) words

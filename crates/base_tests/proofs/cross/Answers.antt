@@ -4,7 +4,6 @@ use Prim.Native.Nat.{ℕ, ◌^◌}
 use mir.Syntax.{w64}
 use Rattle.integers.proofs.Machine.{Term, ◌⊖◌, ◌⊗◌, computed_fits, stored_is}
 use Rattle.ring.proofs.Parts.{entry}
-use borrow.Author.Rules.{rules}
 use Rattle.base_tests.proofs.cross.Goals as goal
 
 pub overflow_mul-result : goal.overflow_mul-result

@@ -4,7 +4,6 @@ use mathlib.Core.Bool.{◌&&◌}
 use Prim.Native.Nat.{◌≤◌}
 use lib.Dec.{leb, ltb}
 use lib.IntN.{ℤ, pos, nat_abs, ◌+ℤ◌}
-use borrow.Author.Rules.{rules}
 use borrow.Author.Tests.{le-leb, lt-leb}
 use mir.Syntax.{w64}
 use mir.ValLaws.{to_z-of_z}

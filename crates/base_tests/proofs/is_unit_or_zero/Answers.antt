@@ -5,7 +5,6 @@ use lib.Dec.{leb}
 use lib.IntN.{nat_abs}
 use mir.Syntax.{w64}
 use Rattle.integers.proofs.Machine.{Term, leaf, stored_is, stored_below}
-use borrow.Author.Rules.{rules}
 use Rattle.base_tests.proofs.is_unit_or_zero.Goals as goal
 
 pub size-requires : goal.size-requires

@@ -8,7 +8,6 @@ use Rattle.integers.proofs.Machine.{Term, ◌⊕◌, ◌⊖◌, ◌⊗◌, compu
 use Rattle.ring.specs.Tests.{row_limits}
 use Rattle.ring.proofs.Parts.{limited_entry}
 use Rattle.base_tests.specs.Minors.{minor_limits}
-use borrow.Author.Rules.{rules}
 use Rattle.base_tests.proofs.with_last.Goals as goal
 
 pub overflow_mul-result : goal.overflow_mul-result

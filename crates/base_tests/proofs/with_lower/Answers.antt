@@ -7,7 +7,6 @@ use mir.Syntax.{w64}
 use Rattle.integers.proofs.Machine.{Term, ◌⊕◌, ◌⊖◌, ◌⊗◌, computed_fits, stored_is, stored_bound}
 use Rattle.ring.proofs.Parts.{limited_entry}
 use Rattle.base_tests.specs.Minors.{minor_limits}
-use borrow.Author.Rules.{rules}
 use Rattle.base_tests.proofs.with_lower.Goals as goal
 
 pub overflow_mul-result : goal.overflow_mul-result

@@ -1,5 +1,4 @@
 -- Degree two was told where the function for it is called.
-use borrow.Author.Rules.{rules}
 use Rattle.digit_check.proofs.alphabet_rule_by.Goals as goal
 
 pub returns-in-Two : goal.returns-in-Two

@@ -5,7 +5,6 @@ use mathlib.Core.List.{List}
 use Prim.Native.Nat.{ℕ}
 use lib.Dec.{ltb}
 use lib.IntN.{nat_abs}
-use borrow.Author.Rules.{rules}
 use Rattle.ring.specs.declared.Degree.{Degree}
 use Rattle.ring.specs.declared.Degree.TheVariants.{Three, Four}
 use Rattle.ring.specs.Degree.{part_count}

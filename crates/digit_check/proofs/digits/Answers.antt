@@ -1,17 +1,18 @@
 -- Three rules in turn: the first that finds something is the answer.
-use borrow.Author.Rules.{rules}
-use Rattle.faults.proofs.Check.{found_first, found_next}
+use mathlib.Core.Path.{◌∙◌}
+use Rattle.faults.proofs.Passed.{passed_first, passed_next}
 use Rattle.digit_rules.specs.Digits.{digit_check}
 use Rattle.digit_check.proofs.digits.Goals as goal
 
-pub returns-then-first-ne0 : goal.returns-then-first-ne0
+pub returns-in_err-base_rules : goal.returns-in_err-base_rules
 unfolding digit_check
-returns-then-first-ne0 c = found_first _ _ _ c.base_rules-first.ensures c.if-first-ne0.true
+returns-in_err-base_rules c = passed_first _ _ c.from_residual.ensures.1 c.in_err-base_rules.ensures
 
-pub returns-then-second-ne0 : goal.returns-then-second-ne0
+pub returns-in_err-alphabet_rule_by : goal.returns-in_err-alphabet_rule_by
 unfolding digit_check
-returns-then-second-ne0 c = found_next _ _ _ _ c.base_rules-first.ensures c.if-first-ne0.false (found_first _ _ _ c.alphabet_rule_by-second.ensures c.if-second-ne0.true)
+returns-in_err-alphabet_rule_by c =
+    passed_first _ _ c.from_residual-in_err-alphabet_rule_by.ensures.1 c.in_err-alphabet_rule_by.ensures ∙ passed_next _ _ c.in_ok-base_rules.ensures
 
 pub returns : goal.returns
 unfolding digit_check
-returns c = found_next _ _ _ _ c.base_rules-first.ensures c.if-first-ne0.false (found_next _ _ _ _ c.alphabet_rule_by-second.ensures c.if-second-ne0.false c.input_rule.ensures)
+returns c = c.input_rule.ensures ∙ passed_next _ _ c.in_ok-alphabet_rule_by.ensures ∙ passed_next _ _ c.in_ok-base_rules.ensures

@@ -1,7 +1,6 @@
 -- By the degree.
 use mathlib.Core.Path.{◌≡◌, refl, sym, subst}
 use mathlib.Core.Bool.{Bool, true}
-use borrow.Author.Rules.{rules}
 use Rattle.ring.specs.declared.Degree.{Degree}
 use Rattle.ring.specs.declared.Degree.TheVariants.{Two, Three, Four}
 use Rattle.layout_rules.specs.Section.{of_degree}

@@ -7,7 +7,6 @@ use lib.IntN.{nat_abs}
 use native.Mathlib.Decide.{dec_lt}
 use native.Mathlib.Omega.{arith}
 use borrow.Author.Tests.{lt-ltb, le-ltb, lt-leb, le-leb}
-use borrow.Author.Rules.{rules}
 use Rattle.ring.specs.Degree.{part_count}
 use Rattle.ring.specs.Determinant.{determinant}
 use Rattle.ring.specs.Padded.{corner}

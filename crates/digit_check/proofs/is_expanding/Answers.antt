@@ -1,6 +1,5 @@
 -- The four numbers as they stand in the section.
 use mathlib.Core.Path.{◌∙◌}
-use borrow.Author.Rules.{rules}
 use Rattle.lists.specs.Span.{span}
 use Rattle.ring.specs.Padded.{padded}
 use Rattle.digit_rules.specs.Record.{parts_at, element_at}

@@ -1,7 +1,6 @@
 -- The numbers s and t as they stand in the section.
 use mathlib.Core.Path.{ap, ◌∙◌}
 use mathlib.Core.Bool.{not}
-use borrow.Author.Rules.{rules}
 use Rattle.lists.specs.Span.{span}
 use Rattle.ring.specs.Base.{discriminant}
 use Rattle.ring.specs.Padded.{padded}

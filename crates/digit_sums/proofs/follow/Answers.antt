@@ -1,39 +1,31 @@
-use Rattle.layout_rules.specs.Section.{of_degree}
+use Prim.Native.Nat.{◌+◌, ◌-◌}
 use Rattle.digit_sums.proofs.Marks.{follow_out, follow_here, follow_on, follow_end}
 use Rattle.digit_sums.specs.Marks.{followed}
-use borrow.Author.Rules.{rules}
+use Rattle.layout_rules.specs.Section.{of_degree}
+use Rattle.lists.specs.Found.{below}
+use Rattle.lists.proofs.Found.{below_some, below_none}
 use native.Mathlib.Omega.{arith}
-use Prim.Native.Nat.{◌≤◌}
-use mathlib.Core.Path.{◌≡◌, sym, ap, ◌∙◌}
+use mathlib.Core.Path.{sym, ap, ◌∙◌}
 use Rattle.digit_sums.proofs.follow.Goals as goal
 
-pub loop-left-init : goal.loop-left-init
-loop-left-init c = (omega arith, ap (followed _ _ _ 136) c.wide-at.ensures.same)
-
 pub returns-then-at-count : goal.returns-then-at-count
-returns-then-at-count c = c.record_count-count.ensures ∙ sym (follow_out _ _ _ _ _ (omega (arith, c.record_count-count.ensures))) ∙ c.loop-left.invariant.1
-
-pub record_at-requires : goal.record_at-requires
-record_at-requires c = omega (arith, c.record_count-count.ensures)
+returns-then-at-count c =
+    let a = c.args in
+    below_none _ (followed (of_degree a.degree a.inputs.now) a.links.now a.x 136 a.first)
+    (omega (arith, c.record_count-count.ensures, follow_out (of_degree a.degree a.inputs.now) a.links.now a.x (136 - c.loop.counter) c.loop.at (omega (arith, c.record_count-count.ensures)), c.loop.invariant))
 
 pub returns-then-equal : goal.returns-then-equal
-returns-then-equal c = sym (follow_here _ _ _ _ _ _ c.loop-left-test.true (omega (arith, c.record_count-count.ensures)) c.record_at.ensures.element (sym c.equal.ensures ∙ c.if-equal.true)) ∙ c.loop-left.invariant.1
+returns-then-equal c =
+    below_some _ c.loop.at (omega (arith, c.record_count-count.ensures))
+    ∙ ap (below _) (sym (follow_here _ _ _ _ _ _ (omega arith) (omega (arith, c.record_count-count.ensures)) c.record_at.ensures.element (sym c.equal.ensures ∙ c.if-equal.true)) ∙ c.loop.invariant)
 
-pub bounds-links-at : goal.bounds-links-at
-bounds-links-at c = omega (arith, c.record_count-count.ensures)
-
-pub loop-left-preserved : goal.loop-left-preserved
-loop-left-preserved c =
-    let a = c.args in
-    let record-count = c.record_count-count in
-    let loop = c.loop-left in
-    let loop-test = c.loop-left-test in
-    let record-at = c.record_at in (
-      omega arith,
-      ap (followed _ _ _ _) c.wide-at-in-loop-left.ensures.same ∙ sym
-          (follow_on _ a.links.now _ _ _ _ loop-test.true (omega (arith, record-count.ensures)) record-at.ensures.element (sym c.equal.ensures ∙ c.if-equal.false))
-          ∙ loop.invariant.1,
-    )
+pub loop-preserved : goal.loop-preserved
+loop-preserved c =
+    sym (follow_on _ _ _ _ (136 - c.loop.counter) _ (omega arith) (omega (arith, c.record_count-count.ensures)) c.record_at.ensures.element (136 - (c.loop.counter + 1)) c.wide-at-in-loop.result (omega arith) c.wide-at-in-loop.ensures.same (sym c.equal.ensures ∙ c.if-equal.false))
+    ∙ c.loop.invariant
 
 pub returns : goal.returns
-returns c = c.record_count-count.ensures ∙ sym (follow_end _ _ _ _ _ c.loop-left-test.false) ∙ c.loop-left.invariant.1
+returns c =
+    let a = c.args in
+    below_none _ (followed (of_degree a.degree a.inputs.now) a.links.now a.x 136 a.first)
+    (omega (arith, follow_end (of_degree a.degree a.inputs.now) a.links.now a.x (136 - c.loop.counter) c.loop.at (omega arith), c.loop.invariant))

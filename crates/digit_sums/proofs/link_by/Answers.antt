@@ -1,5 +1,4 @@
 -- Degree two was told where the function for it is called.
-use borrow.Author.Rules.{rules}
 use Rattle.digit_sums.proofs.link_by.Goals as goal
 
 pub link_at_two-requires : goal.link_at_two-requires

@@ -1,7 +1,6 @@
 -- The links are followed from the slot of the element.
 use mathlib.Core.Path.{◌∙◌}
 use Rattle.digit_sums.specs.Marks.{located}
-use borrow.Author.Rules.{rules}
 use Rattle.digit_sums.proofs.locate.Goals as goal
 
 pub returns : goal.returns

@@ -3,7 +3,6 @@ use mathlib.Core.Path.{◌≡◌, sym, subst, ◌∙◌}
 use Prim.Native.Nat.{◌-◌}
 use native.Mathlib.Omega.{arith}
 use lib.ListN.{length}
-use borrow.Author.Rules.{rules}
 use Rattle.lists.specs.Span.{span}
 use Rattle.ring.specs.Degree.{part_count}
 use Rattle.ring.specs.Element.{part}

@@ -5,8 +5,6 @@ use native.Mathlib.Omega.{arith}
 use Rattle.ring.proofs.Element.{within_le, within_plus, within_minus}
 use Rattle.ring.specs.Operation.{combine}
 use Rattle.ring.specs.Tests.{Within}
-use Rattle.ring.specs.Element.{plus, minus}
-use borrow.Author.Rules.{rules}
 use Rattle.digits.proofs.combined.Goals as goal
 
 pub sum-requires : goal.sum-requires

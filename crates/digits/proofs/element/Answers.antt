@@ -4,7 +4,6 @@ use mathlib.Core.List.{List}
 use Prim.Native.Nat.{ℕ, ◌+◌, ◌≤◌}
 use lib.ListN.{length}
 use lib.IntN.{ℤ}
-use borrow.Author.Rules.{rules}
 use Rattle.ring.specs.declared.Degree.{Degree}
 use Rattle.ring.specs.declared.Degree.TheVariants.{Two, Three, Four}
 use Rattle.layout_rules.specs.Section.{element_size, of_degree}

@@ -2,7 +2,6 @@
 use Rattle.digit_rules.specs.Digits.{partners}
 use Rattle.ring.specs.declared.Operation.{Operation}
 use mathlib.Core.Path.{sym, ap}
-use borrow.Author.Rules.{rules}
 use Rattle.digits.proofs.partner_count.Goals as goal
 
 pub returns-in-Plus : goal.returns-in-Plus

@@ -3,7 +3,6 @@ use native.Mathlib.Omega.{arith}
 use lib.ListN.{length}
 use mathlib.Core.Path.{◌≡◌, ap, ◌∙◌}
 use Prim.Native.Nat.{ℕ, ◌+◌, ◌*◌, ◌≤◌}
-use borrow.Author.Rules.{rules}
 use Rattle.layout_rules.specs.Section.{element_size, of_degree}
 use Rattle.layout_rules.proofs.Limit.{record_ends}
 use Rattle.digit_rules.specs.Record.{element_at}

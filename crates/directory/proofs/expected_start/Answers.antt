@@ -2,7 +2,6 @@
 use Rattle.layout_rules.proofs.Pair.{expected_next}
 use Rattle.layout_rules.specs.Directory.{expected_start}
 use mathlib.Core.Path.{sym, ◌∙◌}
-use borrow.Author.Rules.{rules}
 use Rattle.directory.proofs.expected_start.Goals as goal
 
 pub returns-then-section-eq0 : goal.returns-then-section-eq0

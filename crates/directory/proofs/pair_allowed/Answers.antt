@@ -1,6 +1,5 @@
 -- Where it starts, whether it ends in the file, and whether the last one ends it.
 use Rattle.layout_rules.proofs.Pair.{pair_elsewhere, pair_past, pair_inner, pair_last}
-use borrow.Author.Rules.{rules}
 use Rattle.directory.proofs.pair_allowed.Goals as goal
 
 pub returns-then-section_start-expected_start : goal.returns-then-section_start-expected_start

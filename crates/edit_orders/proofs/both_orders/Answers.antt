@@ -1,6 +1,5 @@
 -- Each order as it was found; that they agree is the law of two edits.
 use Rattle.edit_rules.proofs.Orders.{agree_found}
-use borrow.Author.Rules.{rules}
 use Rattle.edit_orders.proofs.both_orders.Goals as goal
 
 pub returns : goal.returns

@@ -1,7 +1,6 @@
 -- The first answer as it stands; the second, and the buffers, of what the first edit left.
 use Rattle.edit_rules.specs.Edit.{edit_outcome, edit_state}
 use mathlib.Core.Path.{ap, ◌∙◌}
-use borrow.Author.Rules.{rules}
 use Rattle.edit_orders.proofs.in_turn.Goals as goal
 
 pub returns : goal.returns

@@ -46,8 +46,8 @@ returns-then-end-at-clause-buffer c =
     let same = emptied c.args.out.now _ (parts_text c.args.x 4) c.args.at _ (c.put_parts-end.ensures.end, c.put_parts-end.ensures.buffer) (none c.if-end-at.true) in
     rw (nothing c.if-end-at.true) (rw same at c.put.ensures.written)
 
-pub returns-clause-end : goal.returns-clause-end
-returns-clause-end c = rw (element_some c.args.x (λ z. c.if-end-at.false (omega (arith, c.put_parts-end.ensures.end)))) (c.put_parts-end.ensures.end)
+pub returns-else-end-at-clause-end : goal.returns-else-end-at-clause-end
+returns-else-end-at-clause-end c = rw (element_some c.args.x (λ z. c.if-end-at.false (omega (arith, c.put_parts-end.ensures.end)))) (c.put_parts-end.ensures.end)
 
-pub returns-clause-buffer : goal.returns-clause-buffer
-returns-clause-buffer c = rw (element_some c.args.x (λ z. c.if-end-at.false (omega (arith, c.put_parts-end.ensures.end)))) (c.put_parts-end.ensures.buffer)
+pub returns-else-end-at-clause-buffer : goal.returns-else-end-at-clause-buffer
+returns-else-end-at-clause-buffer c = rw (element_some c.args.x (λ z. c.if-end-at.false (omega (arith, c.put_parts-end.ensures.end)))) (c.put_parts-end.ensures.buffer)

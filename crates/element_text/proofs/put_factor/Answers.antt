@@ -25,8 +25,8 @@ returns-then-k-gt0-clause-end c = rw (factor_none c.args.n c.args.k c.if-n-eq1.t
 pub returns-then-k-gt0-clause-buffer : goal.returns-then-k-gt0-clause-buffer
 returns-then-k-gt0-clause-buffer c = rw (factor_none c.args.n c.args.k c.if-n-eq1.true (lt-ltb _ _ c.if-k-gt0.true)) (put_none c.args.out.now c.args.at).1
 
-pub returns-clause-end : goal.returns-clause-end
-returns-clause-end c = rw (full c.args.n c.args.k c.else-n-eq1.either) c.put_decimal.ensures.end
+pub returns-else-n-eq1-clause-end : goal.returns-else-n-eq1-clause-end
+returns-else-n-eq1-clause-end c = rw (full c.args.n c.args.k c.else-n-eq1.either) c.put_decimal.ensures.end
 
-pub returns-clause-buffer : goal.returns-clause-buffer
-returns-clause-buffer c = rw (full c.args.n c.args.k c.else-n-eq1.either) c.put_decimal.ensures.buffer
+pub returns-else-n-eq1-clause-buffer : goal.returns-else-n-eq1-clause-buffer
+returns-else-n-eq1-clause-buffer c = rw (full c.args.n c.args.k c.else-n-eq1.either) c.put_decimal.ensures.buffer

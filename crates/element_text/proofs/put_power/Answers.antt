@@ -29,10 +29,10 @@ pub returns-then-k-eq1-clause-buffer : goal.returns-then-k-eq1-clause-buffer
 unfolding bytes_of
 returns-then-k-eq1-clause-buffer c = rw (power_one c.args.k c.if-k-eq1.true) (c.put.ensures.written)
 
-pub returns-clause-end : goal.returns-clause-end
+pub returns-else-k-eq1-clause-end : goal.returns-else-k-eq1-clause-end
 unfolding bytes_of
-returns-clause-end c = rw (power_more c.args.k c.if-k-eq0.false c.if-k-eq1.false) (c.put_item.ensures.end)
+returns-else-k-eq1-clause-end c = rw (power_more c.args.k c.if-k-eq0.false c.if-k-eq1.false) (c.put_item.ensures.end)
 
-pub returns-clause-buffer : goal.returns-clause-buffer
+pub returns-else-k-eq1-clause-buffer : goal.returns-else-k-eq1-clause-buffer
 unfolding bytes_of
-returns-clause-buffer c = rw (power_more c.args.k c.if-k-eq0.false c.if-k-eq1.false) (c.put_item.ensures.buffer)
+returns-else-k-eq1-clause-buffer c = rw (power_more c.args.k c.if-k-eq0.false c.if-k-eq1.false) (c.put_item.ensures.buffer)

@@ -14,9 +14,9 @@ pub put-requires : goal.put-requires
 unfolding bytes_of
 put-requires c = omega (arith, ap length (sign_below c.args.written c.args.a (sign_test w64 c.args.a true c.ranges.a c.if-a-lt0.true)))
 
-pub put-requires-2 : goal.put-requires-2
+pub put-requires-else-written-eq0 : goal.put-requires-else-written-eq0
 unfolding bytes_of
-put-requires-2 c = omega (arith, ap length (sign_above c.args.written c.args.a (sign_test w64 c.args.a false c.ranges.a c.if-a-lt0.false) c.if-written-eq0.false))
+put-requires-else-written-eq0 c = omega (arith, ap length (sign_above c.args.written c.args.a (sign_test w64 c.args.a false c.ranges.a c.if-a-lt0.false) c.if-written-eq0.false))
 
 pub returns-then-a-lt0-clause-end : goal.returns-then-a-lt0-clause-end
 unfolding bytes_of
@@ -32,10 +32,10 @@ returns-then-written-eq0-clause-end c = rw (sign_none c.args.written c.args.a (s
 pub returns-then-written-eq0-clause-buffer : goal.returns-then-written-eq0-clause-buffer
 returns-then-written-eq0-clause-buffer c = rw (sign_none c.args.written c.args.a (sign_test w64 c.args.a false c.ranges.a c.if-a-lt0.false) c.if-written-eq0.true) (put_none c.args.out.now c.args.at).1
 
-pub returns-clause-end : goal.returns-clause-end
+pub returns-else-written-eq0-clause-end : goal.returns-else-written-eq0-clause-end
 unfolding bytes_of
-returns-clause-end c = rw (sign_above c.args.written c.args.a (sign_test w64 c.args.a false c.ranges.a c.if-a-lt0.false) c.if-written-eq0.false) (c.put-2.ensures.next)
+returns-else-written-eq0-clause-end c = rw (sign_above c.args.written c.args.a (sign_test w64 c.args.a false c.ranges.a c.if-a-lt0.false) c.if-written-eq0.false) (c.put-else-written-eq0.ensures.next)
 
-pub returns-clause-buffer : goal.returns-clause-buffer
+pub returns-else-written-eq0-clause-buffer : goal.returns-else-written-eq0-clause-buffer
 unfolding bytes_of
-returns-clause-buffer c = rw (sign_above c.args.written c.args.a (sign_test w64 c.args.a false c.ranges.a c.if-a-lt0.false) c.if-written-eq0.false) (c.put-2.ensures.written)
+returns-else-written-eq0-clause-buffer c = rw (sign_above c.args.written c.args.a (sign_test w64 c.args.a false c.ranges.a c.if-a-lt0.false) c.if-written-eq0.false) (c.put-else-written-eq0.ensures.written)

@@ -7,7 +7,6 @@ use Rattle.integers.proofs.Machine.{Term, leaf, ◌⊕◌, ◌⊗◌, computed_f
 use Rattle.ring.specs.Element.{part}
 use Rattle.ring.proofs.Parts.{entry}
 use Rattle.ring.proofs.Matrix.{dot_next}
-use borrow.Author.Rules.{rules}
 use Rattle.elements.proofs.dot_three.Goals as goal
 
 pub overflow_mul-result : goal.overflow_mul-result

@@ -4,7 +4,6 @@ use Prim.Native.Nat.{ℕ, ◌^◌}
 use mir.Syntax.{w64}
 use Rattle.integers.proofs.Machine.{Term, ◌⊕◌, ◌⊗◌, computed_fits, stored_is, stored_bound}
 use Rattle.ring.proofs.Parts.{entry, dot_two}
-use borrow.Author.Rules.{rules}
 use Rattle.elements.proofs.dot_two.Goals as goal
 
 pub overflow_mul-result : goal.overflow_mul-result

@@ -12,7 +12,6 @@ use Rattle.ring.specs.Padded.{padded_times}
 use Rattle.ring.proofs.Element.{within_le}
 use Rattle.ring.proofs.Padded.{within_padded_times}
 use Rattle.ring.proofs.Columns.{some_parts}
-use borrow.Author.Rules.{rules}
 use Rattle.elements.proofs.times_base.Goals as goal
 
 pub returns-in-Four-clause-product : goal.returns-in-Four-clause-product

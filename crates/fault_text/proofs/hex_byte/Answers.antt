@@ -6,5 +6,5 @@ use Rattle.fault_text.proofs.hex_byte.Goals as goal
 pub returns-then-d-lt10 : goal.returns-then-d-lt10
 returns-then-d-lt10 c = sym (hex_low c.args.d c.if-d-lt10.true)
 
-pub returns : goal.returns
-returns c = sym (hex_high c.args.d c.if-d-lt10.false)
+pub returns-else-d-lt10 : goal.returns-else-d-lt10
+returns-else-d-lt10 c = sym (hex_high c.args.d c.if-d-lt10.false)

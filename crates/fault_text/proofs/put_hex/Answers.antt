@@ -17,8 +17,8 @@ returns-then-bytes-eq0-clause-buffer c = rw (hex_none c.args.bytes.now c.if-byte
 pub put_hex_digits-requires : goal.put_hex_digits-requires
 put_hex_digits-requires c = omega (arith, ap length (hex_some c.args.bytes.now (omega arith)))
 
-pub returns-clause-end : goal.returns-clause-end
-returns-clause-end c = rw (hex_some c.args.bytes.now (omega arith)) (c.put_hex_digits.ensures.end)
+pub returns-else-bytes-eq0-clause-end : goal.returns-else-bytes-eq0-clause-end
+returns-else-bytes-eq0-clause-end c = rw (hex_some c.args.bytes.now (omega arith)) (c.put_hex_digits.ensures.end)
 
-pub returns-clause-buffer : goal.returns-clause-buffer
-returns-clause-buffer c = rw (hex_some c.args.bytes.now (omega arith)) (c.put_hex_digits.ensures.buffer)
+pub returns-else-bytes-eq0-clause-buffer : goal.returns-else-bytes-eq0-clause-buffer
+returns-else-bytes-eq0-clause-buffer c = rw (hex_some c.args.bytes.now (omega arith)) (c.put_hex_digits.ensures.buffer)

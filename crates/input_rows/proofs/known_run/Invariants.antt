@@ -1,11 +1,7 @@
 -- The places passed hold what is known of their pairs.
 use Rattle.input_rows.specs.Known.{KnownRun}
 use Rattle.row_rules.specs.Changed.{changed}
-use Prim.Native.Nat.{◌≤◌, ◌-◌}
 use Rattle.input_rows.proofs.known_run.Given as goal
 
 abbrev pub invariant-loop-at : goal.invariant-loop-at
-invariant-loop-at l = (l.place ≤ l.at) × (l.at ≤ l.end) × KnownRun l.known (changed l.change 0 l.first) (changed l.change 1 l.second) l.place l.initial.row l.at l.row
-
-abbrev pub decreases-loop-at : goal.decreases-loop-at
-decreases-loop-at l = l.end - l.at
+invariant-loop-at l = KnownRun l.known (changed l.change 0 l.first) (changed l.change 1 l.second) l.place l.initial.row l.at l.row

@@ -1,8 +1,6 @@
 -- The length of section 0 tells it.
 use mathlib.Core.Path.{◌∙◌}
 use Prim.Native.Nat.{◌+◌, ◌*◌}
-use native.Mathlib.Omega.{arith}
-use borrow.Author.Rules.{rules}
 use Rattle.layout_rules.specs.Number.{unsigned_at}
 use Rattle.layout_rules.specs.Section.{degree_of}
 use Rattle.layout.proofs.degree_in.Goals as goal

@@ -1,6 +1,5 @@
 -- Five numbers, each as the directory has it.
 use Rattle.lists.specs.Span.{span}
-use borrow.Author.Rules.{rules}
 use Rattle.layout.proofs.section_lengths.Goals as goal
 
 pub returns : goal.returns

@@ -1,6 +1,5 @@
 -- The same 16 bits read as a signed number.
-use Rattle.layout_rules.proofs.Number.{read_fits, read}
-use borrow.Author.Rules.{rules}
+use Rattle.layout_rules.proofs.Number.{read}
 use Rattle.layout.proofs.signed.Goals as goal
 
 pub returns : goal.returns

@@ -1,7 +1,6 @@
 -- Two bytes, each below 256.
 use native.Mathlib.Omega.{arith}
 use Rattle.layout_rules.specs.Number.{unsigned_at}
-use borrow.Author.Rules.{rules}
 use Rattle.layout.proofs.unsigned.Goals as goal
 
 pub returns : goal.returns

@@ -17,11 +17,11 @@ returns-then-i-word-clause-buffer c =
     let a = c.args in
     rw (digit_there (of_degree a.degree a.inputs.now) a.word.now a.i c.if-i-word.true) (rw c.wide.ensures.same at c.input_text.ensures.buffer)
 
-pub returns-clause-count : goal.returns-clause-count
-returns-clause-count c = rw (digit_past (of_degree c.args.degree c.args.inputs.now) c.args.word.now c.args.i c.if-i-word.false c.if-i-eq0.false) (refl)
+pub returns-else-i-eq0-clause-count : goal.returns-else-i-eq0-clause-count
+returns-else-i-eq0-clause-count c = rw (digit_past (of_degree c.args.degree c.args.inputs.now) c.args.word.now c.args.i c.if-i-word.false c.if-i-eq0.false) (refl)
 
-pub returns-clause-buffer : goal.returns-clause-buffer
-returns-clause-buffer c = rw (digit_past (of_degree c.args.degree c.args.inputs.now) c.args.word.now c.args.i c.if-i-word.false c.if-i-eq0.false) (sym (overwrite_none c.args.out.now 0))
+pub returns-else-i-eq0-clause-buffer : goal.returns-else-i-eq0-clause-buffer
+returns-else-i-eq0-clause-buffer c = rw (digit_past (of_degree c.args.degree c.args.inputs.now) c.args.word.now c.args.i c.if-i-word.false c.if-i-eq0.false) (sym (overwrite_none c.args.out.now 0))
 
 pub returns-then-i-eq0 : goal.returns-then-i-eq0
 unfolding bytes_of

@@ -11,13 +11,13 @@ use Rattle.leaf_lines.proofs.input_text.Goals as goal
 pub put_element-requires : goal.put_element-requires
 put_element-requires c = record { room = omega (arith, element_short _ c.record_at.ensures.within, c.requires); parts = within_le 32768 (2 ^ 62) _ (omega arith) c.record_at.ensures.within }
 
-pub returns-clause-count : goal.returns-clause-count
+pub returns-else-k-record_count-clause-count : goal.returns-else-k-record_count-clause-count
 unfolding bytes_of
-returns-clause-count c = rw (input_missing (of_degree c.args.degree c.args.inputs.now) c.args.k (omega arith)) (omega (arith, c.put.ensures.next))
+returns-else-k-record_count-clause-count c = rw (input_missing (of_degree c.args.degree c.args.inputs.now) c.args.k (omega arith)) (omega (arith, c.put.ensures.next))
 
-pub returns-clause-buffer : goal.returns-clause-buffer
+pub returns-else-k-record_count-clause-buffer : goal.returns-else-k-record_count-clause-buffer
 unfolding bytes_of
-returns-clause-buffer c = rw (input_missing (of_degree c.args.degree c.args.inputs.now) c.args.k (omega arith)) (c.put.ensures.written)
+returns-else-k-record_count-clause-buffer c = rw (input_missing (of_degree c.args.degree c.args.inputs.now) c.args.k (omega arith)) (c.put.ensures.written)
 
 pub returns-then-k-record_count : goal.returns-then-k-record_count
 returns-then-k-record_count c =

@@ -4,7 +4,6 @@ use Rattle.ring.proofs.Element.{within_le}
 use Rattle.lists.proofs.Pieces.{put_taken}
 use Rattle.listing_rules.proofs.Element.{element_short}
 use Rattle.listing_rules.specs.Element.{element_text}
-use lib.ListN.{length}
 use lib.Seq.{length-take-le}
 use native.Mathlib.Omega.{arith}
 use mathlib.Core.Path.{sym}

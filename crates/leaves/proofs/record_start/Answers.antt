@@ -3,7 +3,6 @@ use mathlib.Core.Path.{◌≡◌, ap}
 use Prim.Native.Nat.{ℕ, ◌+◌, ◌*◌, ◌≤◌}
 use native.Mathlib.Omega.{arith}
 use lib.ListN.{length}
-use borrow.Author.Rules.{rules}
 use Rattle.layout_rules.specs.Section.{leaf_size}
 use Rattle.layout_rules.proofs.Limit.{element_held, record_ends}
 use Rattle.leaves.proofs.record_start.Goals as goal

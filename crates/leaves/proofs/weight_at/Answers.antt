@@ -1,18 +1,10 @@
 -- Section 3 read behind the word's two numbers.
 use mathlib.Core.Path.{ap, ◌∙◌}
 use Prim.Native.Nat.{ℕ, ◌+◌}
-use native.Mathlib.Omega.{arith}
-use borrow.Author.Rules.{rules}
 use Rattle.layout_rules.specs.Section.{of_degree}
 use Rattle.digit_rules.specs.Record.{element_at}
 use Rattle.leaf_rules.proofs.Leaf.{weight_there}
 use Rattle.leaves.proofs.weight_at.Goals as goal
-
-pub overflow_add-record_start : goal.overflow_add-record_start
-overflow_add-record_start c = omega (arith, c.record_start.ensures.inside)
-
-pub element-requires : goal.element-requires
-element-requires c = omega (arith, c.record_start.ensures.inside)
 
 pub returns : goal.returns
 returns c =

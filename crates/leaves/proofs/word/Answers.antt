@@ -1,6 +1,5 @@
 -- The part of section 4 by its bounds as read; nothing where there is no such leaf or it points outside.
 use native.Mathlib.Omega.{arith}
-use borrow.Author.Rules.{rules}
 use Rattle.layout_rules.specs.Section.{of_degree}
 use Rattle.leaf_rules.proofs.Leaf.{word_missing, word_outside, word_read}
 use Rattle.leaves.proofs.word.Goals as goal

@@ -1,7 +1,6 @@
 -- The degree that was told is the file's.
 use Rattle.lists.proofs.Test.{clash}
 use mathlib.Core.Path.{refl, sym, ◌∙◌}
-use borrow.Author.Rules.{rules}
 use Rattle.limits.proofs.limits_kept.Goals as goal
 
 pub returns-in-Two : goal.returns-in-Two
@@ -9,6 +8,3 @@ returns-in-Two c = λ yes. c.sections_at_two.ensures yes (sym c.requires.1 ∙ c
 
 pub returns-in-Three : goal.returns-in-Three
 returns-in-Three c = λ no. clash no refl
-
-pub returns-in-Four : goal.returns-in-Four
-returns-in-Four c = λ no. clash no refl

@@ -3,7 +3,6 @@ use Rattle.layout_rules.proofs.Number.{size_low, size_high}
 use Rattle.layout_rules.specs.Number.{to_signed}
 use lib.IntN.{nat_abs}
 use mathlib.Core.Path.{sym, ap, ◌∙◌}
-use borrow.Author.Rules.{rules}
 use Rattle.limits.proofs.magnitude.Goals as goal
 
 pub returns-then-u-lt32768 : goal.returns-then-u-lt32768

@@ -4,7 +4,6 @@ use Prim.Native.Nat.{ℕ, ◌*◌, ◌/◌}
 use native.Mathlib.Nat.{mul-le-mul_left, div-mul-le_self}
 use native.Mathlib.Omega.{arith}
 use lib.ListN.{length}
-use borrow.Author.Rules.{rules}
 use Rattle.layout_rules.specs.Limit.{number_count}
 use Rattle.layout_rules.proofs.Limit.{some_part}
 use Rattle.limits.proofs.number_count.Goals as goal

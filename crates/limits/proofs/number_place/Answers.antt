@@ -4,7 +4,6 @@ use Prim.Native.Nat.{◌+◌, ◌-◌, ◌*◌, ◌/◌, ◌%◌}
 use Rattle.layout_rules.specs.Limit.{number_place}
 use Rattle.layout_rules.proofs.Limit.{some_part, place_read}
 use native.Mathlib.Omega.{arith}
-use borrow.Author.Rules.{rules}
 use Rattle.limits.proofs.number_place.Goals as goal
 
 pub nonzero_div-result : goal.nonzero_div-result

@@ -2,7 +2,6 @@
 use native.Mathlib.Omega.{arith}
 use Rattle.layout_rules.specs.Number.{unsigned_at}
 use Rattle.layout_rules.proofs.Limit.{raised_within}
-use borrow.Author.Rules.{rules}
 use Rattle.limits.proofs.raised.Goals as goal
 
 pub returns : goal.returns

@@ -6,7 +6,6 @@ use native.Mathlib.Nat.{add-zero}
 use native.Mathlib.Omega.{arith}
 use lib.IntN.{nat_abs}
 use lib.ListN.{length}
-use borrow.Author.Rules.{rules}
 use Rattle.lists.proofs.Each.{each}
 use Rattle.ring.specs.declared.Degree.{Degree}
 use Rattle.ring.specs.declared.Degree.TheVariants.{Two, Three, Four}

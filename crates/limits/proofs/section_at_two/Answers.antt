@@ -4,7 +4,6 @@ use Rattle.layout_rules.proofs.Limit.{size_held, limit_small, limit_none, handed
 use Rattle.ring.specs.declared.Degree.TheVariants.{Two}
 use mathlib.Core.Path.{sym, ◌∙◌}
 use native.Mathlib.Omega.{arith}
-use borrow.Author.Rules.{rules}
 use Rattle.limits.proofs.section_at_two.Goals as goal
 
 pub section_start-start-requires : goal.section_start-start-requires

@@ -1,6 +1,5 @@
 -- The degree alters that of section 0 alone.
 use Rattle.layout_rules.proofs.Limit.{limit_later}
-use borrow.Author.Rules.{rules}
 use Rattle.limits.proofs.size_limit.Goals as goal
 
 pub returns : goal.returns

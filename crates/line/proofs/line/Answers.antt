@@ -1,7 +1,7 @@
 -- The line of each case of the answer, where there is room for it.
 use Rattle.line.proofs.Room.{line_short, line_long, refused_case}
 use Rattle.line_rules.specs.Line.{line_of}
-use Rattle.table.specs.Answer.{outcome_of}
+use Rattle.faults.specs.Answer.{outcome_of}
 use mathlib.Core.Path.{ap}
 use Rattle.line.proofs.line.Goals as goal
 
@@ -10,23 +10,23 @@ returns-then-out-lt128 c =
     let made = line_short (outcome_of c.args.answer) c.args.out.now c.if-out-lt128.true in
     record { count = made.0; buffer = made.1.0; within = made.1.1 }
 
-pub returns-in-Accepted : goal.returns-in-Accepted
+pub returns-in-Ok : goal.returns-in-Ok
 unfolding line_of
-returns-in-Accepted c =
-    let made = line_long (outcome_of c.args.answer) c.args.out.now _ _ _ c.if-out-lt128.false (ap (λ a. line_of (outcome_of a)) c.in-Accepted.is) (c.accepted_line.ensures.count, (c.accepted_line.ensures.buffer, c.accepted_line.ensures.within)) in
+returns-in-Ok c =
+    let made = line_long (outcome_of c.args.answer) c.args.out.now _ _ _ c.if-out-lt128.false (ap (λ a. line_of (outcome_of a)) c.in-Ok.is) (c.accepted_line.ensures.count, (c.accepted_line.ensures.buffer, c.accepted_line.ensures.within)) in
     record { count = made.0; buffer = made.1.0; within = made.1.1 }
 
 pub returns-in-Author : goal.returns-in-Author
 returns-in-Author c =
-    let made = line_long (outcome_of c.args.answer) c.args.out.now _ _ _ c.if-out-lt128.false (refused_case _ _ _ c.in-Refused.is c.in-Author.is) (c.refused_line.ensures.count, (c.refused_line.ensures.buffer, c.refused_line.ensures.within)) in
+    let made = line_long (outcome_of c.args.answer) c.args.out.now _ _ _ c.if-out-lt128.false (refused_case _ _ _ c.in-Err.is c.in-Author.is) (c.refused_line.ensures.count, (c.refused_line.ensures.buffer, c.refused_line.ensures.within)) in
     record { count = made.0; buffer = made.1.0; within = made.1.1 }
 
 pub returns-in-Rows : goal.returns-in-Rows
 returns-in-Rows c =
-    let made = line_long (outcome_of c.args.answer) c.args.out.now _ _ _ c.if-out-lt128.false (refused_case _ _ _ c.in-Refused.is c.in-Rows.is) (c.refused_line-in-Rows.ensures.count, (c.refused_line-in-Rows.ensures.buffer, c.refused_line-in-Rows.ensures.within)) in
+    let made = line_long (outcome_of c.args.answer) c.args.out.now _ _ _ c.if-out-lt128.false (refused_case _ _ _ c.in-Err.is c.in-Rows.is) (c.refused_line-in-Rows.ensures.count, (c.refused_line-in-Rows.ensures.buffer, c.refused_line-in-Rows.ensures.within)) in
     record { count = made.0; buffer = made.1.0; within = made.1.1 }
 
 pub returns-in-Editor : goal.returns-in-Editor
 returns-in-Editor c =
-    let made = line_long (outcome_of c.args.answer) c.args.out.now _ _ _ c.if-out-lt128.false (refused_case _ _ _ c.in-Refused.is c.in-Editor.is) (c.refused_line-in-Editor.ensures.count, (c.refused_line-in-Editor.ensures.buffer, c.refused_line-in-Editor.ensures.within)) in
+    let made = line_long (outcome_of c.args.answer) c.args.out.now _ _ _ c.if-out-lt128.false (refused_case _ _ _ c.in-Err.is c.in-Editor.is) (c.refused_line-in-Editor.ensures.count, (c.refused_line-in-Editor.ensures.buffer, c.refused_line-in-Editor.ensures.within)) in
     record { count = made.0; buffer = made.1.0; within = made.1.1 }

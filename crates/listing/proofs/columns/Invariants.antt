@@ -3,13 +3,9 @@ use Rattle.layout_rules.specs.Section.{of_degree}
 use Rattle.listing_rules.specs.Listing.{word_shown}
 use Rattle.numeration.specs.LeafOf.{largest}
 use lib.ListN.{length}
-use Prim.Native.Nat.{◌-◌, ◌≤◌, max}
+use Prim.Native.Nat.{◌≤◌, max}
 use mathlib.Core.Path.{◌≡◌}
 use Rattle.listing.proofs.columns.Given as goal
 
 abbrev pub invariant-loop-leaf : goal.invariant-loop-leaf
-invariant-loop-leaf l =
-    (l.leaf ≤ l.count) × (l.most ≡ max 1 (largest (λ k. length (word_shown (of_degree l.degree l.leaves) l.words k)) l.leaf)) × (l.most ≤ 8)
-
-abbrev pub decreases-loop-leaf : goal.decreases-loop-leaf
-decreases-loop-leaf l = l.count - l.leaf
+invariant-loop-leaf l = (l.most ≡ max 1 (largest (λ k. length (word_shown (of_degree l.degree l.leaves) l.words k)) l.leaf)) × (l.most ≤ 8)

@@ -11,10 +11,10 @@ pub returns-then-allowed-clause-buffer : goal.returns-then-allowed-clause-buffer
 unfolding bytes_of allowed_word
 returns-then-allowed-clause-buffer c = rw c.if-allowed.true (c.put.ensures.written)
 
-pub returns-clause-end : goal.returns-clause-end
+pub returns-else-allowed-clause-end : goal.returns-else-allowed-clause-end
 unfolding bytes_of allowed_word
-returns-clause-end c = rw c.if-allowed.false (c.put-2.ensures.next)
+returns-else-allowed-clause-end c = rw c.if-allowed.false (c.put-else-allowed.ensures.next)
 
-pub returns-clause-buffer : goal.returns-clause-buffer
+pub returns-else-allowed-clause-buffer : goal.returns-else-allowed-clause-buffer
 unfolding bytes_of allowed_word
-returns-clause-buffer c = rw c.if-allowed.false (c.put-2.ensures.written)
+returns-else-allowed-clause-buffer c = rw c.if-allowed.false (c.put-else-allowed.ensures.written)

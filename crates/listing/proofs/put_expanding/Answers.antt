@@ -11,10 +11,10 @@ pub returns-then-expanding-clause-buffer : goal.returns-then-expanding-clause-bu
 unfolding bytes_of expanding_word
 returns-then-expanding-clause-buffer c = rw c.if-expanding.true (c.put.ensures.written)
 
-pub returns-clause-end : goal.returns-clause-end
+pub returns-else-expanding-clause-end : goal.returns-else-expanding-clause-end
 unfolding bytes_of expanding_word
-returns-clause-end c = rw c.if-expanding.false (c.put-2.ensures.next)
+returns-else-expanding-clause-end c = rw c.if-expanding.false (c.put-else-expanding.ensures.next)
 
-pub returns-clause-buffer : goal.returns-clause-buffer
+pub returns-else-expanding-clause-buffer : goal.returns-else-expanding-clause-buffer
 unfolding bytes_of expanding_word
-returns-clause-buffer c = rw c.if-expanding.false (c.put-2.ensures.written)
+returns-else-expanding-clause-buffer c = rw c.if-expanding.false (c.put-else-expanding.ensures.written)

@@ -1,6 +1,6 @@
 -- After some records the longest is the largest of their texts' lengths.
 use mathlib.Core.Path.{◌≡◌}
-use Prim.Native.Nat.{◌-◌, ◌≤◌}
+use Prim.Native.Nat.{◌≤◌}
 use lib.ListN.{length}
 use Rattle.numeration.specs.LeafOf.{largest}
 use Rattle.listing_rules.specs.Element.{element_text}
@@ -10,7 +10,4 @@ use Rattle.digit_rules.specs.Record.{element_at}
 use Rattle.listing.proofs.width.Given as goal
 
 abbrev pub invariant-loop-k : goal.invariant-loop-k
-invariant-loop-k l = (l.k ≤ l.count) × (l.longest ≡ largest (λ i. length (element_text (element_at (of_degree l.degree l.part) (element_start l.degree l.section i)))) l.k) × (l.longest ≤ 31)
-
-abbrev pub decreases-loop-k : goal.decreases-loop-k
-decreases-loop-k l = l.count - l.k
+invariant-loop-k l = (l.longest ≡ largest (λ i. length (element_text (element_at (of_degree l.degree l.part) (element_start l.degree l.section i)))) l.k) × (l.longest ≤ 31)

@@ -10,7 +10,7 @@ returns-then-word-gt8 c =
     let a = c.args in
     record { word = sym (word_unread (of_degree a.degree a.leaves.now) a.words.now a.leaf (rw c.word-word.ensures at c.if-word-gt8.true)); within = omega arith }
 
-pub returns : goal.returns
-returns c =
+pub returns-else-word-gt8 : goal.returns-else-word-gt8
+returns-else-word-gt8 c =
     let a = c.args in
     record { word = c.word-word.ensures ∙ sym (word_kept (of_degree a.degree a.leaves.now) a.words.now a.leaf (rw c.word-word.ensures at c.if-word-gt8.false)); within = c.if-word-gt8.false }

@@ -4,25 +4,18 @@ use Rattle.look_up.proofs.Comparison.{window_read, numbers_read}
 use native.Mathlib.Omega.{arith}
 use Prim.Native.Nat.{min}
 use mathlib.Core.Path.{◌∙◌, ap₂, refl}
-use borrow.Author.Rules.{rules}
 use Rattle.look_up.proofs.above.Goals as goal
 
--- src/lib.rt:151:49
 pub word_number-requires : goal.word_number-requires
 word_number-requires c = c.is_inside.ensures c.if-is_inside.true
 
--- src/lib.rt:151:9
 pub returns-then-is_inside : goal.returns-then-is_inside
 returns-then-is_inside c =
     let a = c.args in
-    let s = c in
-    let t = c in
-    let u = c in
-    numbers_read (of_degree a.degree a.leaves.now) a.words.now a.window.now a.leaf s.word_start-start.result t.word_length-length.result c.eight.result c.word_number.result
-    s.word_start-start.ensures.start t.word_length-length.ensures.size (c.is_inside.ensures c.if-is_inside.true).1 c.eight.ensures.bytes (λ i. omega (arith, u.shared_slice_known-2-1.given i)) c.eight.ensures.number c.word_number.ensures
+    numbers_read (of_degree a.degree a.leaves.now) a.words.now a.window.now a.leaf c.word_start-start.result c.word_length-length.result c.eight.result c.word_number.result
+    c.word_start-start.ensures.start c.word_length-length.ensures.size (c.is_inside.ensures c.if-is_inside.true).1 c.eight.ensures.bytes (λ i. omega (arith, c.type_inv.words i)) c.eight.ensures.number c.word_number.ensures
 
--- src/lib.rt:144:1
-pub returns : goal.returns
-returns c =
+pub returns-else-is_inside : goal.returns-else-is_inside
+returns-else-is_inside c =
     let a = c.args in
-    c.lower.ensures ∙ window_read (of_degree a.degree a.leaves.now) a.words.now a.window.now _ _ _ c.word_start-start.ensures.start (c.least.ensures ∙ ap₂ min c.word_length-length.ensures.size refl)
+    c.lower.ensures ∙ window_read (of_degree a.degree a.leaves.now) a.words.now a.window.now _ _ _ c.word_start-start.ensures.start (c.min.ensures ∙ ap₂ min c.word_length-length.ensures.size refl)

@@ -1,5 +1,4 @@
 -- All leaves are searched; the one found is given back with its length.
-use borrow.Author.Rules.{rules}
 use Rattle.layout_rules.specs.Section.{of_degree}
 use Rattle.look_up.proofs.Search.{with_length_found}
 use Rattle.look_up.proofs.look_up.Goals as goal

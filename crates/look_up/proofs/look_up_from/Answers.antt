@@ -3,7 +3,6 @@ use Rattle.layout_rules.specs.Section.{of_degree}
 use Rattle.look_up.proofs.Search.{begins_looked_up, with_length_found}
 use Rattle.leaf_rules.specs.Leaf.{code_of}
 use native.Mathlib.Omega.{arith}
-use borrow.Author.Rules.{rules}
 use Rattle.look_up.proofs.look_up_from.Goals as goal
 
 pub returns-then-begins-clause-leaf : goal.returns-then-begins-clause-leaf

@@ -6,7 +6,6 @@ use Rattle.leaf_rules.specs.Leaf.{code_of}
 use native.Mathlib.Omega.{arith}
 use Prim.Native.Nat.{◌+◌, ◌-◌}
 use mathlib.Core.Path.{◌≡◌, subst}
-use borrow.Author.Rules.{rules}
 use Rattle.look_up.proofs.look_up_within.Goals as goal
 
 pub overflow_sub-high : goal.overflow_sub-high

@@ -5,11 +5,7 @@ use Rattle.leaf_rules.specs.Leaf.{code_of}
 use Rattle.leaf_rules.proofs.Leaf.{leaves_most}
 use mathlib.Core.Path.{sym, ◌∙◌}
 use native.Mathlib.Omega.{arith}
-use borrow.Author.Rules.{rules}
 use Rattle.look_up.proofs.next_low.Goals as goal
-
-pub overflow_add-low : goal.overflow_add-low
-overflow_add-low c = let s = c in omega (arith, s.requires, leaves_most (of_degree s.args.degree s.args.leaves.now))
 
 pub overflow_add-result : goal.overflow_add-result
 overflow_add-result c = let s = c in omega (arith, s.requires, leaves_most (of_degree s.args.degree s.args.leaves.now))

@@ -1,9 +1,7 @@
 -- The leaf stays between the two ends; where they are one apart it is the lower one.
 use Rattle.layout_rules.specs.Section.{of_degree}
-use Rattle.look_up.proofs.Search.{between_next, between_one}
 use Rattle.look_up.specs.Search.{Between}
 use Rattle.leaf_rules.specs.Leaf.{code_of}
-use native.Mathlib.Omega.{arith}
 use Prim.Native.Nat.{◌+◌}
 use Rattle.look_up.proofs.search_part.Given as goal
 

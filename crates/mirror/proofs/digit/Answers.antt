@@ -1,13 +1,12 @@
 -- The digit as it is stored, or its mirror image.
 use Rattle.mirror_rules.specs.Half.{word_digit, mirror_index}
 use mathlib.Core.Path.{sym, ap, ◌∙◌}
-use borrow.Author.Rules.{rules}
 use Rattle.mirror.proofs.digit.Goals as goal
 
 pub returns-then-mirrored : goal.returns-then-mirrored
 unfolding word_digit
 returns-then-mirrored c = record { digit = c.mirror.ensures.index ∙ ap (mirror_index c.args.positive) (c.wide-stored.ensures.same ∙ c.byte_at.ensures) ∙ (λ i. word_digit c.args.positive c.args.words.now (sym c.if-mirrored.true i) c.args.at); within = c.mirror.ensures.within }
 
-pub returns : goal.returns
+pub returns-else-mirrored : goal.returns-else-mirrored
 unfolding word_digit
-returns c = record { digit = c.wide-stored.ensures.same ∙ c.byte_at.ensures ∙ (λ i. word_digit c.args.positive c.args.words.now (sym c.if-mirrored.false i) c.args.at); within = c.wide-stored.ensures.small }
+returns-else-mirrored c = record { digit = c.wide-stored.ensures.same ∙ c.byte_at.ensures ∙ (λ i. word_digit c.args.positive c.args.words.now (sym c.if-mirrored.false i) c.args.at); within = c.wide-stored.ensures.small }

@@ -1,7 +1,6 @@
 -- The head, the digits and the leaves, written in turn.
 use native.Mathlib.Omega.{arith}
 use Rattle.mirror_rules.proofs.Put.{file_written}
-use borrow.Author.Rules.{rules}
 use Rattle.mirror.proofs.mirrored.Goals as goal
 
 pub put_leaves-requires : goal.put_leaves-requires

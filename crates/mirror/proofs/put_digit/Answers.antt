@@ -1,10 +1,8 @@
 -- The digit and then its mirror image.
 use Rattle.mirror_rules.specs.Half.{image_number, bits_of, put_number, put_digit}
-use lib.ListN.{length}
 use Prim.Native.Nat.{ℕ, ◌+◌, ◌*◌}
 use mathlib.Core.Bool.{true, false}
 use mathlib.Core.Path.{ap, ◌∙◌}
-use borrow.Author.Rules.{rules}
 use Rattle.mirror.proofs.put_digit.Goals as goal
 
 pub returns : goal.returns

@@ -1,20 +1,16 @@
 use Rattle.mirror_rules.proofs.Put.{digits_none, digits_next}
 use Rattle.mirror_rules.specs.Half.{put_digit, put_digits}
-use lib.ListN.{length}
 use native.Mathlib.Omega.{arith}
-use Prim.Native.Nat.{ℕ, ◌-◌, ◌≤◌}
+use Prim.Native.Nat.{ℕ}
 use mathlib.Core.List.{List}
-use mathlib.Core.Path.{◌≡◌, refl, sym, ap, ◌∙◌}
+use mathlib.Core.Path.{sym, ap, ◌∙◌}
 use Rattle.mirror.proofs.put_digits.Goals as goal
 
 pub loop-k-init : goal.loop-k-init
-loop-k-init c = (omega arith, sym (digits_none c.args.half.now c.args.out.now c.args.at), refl)
+loop-k-init c = sym (digits_none c.args.half.now c.args.out.now c.args.at)
 
 pub loop-k-preserved : goal.loop-k-preserved
-loop-k-preserved c = (omega arith, c.put_digit.ensures ∙ ap (λ (s : List ℕ). put_digit c.args.half.now c.args.at s c.loop-k.k) c.loop-k.invariant.1 ∙ sym (digits_next c.args.half.now c.args.out.now c.args.at c.loop-k.k), omega arith)
-
-pub shape_of-out : goal.shape_of-out
-shape_of-out c = c.loop-k.invariant.2
+loop-k-preserved c = c.put_digit.ensures ∙ ap (λ (s : List ℕ). put_digit c.args.half.now c.args.at s c.loop-k.k) c.loop-k.invariant ∙ sym (digits_next c.args.half.now c.args.out.now c.args.at c.loop-k.k)
 
 pub returns : goal.returns
-returns c = c.loop-k.invariant.1 ∙ ap (put_digits c.args.half.now c.args.at c.args.out.now) (omega arith)
+returns c = c.loop-k.invariant ∙ ap (put_digits c.args.half.now c.args.at c.args.out.now) (omega arith)

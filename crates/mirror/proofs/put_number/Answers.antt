@@ -4,7 +4,6 @@ use lib.ListN.{set}
 use Prim.Native.Nat.{ℕ, ◌+◌, ◌%◌, ◌/◌}
 use mathlib.Core.List.{List}
 use mathlib.Core.Path.{ap, ◌∙◌}
-use borrow.Author.Rules.{rules}
 use Rattle.mirror.proofs.put_number.Goals as goal
 
 pub returns : goal.returns

@@ -1,7 +1,6 @@
 -- Past the end nothing is stored, which is what a list does too.
 use lib.Seq.{set_out}
 use mathlib.Core.Path.{sym}
-use borrow.Author.Rules.{rules}
 use Rattle.mirror.proofs.store.Goals as goal
 
 pub returns-else-at-out : goal.returns-else-at-out

@@ -1,7 +1,6 @@
 -- Inside the bytes it is read, outside the default stands.
 use mathlib.Core.Path.{sym}
 use lib.ListN.{get_or-eq_default}
-use borrow.Author.Rules.{rules}
 use Rattle.octets.proofs.byte_at.Goals as goal
 
 pub returns-else-at-bytes : goal.returns-else-at-bytes

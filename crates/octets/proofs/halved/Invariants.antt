@@ -1,8 +1,7 @@
 -- From the end on all bytes are 0; an upper half whose highest byte is 0 is dropped.
-use native.Mathlib.Omega.{arith}
 use Prim.Native.Nat.{◌≤◌}
 use lib.ListN.{length}
-use Rattle.octets.proofs.Zeros.{ZerosFrom, zeros_end, zeros_part}
+use Rattle.octets.proofs.Zeros.{ZerosFrom}
 use Rattle.octets.proofs.halved.Given as goal
 
 abbrev pub invariant-loop-end : goal.invariant-loop-end

@@ -1,12 +1,8 @@
--- From the end on all bytes are 0.
-use native.Mathlib.Omega.{arith}
+-- From the place on that the loop has come down to all bytes are 0.
 use Prim.Native.Nat.{◌≤◌}
 use lib.ListN.{length}
-use Rattle.octets.proofs.Zeros.{ZerosFrom, zeros_one}
+use Rattle.octets.proofs.Zeros.{ZerosFrom}
 use Rattle.octets.proofs.significant.Given as goal
 
-abbrev pub invariant-loop-end : goal.invariant-loop-end
-invariant-loop-end l = (l.end ≤ length l.bytes) × ZerosFrom l.bytes l.end
-
-abbrev pub decreases-loop-end : goal.decreases-loop-end
-decreases-loop-end l = l.end
+abbrev pub invariant-loop-k : goal.invariant-loop-k
+invariant-loop-k l = (l.k ≤ length l.bytes) × ZerosFrom l.bytes l.k

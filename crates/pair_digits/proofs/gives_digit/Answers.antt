@@ -6,9 +6,11 @@ use Rattle.ring.proofs.Element.{within_plus, within_le}
 use Rattle.ring.specs.Element.{plus}
 use Rattle.ring.specs.Tests.{Within}
 use lib.Dec.{ltb, lit≤}
-use Prim.Native.Nat.{◌+◌, ◌^◌}
-use mathlib.Core.Path.{sym, ap, subst, ◌∙◌}
-use borrow.Author.Rules.{rules}
+use Rattle.lists.specs.Found.{below}
+use Rattle.std.specs.Prelude.{Some, None, is_some}
+use mathlib.Core.Bool.{Bool, true, false, cond}
+use Prim.Native.Nat.{ℕ, ◌+◌, ◌^◌}
+use mathlib.Core.Path.{◌≡◌, refl, sym, ap, subst, ◌∙◌}
 use Rattle.pair_digits.proofs.gives_digit.Goals as goal
 
 pub sum-digit-requires : goal.sum-digit-requires
@@ -17,13 +19,23 @@ sum-digit-requires c = (within_le (2 ^ 55 + 32768) (2 ^ 61) _ (lit≤ tt) c.requ
 pub in_slots-requires : goal.in_slots-requires
 in_slots-requires c =
     let total = within_plus (2 ^ 55 + 32768) 32768 c.args.part c.weight.result c.requires.1 c.weight.ensures.within in
-    (subst (Within (2 ^ 56)) (sym c.sum-digit.ensures) (within_le (2 ^ 55 + 32768 + 32768) (2 ^ 56) _ (lit≤ tt) total), c.requires.0 c.if-known.true)
+    (subst (Within (2 ^ 56)) (sym c.sum-digit.ensures) (within_le (2 ^ 55 + 32768 + 32768) (2 ^ 56) _ (lit≤ tt) total), rw c.in-Some.is at c.requires.0)
 
-pub returns-then-known : goal.returns-then-known
-returns-then-known c = c.in_slots.ensures ∙ ap (in_alphabet (of_degree c.args.degree c.args.alphabet.now)) (c.sum-digit.ensures ∙ ap (plus c.args.part) c.weight.ensures.weight)
+pub returns-in-Some : goal.returns-in-Some
+returns-in-Some c = c.in_slots.ensures ∙ ap (in_alphabet (of_degree c.args.degree c.args.alphabet.now)) (c.sum-digit.ensures ∙ ap (plus c.args.part) c.weight.ensures.weight)
 
-pub returns : goal.returns
+is_some-below : (n i : ℕ) → is_some (below n i) ≡ ltb i n
+unfolding below
+is_some-below n i = go (ltb i n)
+  where
+    go : (b : Bool) → is_some (cond b (Some i) None) ≡ b
+    go true = refl
+    go false = refl
+
+pub returns-in-None : goal.returns-in-None
 unfolding in_alphabet
-returns c =
+returns-in-None c =
+    let alphabet = of_degree c.args.degree c.args.alphabet.now in
     let digit = c.sum-digit.ensures ∙ ap (plus c.args.part) c.weight.ensures.weight in
-    λ i. ltb ((c.find.ensures ∙ (λ j. index_in (of_degree c.args.degree c.args.alphabet.now) (c.record_count-count.ensures j) (digit j))) i) (c.record_count-count.ensures i)
+    let count = c.record_count-count.ensures in
+    c.is_some.ensures ∙ ap is_some c.find.ensures ∙ is_some-below _ _ ∙ (λ i. ltb (index_in alphabet (count i) (digit i)) (count i))

@@ -1,5 +1,4 @@
 -- Degree two was told where the function for it is called.
-use borrow.Author.Rules.{rules}
 use Rattle.pair_digits.proofs.gives_digit_by.Goals as goal
 
 pub gives_digit_at_two-requires : goal.gives_digit_at_two-requires

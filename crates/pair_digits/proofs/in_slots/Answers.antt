@@ -4,15 +4,15 @@ use Rattle.pair_digits.proofs.Slots.{slot_none, slot_some}
 use Rattle.ring.specs.Tests.{same}
 use lib.ListN.{get_or}
 use native.Mathlib.Omega.{arith}
+use borrow.Author.Tests.{le-ltb}
 use Prim.Native.Nat.{ℕ}
 use mathlib.Core.Path.{ap, ◌∙◌}
-use borrow.Author.Rules.{rules}
 use Rattle.pair_digits.proofs.in_slots.Goals as goal
 
-pub returns : goal.returns
-returns c =
+pub returns-else-digit-record_count : goal.returns-else-digit-record_count
+returns-else-digit-record_count c =
     let at = c.wide-digit.ensures.same ∙ ap (λ (i : ℕ). get_or c.args.slots.now i 0) c.slot_of-slot.ensures.slot in
-    slot_none (of_degree c.args.degree c.args.alphabet.now) c.args.slots.now c.requires.1 c.args.x c.wide-digit.result at (omega (arith, c.record_count.ensures, c.if-digit-record_count.false))
+    le-ltb _ _ c.if-digit-record_count.false ∙ slot_none (of_degree c.args.degree c.args.alphabet.now) c.args.slots.now c.requires.1 c.args.x c.wide-digit.result at (omega (arith, c.record_count.ensures, c.if-digit-record_count.false))
 
 pub returns-then-digit-record_count : goal.returns-then-digit-record_count
 returns-then-digit-record_count c =

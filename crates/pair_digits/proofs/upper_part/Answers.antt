@@ -10,7 +10,6 @@ use lib.ListN.{get_or}
 use lib.Dec.{lit≤}
 use Prim.Native.Nat.{ℕ, ◌+◌, ◌^◌, ◌<◌}
 use mathlib.Core.Path.{sym, ap, subst, ◌∙◌}
-use borrow.Author.Rules.{rules}
 use Rattle.pair_digits.proofs.upper_part.Goals as goal
 
 pub record_at-requires : goal.record_at-requires

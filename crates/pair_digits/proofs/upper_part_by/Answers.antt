@@ -1,5 +1,4 @@
 -- Degree two was told where the function for it is called.
-use borrow.Author.Rules.{rules}
 use Rattle.pair_digits.proofs.upper_part_by.Goals as goal
 
 pub upper_part_at_two-requires : goal.upper_part_at_two-requires

@@ -10,7 +10,7 @@ use Rattle.pair_sets.proofs.Pass.{all_next, none_judged}
 use Rattle.runs.proofs.Keys.{first_digit, ready_words}
 use Rattle.table_rules.proofs.Fitting.{reads, first_input}
 use Rattle.prefix_rules.proofs.Formed.{formed}
-use mathlib.Core.Path.{refl, sym, ap, ◌∙◌}
+use mathlib.Core.Path.{◌≡◌, refl, sym, ap, ◌∙◌}
 use Prim.Native.Nat.{ℕ, ◌+◌, ◌/◌, ◌<◌, ◌≤◌}
 use native.Mathlib.Omega.{arith}
 use lib.ListN.{get_or}
@@ -21,7 +21,7 @@ returns-then-not-slot_digits c = none_judged _ _ _ _ _
 
 pub loop-upper-init : goal.loop-upper-init
 unfolding pairs_below total
-loop-upper-init c = (omega arith, (omega arith, refl), λ u h. absurd (omega arith), λ i d e. absurd (omega (arith, e, zeros_none 64 i)))
+loop-upper-init c = (omega arith, refl, λ u h. absurd (omega arith), λ i d e. absurd (omega (arith, e, zeros_none 64 i)))
 
 pub fitting-run-requires : goal.fitting-run-requires
 fitting-run-requires c =
@@ -47,7 +47,7 @@ overflow_add-mark c = omega (arith, c.first_digit-mark.ensures.within)
 pub returns-then-set-known : goal.returns-then-set-known
 returns-then-set-known c =
     let loop = c.loop-upper in
-    record { some_leaves = omega (arith, c.leaf_count-leaf_count.ensures, loop.invariant.1.0); all_pass = loop.invariant.2; pairs_are = loop.invariant.1.1 }
+    record { some_leaves = omega (arith, c.leaf_count-leaf_count.ensures); all_pass = loop.invariant.2; pairs_are = loop.invariant.1 }
 
 pub overflow_add-pairs : goal.overflow_add-pairs
 overflow_add-pairs c =
@@ -55,8 +55,8 @@ overflow_add-pairs c =
     let table = of_degree a.degree a.leaves.now in
     let loop = c.loop-upper in
     let room = c.requires.room.5 in
-    let within = pairs_within (code_of table a.words.now) 4096 loop.upper (omega (arith, c.leaf_count-leaf_count.ensures, loop.invariant.1.0, room)) room in
-    omega (arith, loop.invariant.1.1, c.fitting-run.ensures.end.1, room, within)
+    let within = pairs_within (code_of table a.words.now) 4096 loop.upper (omega (arith, c.leaf_count-leaf_count.ensures, room)) room in
+    omega (arith, loop.invariant.1, c.fitting-run.ensures.end.1, room, within)
 
 pub loop-upper-preserved : goal.loop-upper-preserved
 loop-upper-preserved c =
@@ -70,10 +70,10 @@ loop-upper-preserved c =
     let fitting = c.fitting-run in
     let there : loop.upper + 1 ≤ leaf-count.result = omega (arith, c.loop-upper-test.true) in
     let is = formed leaves words (element_count inputs) pre.table.1 pre.table.2 in
-    let ready = ready_words leaves words (element_count inputs) is (λ i. omega (arith, c.shared_slice_known-4-1.given i)) in
+    let ready = ready_words leaves words (element_count inputs) is (λ i. omega (arith, c.type_inv.words i)) in
     let counted = fitting.ensures.count words (element_count inputs) pre.table.1 is ready pre.known.0 in (
       omega (arith, fitting.ensures.end.0, leaf-count.ensures),
-      (there, omega (arith, loop.invariant.1.1, counted, pairs_next (code_of leaves words) loop.upper)),
+      omega (arith, loop.invariant.1, counted, pairs_next (code_of leaves words) loop.upper),
       all_next leaves words (element_count inputs) pre.table.1 is a.base.now inputs (of_degree a.degree a.alphabet.now) a.numbers.now a.first.now a.count
           pre.known.1 loop.upper (omega (arith, leaf-count.ensures, there)) fitting.result.set c.judged-known.result
           (fitting.ensures.set words ready pre.known.0)
@@ -84,7 +84,9 @@ loop-upper-preserved c =
 pub returns : goal.returns
 returns c =
     let loop = c.loop-upper in
-    record { some_leaves = omega (arith, c.leaf_count-leaf_count.ensures, loop.invariant.1.0); all_pass = loop.invariant.2; pairs_are = loop.invariant.1.1 }
+    let counted = c.leaf_count-leaf_count.ensures in
+    let end : loop.upper ≡ c.leaf_count-leaf_count.result = omega arith in
+    record { some_leaves = omega (arith, counted); all_pass = λ u h. loop.invariant.2 u (omega (arith, h, end)); pairs_are = loop.invariant.1 ∙ ap (pairs_below (code_of (of_degree c.args.degree c.args.leaves.now) c.args.words.now)) end }
 
 pub judged-known-requires : goal.judged-known-requires
 judged-known-requires c =
@@ -99,7 +101,7 @@ judged-known-requires c =
     let loop = c.loop-upper in
     let is = formed leaves words (element_count inputs) pre.table.1 pre.table.2 in
     let there : loop.upper < leaf_count leaves = omega (arith, leaf-count.ensures) in
-    let ready = ready_words leaves words (element_count inputs) is (λ i. omega (arith, c.shared_slice_known-4-1.given i)) in
+    let ready = ready_words leaves words (element_count inputs) is (λ i. omega (arith, c.type_inv.words i)) in
     let first = c.first_digit-mark in
     let marked = ap (λ (x : ℕ). x + 1) (first.ensures.digit ∙ ap (λ (x : ℕ). x / 72057594037927936) (pre.known.0 loop.upper there) ∙ first_digit leaves words ready loop.upper there ∙ sym (reads leaves words (element_count inputs) pre.table.1 is loop.upper 0 there (is.some loop.upper there))) in
     let wide = c.wide-number in record {

@@ -4,7 +4,6 @@ use Rattle.pair_sets.proofs.Runs.{run_more}
 use mathlib.Core.Path.{◌≡◌, subst}
 use Prim.Native.Nat.{ℕ, ◌+◌}
 use native.Mathlib.Omega.{arith}
-use lib.ListN.{set}
 use Rattle.pair_sets.proofs.by_eights.Goals as goal
 
 pub loop-leaf-init : goal.loop-leaf-init

@@ -1,7 +1,6 @@
 -- The set has the weights of all leaves from the start up to this one, since each eight joined to it has its own.
 use Rattle.runs.specs.Words.{Between}
 use Prim.Native.Nat.{ℕ, ◌-◌}
-use lib.ListN.{set}
 use Rattle.pair_sets.specs.Runs.{InRun}
 use Rattle.weight_sets.specs.Weights.{Covers}
 use mathlib.Core.List.{List}

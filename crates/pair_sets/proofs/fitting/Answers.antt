@@ -10,7 +10,7 @@ use Rattle.weight_sets.specs.Weights.{Covers}
 use mathlib.Core.Path.{◌≡◌, refl, sym, ap, subst, ◌∙◌}
 use Prim.Native.Nat.{ℕ, ◌+◌, ◌-◌, ◌*◌, ◌%◌, ◌^◌, pred}
 use native.Mathlib.Omega.{arith}
-use lib.ListN.{length, get_or}
+use lib.ListN.{get_or}
 use Rattle.pair_sets.proofs.fitting.Goals as goal
 
 pub returns-then-length-eq1 : goal.returns-then-length-eq1

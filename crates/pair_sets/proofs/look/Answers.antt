@@ -12,8 +12,8 @@ use Prim.Native.Nat.{◌^◌}
 use native.Mathlib.Omega.{arith}
 use Rattle.pair_sets.proofs.look.Goals as goal
 
-pub returns-then-count-gt-WEIGHTS : goal.returns-then-count-gt-WEIGHTS
-returns-then-count-gt-WEIGHTS c = none_judged _ _ _ _ _
+pub returns-in_default : goal.returns-in_default
+returns-in_default c = none_judged _ _ _ _ _
 
 pub keys_of_by-requires : goal.keys_of_by-requires
 keys_of_by-requires c =
@@ -22,40 +22,21 @@ keys_of_by-requires c =
     let inputs = of_degree a.degree a.inputs.now in
     let words = a.words.now in
     let pre = c.requires in
-    let shared-slice-known5 = c.shared_slice_known-5-1 in
-    record { room = pre.room.0; ordered = ready_words leaves words (element_count inputs) (formed leaves words (element_count inputs) pre.table.1 pre.table.2) (λ i. omega (arith, shared-slice-known5.given i)) }
+    record { room = pre.room.0; ordered = ready_words leaves words (element_count inputs) (formed leaves words (element_count inputs) pre.table.1 pre.table.2) (λ i. omega (arith, c.type_inv.words i)) }
 
 pub eights-requires : goal.eights-requires
 eights-requires c =
     let pre = c.requires in
-    let number-weights-by = c.number_weights_by-count in
-    let numbers = c.numbers-1 in
-    let if1 = c.if-count-gt-WEIGHTS in record { room = (omega (arith, c.leaf_count.ensures, numbers.given, pre.room.2), omega (arith, c.leaf_count.ensures, pre.room.1)); weights = λ k h. omega (arith, (number-weights-by.ensures (omega (arith, if1.false)) k (omega (arith, c.leaf_count.ensures))).0, if1.false) }
+    let numbered = c.in-Some.ensures in
+    record { room = (omega (arith, c.leaf_count.ensures, pre.room.2), omega (arith, c.leaf_count.ensures, pre.room.1)); weights = λ k h. omega (arith, (numbered.1 k (omega (arith, c.leaf_count.ensures))).0, numbered.0) }
 
 pub all_in-requires : goal.all_in-requires
 all_in-requires c =
-    let a = c.args in
     let pre = c.requires in
-    let number-weights-by = c.number_weights_by-count in
-    let numbers = c.numbers-1 in
-    let first2 = c.first-2-1 in
-    let if1 = c.if-count-gt-WEIGHTS in
-    let keys_of = c.keys_of_by in
-    let keys = c.keys-1 in
-    let leaf-count = c.leaf_count in
-    let eights = c.eights in
-    let sets = c.sets-1 in
-    let base-of = c.base_of-matrix in record {
-      table = (subst (RowsWithin (2 ^ 21)) (sym base-of.ensures) (base_within (of_degree a.degree a.base.now) pre.table.0), pre.table.1, pre.table.2);
-      room = (
-        omega (arith, keys.given, pre.room.0),
-        omega (arith, numbers.given, pre.room.2),
-        omega (arith, sets.given, pre.room.1),
-        omega (arith, if1.false),
-        omega (arith, if1.false, first2.given),
-        pre.room.3,
-      );
-      known = (keys_of.ensures, number-weights-by.ensures (omega (arith, if1.false)), λ l k h there. eights.ensures l k h (omega (arith, there, leaf-count.ensures)));
+    let numbered = c.in-Some.ensures in record {
+      table = (subst (RowsWithin (2 ^ 21)) (sym c.base_of-matrix.ensures) (base_within (of_degree c.args.degree c.args.base.now) pre.table.0), pre.table.1, pre.table.2);
+      room = (omega (arith, pre.room.0), omega (arith, pre.room.2), omega (arith, pre.room.1), numbered.0, omega (arith, numbered.0), pre.room.3);
+      known = (c.keys_of_by.ensures, numbered.1, λ l k h there. c.eights.ensures l k h (omega (arith, there, c.leaf_count.ensures)));
     }
 
 pub returns : goal.returns

@@ -1,6 +1,5 @@
 -- The upper leaves so far pass.
 use mathlib.Core.Path.{◌≡◌}
-use Prim.Native.Nat.{◌-◌, ◌≤◌}
 use Rattle.layout_rules.specs.Section.{of_degree}
 use Rattle.leaf_rules.specs.Leaf.{code_of}
 use Rattle.table_rules.proofs.Bad.{UppersPass}
@@ -9,7 +8,4 @@ use Rattle.pairs.proofs.bad_pair.Given as goal
 
 abbrev pub invariant-loop-upper : goal.invariant-loop-upper
 invariant-loop-upper l =
-    UppersPass (of_degree l.degree l.base) (of_degree l.degree l.alphabet) (of_degree l.degree l.inputs) (of_degree l.degree l.leaves) l.words l.upper × (l.upper ≤ l.count) × (l.pairs ≡ pairs_below (code_of (of_degree l.degree l.leaves) l.words) l.upper)
-
-abbrev pub decreases-loop-upper : goal.decreases-loop-upper
-decreases-loop-upper l = l.count - l.upper
+    UppersPass (of_degree l.degree l.base) (of_degree l.degree l.alphabet) (of_degree l.degree l.inputs) (of_degree l.degree l.leaves) l.words l.upper × (l.pairs ≡ pairs_below (code_of (of_degree l.degree l.leaves) l.words) l.upper)

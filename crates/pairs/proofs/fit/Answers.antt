@@ -15,19 +15,13 @@ differing v w n i h apart = go (agree v w n) refl
     go false e = refl
 
 pub loop-i-init : goal.loop-i-init
-loop-i-init c = (omega arith, λ k h. absurd (none k h))
-  where
-    none : (k : ℕ) → k < 0 → ⊥
-    none k h = omega arith
+loop-i-init c = λ k h. absurd (omega arith)
 
 pub returns-then-upper-i : goal.returns-then-upper-i
-returns-then-upper-i c = sym (agree_complete _ _ _ (λ k h. c.loop-i.invariant.1 k (omega arith)))
-
-pub returns-then-upper-i-2 : goal.returns-then-upper-i-2
-returns-then-upper-i-2 c = differing _ _ _ c.loop-i.i (omega arith) c.if-upper-i-2.true
+returns-then-upper-i c = differing _ _ _ c.loop-i.i (omega arith) c.if-upper-i.true
 
 pub loop-i-preserved : goal.loop-i-preserved
-loop-i-preserved c = (omega arith, below_more _ _ c.loop-i.invariant.1 c.if-upper-i-2.false)
+loop-i-preserved c = below_more _ _ c.loop-i.invariant c.if-upper-i.false
 
 pub returns : goal.returns
-returns c = sym (agree_complete _ _ _ (λ k h. c.loop-i.invariant.1 k (omega arith)))
+returns c = sym (agree_complete _ _ _ (λ k h. c.loop-i.invariant k (omega arith)))

@@ -2,11 +2,8 @@
 use mathlib.Core.Path.{◌≡◌}
 use Rattle.numeration.specs.Conversion.{window}
 use lib.ListN.{get_or}
-use Prim.Native.Nat.{ℕ, ◌+◌, ◌-◌, ◌<◌, ◌≤◌}
+use Prim.Native.Nat.{ℕ, ◌+◌, ◌<◌}
 use Rattle.place_weights.proofs.begins_below.Given as goal
 
 abbrev pub invariant-loop-k : goal.invariant-loop-k
-invariant-loop-k l = (1 ≤ l.k) × ((i : ℕ) → i < l.k → get_or l.words (l.start + i) 0 ≡ window l.row l.place i)
-
-abbrev pub decreases-loop-k : goal.decreases-loop-k
-decreases-loop-k l = l.n - l.k
+invariant-loop-k l = (i : ℕ) → i < l.k → get_or l.words (l.start + i) 0 ≡ window l.row l.place i

@@ -24,4 +24,4 @@ returns c =
     let found = c.look_up_within-below in
     let is = leaf_found leaves words a.row.now s.requires.0 a.place found.result.leaf found.result.length
     (subst (λ w. LookedUp (code_of leaves words) w found.result.leaf) c.window_below.ensures found.ensures.leaf) found.ensures.length in
-    record { leaf = record { is_leaf = is.is_leaf; is_size = refl; listed = is.listed }; reach = c.greatest.ensures ∙ ap (max a.reach) is.is_size }
+    record { leaf = record { is_leaf = is.is_leaf; is_size = refl; listed = is.listed }; reach = c.max.ensures ∙ ap (max a.reach) is.is_size }

@@ -1,5 +1,4 @@
 -- Each turn writes the index of one digit, counts the length of the word looked up for it, and hands its leaf on to the next place.
-use Prim.Native.Nat.{◌-◌}
 use Rattle.layout_rules.specs.Section.{of_degree}
 use Rattle.numeration.specs.Elements.{elements}
 use Rattle.places.specs.Helpers.{Firsts}
@@ -11,6 +10,3 @@ use Rattle.places.proofs.convert.Given as goal
 abbrev pub invariant-loop-k : goal.invariant-loop-k
 invariant-loop-k l =
     Converted (elements (part_count l.degree) l.base) (of_degree l.degree l.alphabet) (of_degree l.degree l.inputs) (of_degree l.degree l.leaves) l.words l.row l.from l.count l.initial.out l.out l.below l.reach l.k × Firsts (of_degree l.degree l.alphabet) l.slots × Counted (of_degree l.degree l.leaves) l.found l.reach
-
-abbrev pub decreases-loop-k : goal.decreases-loop-k
-decreases-loop-k l = l.count - l.k

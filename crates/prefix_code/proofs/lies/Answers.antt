@@ -1,17 +1,13 @@
 -- Each test that fails says no; past all of them the word lies as it is to.
 use mathlib.Core.Path.{refl}
 use Rattle.lists.proofs.Test.{clash}
-use borrow.Author.Rules.{rules}
 use Rattle.prefix_code.proofs.lies.Goals as goal
 
--- src/lib.rt:37:9
 pub returns-then-start-place : goal.returns-then-start-place
 returns-then-start-place c = λ t. clash t refl
 
--- src/lib.rt:40:9
 pub returns-then-length-lt1 : goal.returns-then-length-lt1
 returns-then-length-lt1 c = λ t. clash t refl
 
--- src/lib.rt:43:9
 pub returns-then-length-gt-LONGEST : goal.returns-then-length-gt-LONGEST
 returns-then-length-gt-LONGEST c = λ t. clash t refl

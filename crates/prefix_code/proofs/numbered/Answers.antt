@@ -1,64 +1,50 @@
 use mathlib.Core.Path.{refl}
 use lib.ListN.{get_or}
 use native.Mathlib.Omega.{arith}
-use borrow.Author.Tests.{not-false, eqb-true}
+use borrow.Author.Tests.{eqb-true}
 use Rattle.layout_rules.specs.Section.{of_degree}
 use Rattle.lists.proofs.Test.{clash}
-use Rattle.prefix_code.proofs.Quick.{strings_room, strings_all, SoFar, so_far_first, so_far_next, floor_room, share_small, all_kept}
-use Prim.Native.Nat.{◌-◌}
+use Rattle.prefix_code.proofs.Quick.{strings_room, strings_all, so_far_first, so_far_next, floor_room, share_small, all_kept}
 use Rattle.prefix_code.proofs.numbered.Goals as goal
 
--- src/lib.rt:61:5
 pub loop-leaf-init : goal.loop-leaf-init
 loop-leaf-init c = so_far_first (of_degree c.args.degree c.args.leaves.now) c.args.words.now c.args.inputs
 
--- src/lib.rt:62:13
 pub word_start-start-requires : goal.word_start-start-requires
 word_start-start-requires c = omega (arith, c.leaf_count-count.ensures)
 
--- src/lib.rt:63:13
 pub word_length-length-requires : goal.word_length-length-requires
 word_length-length-requires c = omega (arith, c.leaf_count-count.ensures)
 
--- src/lib.rt:64:13
 pub lies-requires : goal.lies-requires
 lies-requires c = (c.word_start-start.ensures.within, c.word_length-length.ensures.within)
 
--- src/lib.rt:65:13
 pub returns-then-not-lies : goal.returns-then-not-lies
 returns-then-not-lies c = λ t. clash t refl
 
--- src/lib.rt:67:73
 pub offset_bounds-units-length : goal.offset_bounds-units-length
 offset_bounds-units-length c = omega (arith, c.word_length-length.ensures.within)
 
--- src/lib.rt:67:73
 pub bounds-units-length : goal.bounds-units-length
 bounds-units-length c = omega (arith, (c.lies.ensures c.if-not-lies.false).2)
 
--- src/lib.rt:67:13
 pub word_number_by-number-requires : goal.word_number_by-number-requires
 word_number_by-number-requires c =
     let l = c.lies.ensures c.if-not-lies.false in
     (l.2, l.3, c.powers-units.ensures c.word_length-length.result l.1 l.2)
 
--- src/lib.rt:69:13
 pub returns-then-number-floor : goal.returns-then-number-floor
 returns-then-number-floor c = λ t. clash t refl
 
--- src/lib.rt:71:15
 pub overflow_add-end : goal.overflow_add-end
 overflow_add-end c = omega (arith, c.word_start-start.ensures.within, c.word_length-length.ensures.within)
 
--- src/lib.rt:72:26
 pub offset_bounds-units-length-in-loop-leaf : goal.offset_bounds-units-length-in-loop-leaf
 offset_bounds-units-length-in-loop-leaf c = omega (arith, c.word_length-length.ensures.within)
 
--- src/lib.rt:72:26
 pub bounds-units-length-in-loop-leaf : goal.bounds-units-length-in-loop-leaf
 bounds-units-length-in-loop-leaf c = omega (arith, (c.lies.ensures c.if-not-lies.false).2)
 
--- src/lib.rt:72:17
 pub overflow_add-floor : goal.overflow_add-floor
 overflow_add-floor c =
     let a = c.args in
@@ -78,15 +64,12 @@ overflow_add-floor c =
           (powers2.ensures word-length.result l.1 l.2) pre.sizes.1 pre.indexes,
     )
 
--- src/lib.rt:73:20
 pub offset_bounds-shares-length : goal.offset_bounds-shares-length
 offset_bounds-shares-length c = omega (arith, c.word_length-length.ensures.within)
 
--- src/lib.rt:73:20
 pub bounds-shares-length : goal.bounds-shares-length
 bounds-shares-length c = omega (arith, (c.lies.ensures c.if-not-lies.false).2)
 
--- src/lib.rt:73:9
 pub overflow_add-strings : goal.overflow_add-strings
 overflow_add-strings c =
     let a = c.args in
@@ -99,15 +82,6 @@ overflow_add-strings c =
     let l = c.lies.ensures c.if-not-lies.false in
     omega (arith, leaf-count.ensures, pre.sizes.2, loop-test.true, loop.invariant.small, share_small a.inputs word-length.result (get_or powers2.result word-length.result 0) pre.sizes.1 l.1 (powers2.ensures word-length.result l.1 l.2))
 
--- src/lib.rt:74:9
-pub overflow_add-leaf : goal.overflow_add-leaf
-overflow_add-leaf c = omega (arith, c.leaf_count-count.ensures, c.requires.sizes.2, c.loop-leaf-test.true)
-
--- src/lib.rt:61:5
-pub loop-leaf-smaller : goal.loop-leaf-smaller
-loop-leaf-smaller c = omega (arith, c.loop-leaf-test.true)
-
--- src/lib.rt:61:5
 pub loop-leaf-preserved : goal.loop-leaf-preserved
 loop-leaf-preserved c =
     let a = c.args in
@@ -124,15 +98,12 @@ loop-leaf-preserved c =
     (omega (arith, leaf-count.ensures)) word-start.ensures.start word-length.ensures.size l c.word_number_by-number.ensures (powers.ensures word-length.result l.1 l.2)
     (powers2.ensures word-length.result l.1 l.2) pre.sizes.1 (omega (arith, c.if-number-floor.false))
 
--- src/lib.rt:77:9
 pub returns-then-end-words : goal.returns-then-end-words
 returns-then-end-words c = λ t. clash t refl
 
--- src/lib.rt:79:16
 pub overflow_mul-result : goal.overflow_mul-result
 overflow_mul-result c = omega (arith, strings_room c.args.inputs (get_or c.powers-shares.result 1 0) c.requires.sizes.1 (c.powers-shares.ensures 1 (omega arith) (omega arith)))
 
--- src/lib.rt:50:1
 pub returns : goal.returns
 returns c =
     let a = c.args in

@@ -4,26 +4,20 @@ use native.Mathlib.Omega.{arith}
 use Rattle.layout_rules.specs.Section.{of_degree}
 use Rattle.lists.proofs.Test.{clash}
 use Rattle.prefix_code.proofs.Quick.{code_kept}
-use borrow.Author.Rules.{rules}
 use Rattle.prefix_code.proofs.well_coded.Goals as goal
 
--- src/lib.rt:87:9
 pub returns-then-inputs-lt1 : goal.returns-then-inputs-lt1
 returns-then-inputs-lt1 c = λ t. clash t refl
 
--- src/lib.rt:90:9
 pub returns-then-inputs-gt136 : goal.returns-then-inputs-gt136
 returns-then-inputs-gt136 c = λ t. clash t refl
 
--- src/lib.rt:93:9
 pub returns-then-leaf_count-gt8191 : goal.returns-then-leaf_count-gt8191
 returns-then-leaf_count-gt8191 c = λ t. clash t refl
 
--- src/lib.rt:96:9
 pub returns-then-inputs-wide : goal.returns-then-inputs-wide
 returns-then-inputs-wide c = λ t. clash t refl
 
--- src/lib.rt:98:5
 pub numbered-requires : goal.numbered-requires
 numbered-requires c = record {
   sizes = (
@@ -34,7 +28,6 @@ numbered-requires c = record {
   indexes = λ k h. omega (arith, c.highest.ensures k h, c.wide.ensures.same, c.if-inputs-wide.false);
 }
 
--- src/lib.rt:83:1
 pub returns : goal.returns
 returns c =
     let a = c.args in

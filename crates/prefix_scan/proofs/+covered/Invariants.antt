@@ -11,6 +11,3 @@ decreases-covered l = l.left
 
 abbrev pub invariant-loop-digit : goal.invariant-loop-digit
 invariant-loop-digit l = (l.from ≤ l.high) × (spec.every_run (code_of (of_degree l.degree l.leaves) l.words) (spec.covered (code_of (of_degree l.degree l.leaves) l.words) l.inputs (l.left - 1) (8 - (l.left - 1))) (8 - l.left) l.digit (l.inputs - l.digit) l.from l.high ≡ spec.covered (code_of (of_degree l.degree l.leaves) l.words) l.inputs l.left (8 - l.left) l.low l.high)
-
-abbrev pub decreases-loop-digit : goal.decreases-loop-digit
-decreases-loop-digit l = l.inputs - l.digit

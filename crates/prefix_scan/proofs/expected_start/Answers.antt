@@ -1,6 +1,5 @@
 -- The first leaf is apart; any other starts where the one before ends.
 use native.Mathlib.Omega.{arith}
-use borrow.Author.Rules.{rules}
 use Rattle.layout_rules.specs.Section.{of_degree}
 use Rattle.prefix_rules.proofs.Place.{expected_first, expected_next}
 use Rattle.prefix_scan.proofs.expected_start.Goals as goal

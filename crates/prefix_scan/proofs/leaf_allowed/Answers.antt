@@ -1,6 +1,5 @@
 -- Each test of rule 9 in turn; a leaf that passes all is inside, or is the last and ends the section.
 use native.Mathlib.Omega.{arith}
-use borrow.Author.Rules.{rules}
 use Rattle.layout_rules.specs.Section.{of_degree}
 use Rattle.leaf_rules.proofs.Leaf.{leaves_most}
 use Rattle.prefix_rules.proofs.Place.{leaf_empty, leaf_long, leaf_elsewhere, leaf_past, leaf_inner, leaf_last}

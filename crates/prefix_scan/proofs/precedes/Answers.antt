@@ -1,7 +1,6 @@
 -- The comparison of the two words as they are read from their places.
 use mathlib.Core.Path.{◌∙◌, ap₂}
 use Prim.Native.Nat.{min}
-use borrow.Author.Rules.{rules}
 use native.Mathlib.Omega.{arith}
 use Rattle.leaf_rules.proofs.Leaf.{leaves_most}
 use Rattle.layout_rules.specs.Section.{of_degree}
@@ -20,4 +19,4 @@ returns c =
     let word-start = c.word_start-a in
     let word-start2 = c.word_start-b in
     c.lower.ensures ∙ words_read (of_degree a.degree a.leaves.now) a.words.now _ _ _ _ _ word-start.ensures.start word-start2.ensures.start
-    (c.least-n.ensures ∙ ap₂ min c.word_length.ensures.size c.word_length-2.ensures.size)
+    (c.min-n.ensures ∙ ap₂ min c.word_length.ensures.size c.word_length-2.ensures.size)

@@ -1,18 +1,14 @@
 use mathlib.Core.Path.{◌≡◌, refl, sym, ◌∙◌}
-use Prim.Native.Nat.{◌-◌, ◌≤◌}
-use lib.Dec.{eqb}
+use native.Mathlib.Omega.{arith}
 use borrow.Author.Tests.{eq-eqb, ne_eqb}
-use borrow.Author.Rules.{rules}
 use Rattle.layout_rules.specs.Section.{of_degree}
 use Rattle.lists.proofs.Scan.{scan_on, scan_here, scan_out}
-use Rattle.lists.specs.Scan.{first_failing}
 use Rattle.prefix_rules.specs.Coverage.{run_end}
-use Rattle.leaf_rules.specs.Leaf.{code_of}
 use Rattle.prefix_rules.proofs.Coverage.{digit_read}
 use Rattle.prefix_scan.proofs.run_end.Goals as goal
 
 pub loop-leaf-init : goal.loop-leaf-init
-loop-leaf-init c = (search rules, refl)
+loop-leaf-init c = refl
 
 pub returns-then-wide-digit : goal.returns-then-wide-digit
 unfolding run_end
@@ -21,7 +17,7 @@ returns-then-wide-digit c =
     let loop = c.loop-leaf in
     let loop-test = c.loop-leaf-test in
     let read = c.wide.ensures.same ∙ digit_read (of_degree a.degree a.leaves.now) a.words.now loop.leaf a.place _ _ c.word_start.ensures.start c.byte_at.ensures in
-    sym (scan_here _ _ a.high loop-test.true (ne_eqb _ _ (λ q. c.if-wide-digit.true (read ∙ q)))) ∙ loop.invariant.1
+    sym (scan_here _ _ a.high loop-test.true (ne_eqb _ _ (λ q. c.if-wide-digit.true (read ∙ q)))) ∙ loop.invariant
 
 pub loop-leaf-preserved : goal.loop-leaf-preserved
 loop-leaf-preserved c =
@@ -29,8 +25,10 @@ loop-leaf-preserved c =
     let loop = c.loop-leaf in
     let loop-test = c.loop-leaf-test in
     let read = c.wide.ensures.same ∙ digit_read (of_degree a.degree a.leaves.now) a.words.now loop.leaf a.place _ _ c.word_start.ensures.start c.byte_at.ensures in
-    (search rules, sym (scan_on _ _ a.high loop-test.true (eq-eqb _ _ (sym read ∙ c.if-wide-digit.false))) ∙ loop.invariant.1)
+    sym (scan_on _ _ a.high loop-test.true (eq-eqb _ _ (sym read ∙ c.if-wide-digit.false))) ∙ loop.invariant
 
 pub returns : goal.returns
 unfolding run_end
-returns c = sym (scan_out _ _ c.args.high c.loop-leaf-test.false) ∙ c.loop-leaf.invariant.1
+returns c =
+    let at : c.args.high ≡ c.loop-leaf.leaf = omega (arith, c.loop-leaf.auto.leaf-end c.requires.1, c.loop-leaf-test.false) in
+    at ∙ sym (scan_out _ _ c.args.high c.loop-leaf-test.false) ∙ c.loop-leaf.invariant

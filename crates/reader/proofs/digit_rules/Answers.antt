@@ -3,6 +3,7 @@ use Rattle.reader_rules.proofs.Kept.{layout_kept, section_is}
 use Rattle.reader_rules.specs.Check.{digit_check_of}
 use Rattle.digit_rules.proofs.Passed.{base_ready}
 use Rattle.digit_rules.specs.Digits.{digit_check, BasePart}
+use Rattle.faults.specs.Passed.{passed}
 use lib.Dec.{lit<}
 use mathlib.Core.Path.{sym, subst, ◌∙◌}
 use Rattle.reader.proofs.digit_rules.Goals as goal
@@ -28,4 +29,4 @@ unfolding digit_check_of
 returns c =
     let file = c.args.file.now in
     let told = c.degree_in-degree.ensures in
-    c.digits.ensures ∙ (λ i. digit_check (section_is file _ _ 0 told c.section.ensures i) (section_is file _ _ 1 told c.section-2.ensures i) (section_is file _ _ 2 told c.section-3.ensures i))
+    c.digits.ensures ∙ (λ i. passed (digit_check (section_is file _ _ 0 told c.section.ensures i) (section_is file _ _ 1 told c.section-2.ensures i) (section_is file _ _ 2 told c.section-3.ensures i)))

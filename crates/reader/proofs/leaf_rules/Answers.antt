@@ -3,6 +3,7 @@ use Rattle.layout_rules.specs.Section.{record_count}
 use Rattle.reader_rules.proofs.Kept.{layout_kept, section_is}
 use Rattle.reader_rules.specs.Check.{leaf_check_of}
 use Rattle.prefix_rules.specs.Check.{leaf_check}
+use Rattle.faults.specs.Passed.{passed}
 use lib.Dec.{lit<}
 use mathlib.Core.Path.{ap, ◌∙◌}
 use Rattle.reader.proofs.leaf_rules.Goals as goal
@@ -22,4 +23,4 @@ returns c =
     let file = c.args.file.now in
     let told = c.degree_in-degree.ensures in
     let inputs = c.record_count-inputs.ensures ∙ ap (record_count 2) (section_is file _ _ 2 told c.section.ensures) in
-    c.prefix_code.ensures ∙ (λ i. leaf_check (section_is file _ _ 3 told c.section-2.ensures i) (c.section-3.ensures i) (inputs i))
+    c.prefix_code.ensures ∙ (λ i. passed (leaf_check (section_is file _ _ 3 told c.section-2.ensures i) (c.section-3.ensures i) (inputs i)))

@@ -25,7 +25,7 @@ inputs_of-row-requires c =
     let s = c in
     let a = s.args in
     let pre = s.requires in
-    let part-start = c.part_start-from in
+    let part-start = c.saturating_sub-from in
     let part-end = c.part_end-end in
     let b = bytes_asked a.table.now a.change (lent) pre.table pre.rows pre.edit
     part-start.result part-end.result a.depth pre.depth part-start.ensures part-end.ensures.above part-end.ensures.within part-end.ensures.reach in
@@ -38,7 +38,7 @@ digits_of-found-requires c =
     let s = c in
     let a = s.args in
     let pre = s.requires in
-    let part-start = c.part_start-from in
+    let part-start = c.saturating_sub-from in
     let part-end = c.part_end-end in
     let inputs-of = c.inputs_of-row in
     let held = row_inputs a.table.now a.change (lent) pre.table pre.rows pre.edit
@@ -52,7 +52,7 @@ returns-then-found-depth c =
     let s = c in
     let a = s.args in
     let pre = s.requires in
-    let part-start = c.part_start-from in
+    let part-start = c.saturating_sub-from in
     let part-end = c.part_end-end in
     let inputs-of = c.inputs_of-row in
     let digits_of = c.digits_of-found in
@@ -83,7 +83,7 @@ pub slice_bounds-digits-end : goal.slice_bounds-digits-end
 slice_bounds-digits-end c =
     let lent : State = state c.args.first.now c.args.second.now c.args.sum.now in
     let few : c.args.depth ≤ 8 = let pre = c.requires in omega (arith, pre.depth, shallow c.args.table.now c.args.change (lent) pre.table pre.rows pre.edit) in
-    let long : length c.digits_of-found.new.out ≡ 9 = let s = c in let a = s.args in let pre = s.requires in let part-start = c.part_start-from in let part-end = c.part_end-end in let inputs-of = c.inputs_of-row in ap length c.digits_of-found.ensures.digits ∙ digits_room a.table.now a.change (lent) pre.table pre.rows pre.edit part-start.result part-end.result a.depth pre.depth part-start.ensures part-end.ensures.above part-end.ensures.within part-end.ensures.reach inputs-of.result inputs-of.ensures c.digits_of-found.result.count c.digits_of-found.ensures.count (replicate 9 0) (omega (arith, length-replicate {A = ℕ} 9 0, few)) ∙ length-replicate {A = ℕ} 9 0 in
+    let long : length c.digits_of-found.new.out ≡ 9 = let s = c in let a = s.args in let pre = s.requires in let part-start = c.saturating_sub-from in let part-end = c.part_end-end in let inputs-of = c.inputs_of-row in ap length c.digits_of-found.ensures.digits ∙ digits_room a.table.now a.change (lent) pre.table pre.rows pre.edit part-start.result part-end.result a.depth pre.depth part-start.ensures part-end.ensures.above part-end.ensures.within part-end.ensures.reach inputs-of.result inputs-of.ensures c.digits_of-found.result.count c.digits_of-found.ensures.count (replicate 9 0) (omega (arith, length-replicate {A = ℕ} 9 0, few)) ∙ length-replicate {A = ℕ} 9 0 in
     let s = c in
     let pre = s.requires in
     omega (arith, long, few)
@@ -92,7 +92,7 @@ pub slice_bounds-renew-end-2 : goal.slice_bounds-renew-end-2
 slice_bounds-renew-end-2 c =
     let lent : State = state c.args.first.now c.args.second.now c.args.sum.now in
     let few : c.args.depth ≤ 8 = let pre = c.requires in omega (arith, pre.depth, shallow c.args.table.now c.args.change (lent) pre.table pre.rows pre.edit) in
-    let long : length c.digits_of-found.new.out ≡ 9 = let s = c in let a = s.args in let pre = s.requires in let part-start = c.part_start-from in let part-end = c.part_end-end in let inputs-of = c.inputs_of-row in ap length c.digits_of-found.ensures.digits ∙ digits_room a.table.now a.change (lent) pre.table pre.rows pre.edit part-start.result part-end.result a.depth pre.depth part-start.ensures part-end.ensures.above part-end.ensures.within part-end.ensures.reach inputs-of.result inputs-of.ensures c.digits_of-found.result.count c.digits_of-found.ensures.count (replicate 9 0) (omega (arith, length-replicate {A = ℕ} 9 0, few)) ∙ length-replicate {A = ℕ} 9 0 in
+    let long : length c.digits_of-found.new.out ≡ 9 = let s = c in let a = s.args in let pre = s.requires in let part-start = c.saturating_sub-from in let part-end = c.part_end-end in let inputs-of = c.inputs_of-row in ap length c.digits_of-found.ensures.digits ∙ digits_room a.table.now a.change (lent) pre.table pre.rows pre.edit part-start.result part-end.result a.depth pre.depth part-start.ensures part-end.ensures.above part-end.ensures.within part-end.ensures.reach inputs-of.result inputs-of.ensures c.digits_of-found.result.count c.digits_of-found.ensures.count (replicate 9 0) (omega (arith, length-replicate {A = ℕ} 9 0, few)) ∙ length-replicate {A = ℕ} 9 0 in
     let s = c in
     let a = s.args in
     let pre = s.requires in
@@ -102,7 +102,7 @@ pub renew-count-requires : goal.renew-count-requires
 renew-count-requires c =
     let lent : State = state c.args.first.now c.args.second.now c.args.sum.now in
     let few : c.args.depth ≤ 8 = let pre = c.requires in omega (arith, pre.depth, shallow c.args.table.now c.args.change (lent) pre.table pre.rows pre.edit) in
-    let long : length c.digits_of-found.new.out ≡ 9 = let s = c in let a = s.args in let pre = s.requires in let part-start = c.part_start-from in let part-end = c.part_end-end in let inputs-of = c.inputs_of-row in ap length c.digits_of-found.ensures.digits ∙ digits_room a.table.now a.change (lent) pre.table pre.rows pre.edit part-start.result part-end.result a.depth pre.depth part-start.ensures part-end.ensures.above part-end.ensures.within part-end.ensures.reach inputs-of.result inputs-of.ensures c.digits_of-found.result.count c.digits_of-found.ensures.count (replicate 9 0) (omega (arith, length-replicate {A = ℕ} 9 0, few)) ∙ length-replicate {A = ℕ} 9 0 in
+    let long : length c.digits_of-found.new.out ≡ 9 = let s = c in let a = s.args in let pre = s.requires in let part-start = c.saturating_sub-from in let part-end = c.part_end-end in let inputs-of = c.inputs_of-row in ap length c.digits_of-found.ensures.digits ∙ digits_room a.table.now a.change (lent) pre.table pre.rows pre.edit part-start.result part-end.result a.depth pre.depth part-start.ensures part-end.ensures.above part-end.ensures.within part-end.ensures.reach inputs-of.result inputs-of.ensures c.digits_of-found.result.count c.digits_of-found.ensures.count (replicate 9 0) (omega (arith, length-replicate {A = ℕ} 9 0, few)) ∙ length-replicate {A = ℕ} 9 0 in
     let s = c in
     let a = s.args in
     let pre = s.requires in
@@ -117,11 +117,11 @@ renew-count-requires c =
 pub returns : goal.returns
 returns c =
     let lent : State = state c.args.first.now c.args.second.now c.args.sum.now in
-    let found : (let s = c in let a = s.args in a.depth < c.digits_of-found.result.count → take (a.depth + 1) c.digits_of-found.new.out ≡ row_part a.table.now (new_inputs a.table.now a.change (lent)) a.change.place (renewed_count a.table.now)) = λ h. let s = c in let a = s.args in let pre = s.requires in let part-start = c.part_start-from in let part-end = c.part_end-end in let inputs-of = c.inputs_of-row in ap (take (a.depth + 1)) c.digits_of-found.ensures.digits ∙ digits_found a.table.now a.change (lent) pre.table pre.rows pre.edit part-start.result part-end.result a.depth pre.depth part-start.ensures part-end.ensures.above part-end.ensures.within part-end.ensures.reach inputs-of.result inputs-of.ensures c.digits_of-found.result.count c.digits_of-found.ensures.count (replicate 9 0) h in
+    let found : (let s = c in let a = s.args in a.depth < c.digits_of-found.result.count → take (a.depth + 1) c.digits_of-found.new.out ≡ row_part a.table.now (new_inputs a.table.now a.change (lent)) a.change.place (renewed_count a.table.now)) = λ h. let s = c in let a = s.args in let pre = s.requires in let part-start = c.saturating_sub-from in let part-end = c.part_end-end in let inputs-of = c.inputs_of-row in ap (take (a.depth + 1)) c.digits_of-found.ensures.digits ∙ digits_found a.table.now a.change (lent) pre.table pre.rows pre.edit part-start.result part-end.result a.depth pre.depth part-start.ensures part-end.ensures.above part-end.ensures.within part-end.ensures.reach inputs-of.result inputs-of.ensures c.digits_of-found.result.count c.digits_of-found.ensures.count (replicate 9 0) h in
     let s = c in
     let a = s.args in
     let pre = s.requires in
-    let part-start = c.part_start-from in
+    let part-start = c.saturating_sub-from in
     let part-end = c.part_end-end in
     let inputs-of = c.inputs_of-row in
     let digits_of = c.digits_of-found in

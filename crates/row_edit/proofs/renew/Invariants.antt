@@ -7,7 +7,4 @@ use mathlib.Core.Path.{◌≡◌}
 use Rattle.row_edit.proofs.renew.Given as goal
 
 abbrev pub invariant-loop-k : goal.invariant-loop-k
-invariant-loop-k l = (l.k ≤ length l.initial.part) × (l.part ≡ overwrite l.initial.part 0 (take l.k l.digits)) × (length l.part ≡ length l.initial.part) × (l.count ≤ l.k) × (l.count + differing l.initial.part l.digits l.k (length l.initial.part - l.k) ≡ differing l.initial.part l.digits 0 (length l.initial.part))
-
-abbrev pub decreases-loop-k : goal.decreases-loop-k
-decreases-loop-k l = length l.initial.part - l.k
+invariant-loop-k l = (l.part ≡ overwrite l.initial.part 0 (take l.k l.digits)) × (l.count ≤ l.k) × (l.count + differing l.initial.part l.digits l.k (length l.initial.part - l.k) ≡ differing l.initial.part l.digits 0 (length l.initial.part))

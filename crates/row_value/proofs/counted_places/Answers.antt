@@ -2,17 +2,8 @@
 use Rattle.layout_rules.specs.Section.{of_degree}
 use Rattle.digit_rules.specs.Record.{record_at}
 use Rattle.ring.proofs.Element.{same→≡}
-use borrow.Author.Tests.{not-false}
-use native.Mathlib.Omega.{arith}
 use mathlib.Core.Path.{sym, ap, ◌∙◌}
-use borrow.Author.Rules.{rules}
 use Rattle.row_value.proofs.counted_places.Goals as goal
-
-pub returns-then-record_count-eq0 : goal.returns-then-record_count-eq0
-returns-then-record_count-eq0 c = record { within = omega arith; zeros = λ k low high. absurd (omega arith) }
-
-pub returns-then-not-equal : goal.returns-then-not-equal
-returns-then-not-equal c = record { within = omega arith; zeros = λ k low high. absurd (omega arith) }
 
 pub returns : goal.returns
 returns c =

@@ -1,5 +1,4 @@
 -- Degree two was told where the function for it is called.
-use borrow.Author.Rules.{rules}
 use Rattle.row_value.proofs.row_value_by.Goals as goal
 
 pub row_value_at_two-requires : goal.row_value_at_two-requires

@@ -3,7 +3,6 @@ use mathlib.Core.List.{List}
 use mathlib.Core.Path.{sym, ap}
 use Prim.Native.Nat.{ℕ}
 use lib.ListN.{get_or}
-use borrow.Author.Rules.{rules}
 use Rattle.row_rules.proofs.Changed.{changed_other, changed_outside, changed_elsewhere, changed_here}
 use Rattle.rows.proofs.byte_at.Goals as goal
 

@@ -1,17 +1,17 @@
 -- One check, and the next where it found nothing.
-use borrow.Author.Rules.{rules}
-use Rattle.faults.proofs.Check.{found_first, found_next}
+use mathlib.Core.Path.{◌∙◌}
+use Rattle.faults.proofs.Passed.{passed_first, passed_next}
 use Rattle.row_rules.specs.Check.{edit_check}
 use Rattle.rows.proofs.edit_check.Goals as goal
 
-pub returns-then-by_row-ne0 : goal.returns-then-by_row-ne0
+pub returns-in_err-judge_one : goal.returns-in_err-judge_one
 unfolding edit_check
-returns-then-by_row-ne0 c = found_first _ _ _ c.judge_one-by_row.ensures c.if-by_row-ne0.true
+returns-in_err-judge_one c = passed_first _ _ c.from_residual.ensures.1 c.in_err-judge_one.ensures
 
-pub returns-then-by_place-ne0 : goal.returns-then-by_place-ne0
+pub returns-in_err-judge_one-2 : goal.returns-in_err-judge_one-2
 unfolding edit_check
-returns-then-by_place-ne0 c = found_next _ _ _ _ c.judge_one-by_row.ensures c.if-by_row-ne0.false (found_first _ _ _ c.judge_one-by_place.ensures c.if-by_place-ne0.true)
+returns-in_err-judge_one-2 c = passed_first _ _ c.from_residual-in_err-judge_one-2.ensures.1 c.in_err-judge_one-2.ensures ∙ passed_next _ _ c.in_ok-judge_one.ensures
 
 pub returns : goal.returns
 unfolding edit_check
-returns c = found_next _ _ _ _ c.judge_one-by_row.ensures c.if-by_row-ne0.false (found_next _ _ _ _ c.judge_one-by_place.ensures c.if-by_place-ne0.false c.judge_one.ensures)
+returns c = c.judge_one-3.ensures ∙ passed_next _ _ c.in_ok-judge_one-2.ensures ∙ passed_next _ _ c.in_ok-judge_one.ensures

@@ -2,8 +2,8 @@
 use Rattle.row_rules.proofs.Allowed.{over, not_over}
 use Rattle.rows.proofs.lengths_allowed.Goals as goal
 
-pub returns-then-n-gt256 : goal.returns-then-n-gt256
-returns-then-n-gt256 c = over _ _ c.if-n-gt256.true
+pub returns-then-n-le256 : goal.returns-then-n-le256
+returns-then-n-le256 c = not_over _ _ c.if-n-le256.true
 
-pub returns : goal.returns
-returns c = not_over _ _ c.if-n-gt256.false
+pub returns-else-n-le256 : goal.returns-else-n-le256
+returns-else-n-le256 c = over _ _ c.if-n-le256.false

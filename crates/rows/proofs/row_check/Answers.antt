@@ -1,37 +1,29 @@
 -- One check, and the next where it found nothing.
-use mathlib.Core.Path.{◌≡◌, ◌∙◌, ap}
-use lib.ListN.{length}
-use borrow.Author.Rules.{rules}
-use Rattle.faults.proofs.Check.{found_first, found_next}
-use Rattle.row_rules.specs.Check.{judge_one, lengths_allowed, row_check}
+use mathlib.Core.Path.{◌∙◌, ap}
+use Rattle.faults.proofs.Passed.{passed_first, passed_next}
+use Rattle.faults.specs.Passed.{passed}
+use Rattle.row_rules.specs.Check.{judge_one, row_check}
 use Rattle.rows.proofs.row_check.Goals as goal
 
-pub returns-then-by_length-ne0 : goal.returns-then-by_length-ne0
+pub returns-in_err-judge_one : goal.returns-in_err-judge_one
 unfolding row_check
-returns-then-by_length-ne0 c =
-    let by_length : c.judge_one-by_length.result ≡ judge_one 20 (lengths_allowed (length c.args.first.now) (length c.args.second.now)) = c.judge_one-by_length.ensures ∙ ap (judge_one 20) c.lengths_allowed.ensures in
-    found_first _ _ _ (by_length) c.if-by_length-ne0.true
+returns-in_err-judge_one c = passed_first _ _ c.from_residual.ensures.1 (rw c.lengths_allowed.ensures at c.in_err-judge_one.ensures)
 
-pub returns-then-in_first-ne0 : goal.returns-then-in_first-ne0
+pub returns-in_err-index_check : goal.returns-in_err-index_check
 unfolding row_check
-returns-then-in_first-ne0 c =
-    let by_length : c.judge_one-by_length.result ≡ judge_one 20 (lengths_allowed (length c.args.first.now) (length c.args.second.now)) = c.judge_one-by_length.ensures ∙ ap (judge_one 20) c.lengths_allowed.ensures in
-    found_next _ _ _ _ (by_length) c.if-by_length-ne0.false (found_first _ _ _ c.index_check-in_first.ensures c.if-in_first-ne0.true)
+returns-in_err-index_check c = passed_first _ _ c.from_residual-in_err-index_check.ensures.1 c.in_err-index_check.ensures ∙ passed_next _ _ (rw c.lengths_allowed.ensures at c.in_ok-judge_one.ensures)
 
-pub returns-then-in_second-ne0 : goal.returns-then-in_second-ne0
+pub returns-in_err-index_check-2 : goal.returns-in_err-index_check-2
 unfolding row_check
-returns-then-in_second-ne0 c =
-    let by_length : c.judge_one-by_length.result ≡ judge_one 20 (lengths_allowed (length c.args.first.now) (length c.args.second.now)) = c.judge_one-by_length.ensures ∙ ap (judge_one 20) c.lengths_allowed.ensures in
-    found_next _ _ _ _ (by_length) c.if-by_length-ne0.false (found_next _ _ _ _ c.index_check-in_first.ensures c.if-in_first-ne0.false (found_first _ _ _ c.index_check-in_second.ensures c.if-in_second-ne0.true))
+returns-in_err-index_check-2 c =
+    passed_first _ _ c.from_residual-in_err-index_check-2.ensures.1 c.in_err-index_check-2.ensures
+    ∙ passed_next _ _ c.in_ok-index_check.ensures
+    ∙ passed_next _ _ (rw c.lengths_allowed.ensures at c.in_ok-judge_one.ensures)
 
 pub returns : goal.returns
 unfolding row_check
 returns c =
-    let by_length : c.judge_one-by_length.result ≡ judge_one 20 (lengths_allowed (length c.args.first.now) (length c.args.second.now)) = c.judge_one-by_length.ensures ∙ ap (judge_one 20) c.lengths_allowed.ensures in
-    let if1 = c.if-by_length-ne0 in
-    let index-check = c.index_check-in_first in
-    let if2 = c.if-in_first-ne0 in
-    let index-check2 = c.index_check-in_second in
-    found_next _ _ _ _ (by_length) if1.false
-    (found_next _ _ _ _ index-check.ensures if2.false
-    (found_next _ _ _ _ index-check2.ensures c.if-in_second-ne0.false (c.judge_one.ensures ∙ ap (judge_one 23) c.has_room.ensures)))
+    c.judge_one-2.ensures ∙ ap (λ x. passed (judge_one 23 x)) c.has_room.ensures
+    ∙ passed_next _ _ c.in_ok-index_check-2.ensures
+    ∙ passed_next _ _ c.in_ok-index_check.ensures
+    ∙ passed_next _ _ (rw c.lengths_allowed.ensures at c.in_ok-judge_one.ensures)

@@ -3,8 +3,6 @@ use Rattle.runs.proofs.Keys.{behind_is}
 use mathlib.Core.Path.{◌≡◌, ap, ◌∙◌}
 use Prim.Native.Nat.{ℕ, ◌+◌, ◌-◌, ◌*◌, ◌/◌, ◌^◌, pred}
 use native.Mathlib.Omega.{arith}
-use lib.ListN.{length}
-use borrow.Author.Rules.{rules}
 use Rattle.runs.proofs.behind.Goals as goal
 
 pub returns : goal.returns

@@ -1,7 +1,5 @@
 -- The first place above the bound is between two places that come nearer.
-use Rattle.runs.proofs.Places.{between_all, between_above, between_below, between_met}
 use Rattle.runs.specs.Words.{Between}
-use native.Mathlib.Omega.{arith}
 use Prim.Native.Nat.{◌-◌, ◌≤◌}
 use lib.ListN.{length}
 use Rattle.runs.proofs.by_halves.Given as goal

@@ -1,42 +1,15 @@
 use Rattle.runs.proofs.Places.{between_all, between_above, between_below, between_found}
-use Rattle.runs.specs.Words.{Between}
 use native.Mathlib.Omega.{arith}
-use Prim.Native.Nat.{◌-◌, ◌≤◌}
-use lib.ListN.{length}
 use Rattle.runs.proofs.first_above.Goals as goal
 
 pub loop-step-init : goal.loop-step-init
 loop-step-init c = (omega arith, c.requires.1, between_all _ _ _ _ c.requires.0)
-
-pub overflow_sub-end : goal.overflow_sub-end
-overflow_sub-end c = omega (arith, c.loop-step.invariant.2.in_order)
-
-pub overflow_sub-last : goal.overflow_sub-last
-overflow_sub-last c = omega (arith, c.loop-step.invariant.0)
-
-pub overflow_add-last : goal.overflow_add-last
-overflow_add-last c = omega (arith, c.loop-step.invariant.0, c.loop-step.invariant.1)
-
-pub offset_bounds-keys-last : goal.offset_bounds-keys-last
-offset_bounds-keys-last c = omega (arith, c.loop-step.invariant.0, c.loop-step.invariant.1)
-
-pub bounds-keys-last : goal.bounds-keys-last
-bounds-keys-last c = omega (arith, c.loop-step.invariant.0, c.loop-step.invariant.1, c.loop-step-test.true, c.loop-step.invariant.2.in_order)
 
 pub by_halves-requires : goal.by_halves-requires
 by_halves-requires c = (omega arith, omega (arith, c.loop-step.invariant.1, c.loop-step-test.true, c.loop-step.invariant.2.in_order))
 
 pub returns-then-bound-keys : goal.returns-then-bound-keys
 returns-then-bound-keys c = between_found _ _ _ _ _ _ (between_below _ _ _ _ _ _ c.loop-step.invariant.2 _ (omega arith) (omega (arith, c.loop-step.invariant.0, c.loop-step-test.true, c.loop-step.invariant.2.in_order)) c.if-bound-keys.true) _ c.by_halves.ensures
-
-pub overflow_add-low : goal.overflow_add-low
-overflow_add-low c = omega (arith, c.loop-step.invariant.1, c.loop-step-test.true)
-
-pub overflow_add-step : goal.overflow_add-step
-overflow_add-step c = omega (arith, c.loop-step.invariant.1, c.loop-step-test.true)
-
-pub loop-step-smaller : goal.loop-step-smaller
-loop-step-smaller c = omega (arith, c.loop-step.invariant.0, c.loop-step-test.true, c.loop-step.invariant.2.in_order)
 
 pub loop-step-preserved : goal.loop-step-preserved
 loop-step-preserved c = (omega (arith, c.loop-step.invariant.0), c.loop-step.invariant.1, between_above _ _ _ _ _ _ c.loop-step.invariant.2 _ (omega arith) (omega (arith, c.loop-step.invariant.0, c.loop-step-test.true, c.loop-step.invariant.2.in_order)) (omega (arith, c.if-bound-keys.false)))

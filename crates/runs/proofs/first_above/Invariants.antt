@@ -1,7 +1,5 @@
 -- Up to the last place looked at all are at most the bound; the step that finds one above it leaves few places to search.
-use Rattle.runs.proofs.Places.{between_all, between_above, between_below, between_found}
 use Rattle.runs.specs.Words.{Between}
-use native.Mathlib.Omega.{arith}
 use Prim.Native.Nat.{◌-◌, ◌≤◌}
 use lib.ListN.{length}
 use Rattle.runs.proofs.first_above.Given as goal

@@ -7,7 +7,6 @@ use lib.ListN.{get_or}
 use Prim.Native.Nat.{ℕ, ◌-◌, ◌*◌, ◌%◌, ◌^◌, pred}
 use mathlib.Core.Path.{refl, sym, ap, ◌∙◌}
 use native.Mathlib.Omega.{arith}
-use borrow.Author.Rules.{rules}
 use Rattle.runs.proofs.run_of.Goals as goal
 
 pub returns-then-length-eq1 : goal.returns-then-length-eq1

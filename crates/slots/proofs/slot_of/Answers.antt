@@ -10,7 +10,6 @@ use lib.IntN.{pos, nat_abs}
 use native.Mathlib.Omega.{arith}
 use Prim.Native.Nat.{ℕ, ◌%◌, ◌^◌}
 use mathlib.Core.Path.{refl, sym, ap, ◌∙◌}
-use borrow.Author.Rules.{rules}
 use Rattle.slots.proofs.slot_of.Goals as goal
 
 pub overflow_mul-place : goal.overflow_mul-place

@@ -3,12 +3,11 @@ use mathlib.Core.Path.{sym, ap, subst, ◌∙◌}
 use Prim.Native.Nat.{◌<◌}
 use native.Mathlib.Omega.{arith}
 use lib.Dec.{lit<}
-use Rattle.table_rules.specs.Pairs.{bad_pair}
+use Rattle.pairs.proofs.Searched.{searched_same}
 use Rattle.reader_rules.proofs.Ready.{ready_passed}
 use Rattle.reader_rules.proofs.Kept.{layout_kept, table_kept, sections, section_is}
 use Rattle.prefix_rules.specs.Check.{leaf_check}
-use Rattle.numeration.specs.PairCount.{pair_count}
-use Rattle.leaf_rules.specs.Leaf.{leaf_count, code_of}
+use Rattle.leaf_rules.specs.Leaf.{leaf_count}
 use Rattle.digit_rules.specs.Digits.{BasePart}
 use Rattle.digit_rules.specs.Record.{element_count}
 use Rattle.table.proofs.search.Goals as goal
@@ -40,8 +39,4 @@ pub returns : goal.returns
 returns c =
     let file = c.args.file.now in
     let told = c.degree_in-degree.ensures in
-    let leaves = section_is file _ _ 3 told c.section-4.ensures in record {
-      pairs = λ z. c.search.ensures.pairs (omega (arith, ap leaf_count leaves, z)) ∙ (λ i. pair_count (code_of (leaves i) (c.section-5.ensures i)));
-      pair = c.search.ensures.pair
-          ∙ (λ i. bad_pair (section_is file _ _ 0 told c.section.ensures i) (section_is file _ _ 1 told c.section-2.ensures i) (section_is file _ _ 2 told c.section-3.ensures i) (leaves i) (c.section-5.ensures i));
-    }
+    searched_same _ _ _ _ _ _ _ _ _ _ c.search.result (section_is file _ _ 0 told c.section.ensures) (section_is file _ _ 1 told c.section-2.ensures) (section_is file _ _ 2 told c.section-3.ensures) (section_is file _ _ 3 told c.section-4.ensures) c.section-5.ensures c.search.ensures

@@ -3,7 +3,6 @@ use borrow.Author.Count.{below_more}
 use mathlib.Core.Path.{sym, subst}
 use Prim.Native.Nat.{ℕ}
 use native.Mathlib.Omega.{arith}
-use lib.ListN.{set}
 use Rattle.weight_sets.specs.Bits.{Has}
 use Rattle.weight_sets.proofs.all_weights.Goals as goal
 

@@ -7,7 +7,7 @@ use Rattle.ring.proofs.Element.{within_le}
 use Rattle.lists.proofs.Pieces.{last, next, put_all, put_line}
 use lib.ListN.{length, length-append}
 use lib.Dec.{lit≤}
-use Prim.Native.Nat.{ℕ, ◌+◌, ◌≤◌, ◌^◌}
+use Prim.Native.Nat.{ℕ, ◌≤◌, ◌^◌}
 use mathlib.Core.List.{List, ◌++◌}
 use mathlib.Core.Path.{refl}
 use native.Mathlib.Omega.{arith}

@@ -14,8 +14,8 @@ returns-then-number-lt9-clause-count c = rw (rule_digit c.args.number c.if-numbe
 pub returns-then-number-lt9-clause-buffer : goal.returns-then-number-lt9-clause-buffer
 returns-then-number-lt9-clause-buffer c = rw (rule_digit c.args.number c.if-number-lt5.false c.if-number-lt9.true) (c.digit_rule.ensures.buffer)
 
-pub returns-clause-count : goal.returns-clause-count
-returns-clause-count c = rw (rule_leaf c.args.number c.if-number-lt5.false c.if-number-lt9.false) (c.leaf_rule.ensures.count)
+pub returns-else-number-lt9-clause-count : goal.returns-else-number-lt9-clause-count
+returns-else-number-lt9-clause-count c = rw (rule_leaf c.args.number c.if-number-lt5.false c.if-number-lt9.false) (c.leaf_rule.ensures.count)
 
-pub returns-clause-buffer : goal.returns-clause-buffer
-returns-clause-buffer c = rw (rule_leaf c.args.number c.if-number-lt5.false c.if-number-lt9.false) (c.leaf_rule.ensures.buffer)
+pub returns-else-number-lt9-clause-buffer : goal.returns-else-number-lt9-clause-buffer
+returns-else-number-lt9-clause-buffer c = rw (rule_leaf c.args.number c.if-number-lt5.false c.if-number-lt9.false) (c.leaf_rule.ensures.buffer)

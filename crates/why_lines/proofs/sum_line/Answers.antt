@@ -6,7 +6,7 @@ use Rattle.text_rules.specs.Bytes.{bytes_of}
 use Rattle.ring.proofs.Element.{within_le}
 use Rattle.lists.proofs.Pieces.{last, next, put_all, put_line}
 use lib.ListN.{length, length-append}
-use Prim.Native.Nat.{ℕ, ◌+◌, ◌≤◌, ◌^◌}
+use Prim.Native.Nat.{ℕ, ◌≤◌, ◌^◌}
 use mathlib.Core.List.{List, ◌++◌}
 use mathlib.Core.Path.{refl}
 use native.Mathlib.Omega.{arith}

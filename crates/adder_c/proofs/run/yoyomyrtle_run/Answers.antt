@@ -8,46 +8,22 @@ use lib.ListN.{length}
 use mathlib.Core.List.{List}
 use Rattle.adder_c.proofs.run.yoyomyrtle_run.Goals as goal
 
-pub returns-then-answer-lt8-clause-outcome : goal.returns-then-answer-lt8-clause-outcome
-returns-then-answer-lt8-clause-outcome c =
+pub returns-then-answer-lt8 : goal.returns-then-answer-lt8
+returns-then-answer-lt8 c =
     let a = c.args in
     let s : State = state a.first.now a.second.now a.sum.now in
     let es : List Change = asked_edits a.rows.now a.places.now a.digits.now a.whose.now a.numbers.now a.values.now in
-    short run_words (run_outcome a.table.now s (length es)) a.answer.now c.if-answer-lt8.true
+    let room = c.if-answer-lt8.true in
+    let made = not_run (length a.answer.now) a.table.now s es a.whose.now a.numbers.now a.values.now room in
+    record { outcome = short run_words (run_outcome a.table.now s (length es)) a.answer.now room; buffers = made.0; answers = made.1 }
 
-pub returns-then-answer-lt8-clause-buffers : goal.returns-then-answer-lt8-clause-buffers
-returns-then-answer-lt8-clause-buffers c =
+pub returns : goal.returns
+returns c =
     let a = c.args in
     let s : State = state a.first.now a.second.now a.sum.now in
     let es : List Change = asked_edits a.rows.now a.places.now a.digits.now a.whose.now a.numbers.now a.values.now in
-    (not_run (length a.answer.now) a.table.now s es a.whose.now a.numbers.now a.values.now c.if-answer-lt8.true).0
-
-pub returns-then-answer-lt8-clause-answers : goal.returns-then-answer-lt8-clause-answers
-returns-then-answer-lt8-clause-answers c =
-    let a = c.args in
-    let s : State = state a.first.now a.second.now a.sum.now in
-    let es : List Change = asked_edits a.rows.now a.places.now a.digits.now a.whose.now a.numbers.now a.values.now in
-    (not_run (length a.answer.now) a.table.now s es a.whose.now a.numbers.now a.values.now c.if-answer-lt8.true).1
-
-pub returns-clause-outcome : goal.returns-clause-outcome
-returns-clause-outcome c =
-    let a = c.args in
-    let s : State = state a.first.now a.second.now a.sum.now in
-    let es : List Change = asked_edits a.rows.now a.places.now a.digits.now a.whose.now a.numbers.now a.values.now in
-    told run_words (run_outcome a.table.now s (length es)) a.answer.now _ _ _ c.if-answer-lt8.false c.run-given.ensures.outcome c.ran.ensures.status c.ran.ensures.answer
-
-pub returns-clause-buffers : goal.returns-clause-buffers
-returns-clause-buffers c =
-    let a = c.args in
-    let s : State = state a.first.now a.second.now a.sum.now in
-    let es : List Change = asked_edits a.rows.now a.places.now a.digits.now a.whose.now a.numbers.now a.values.now in
-    (as_run (length a.answer.now) a.table.now s es a.whose.now a.numbers.now a.values.now _ _ _ _ c.if-answer-lt8.false
-    c.run-given.ensures.buffers c.run-given.ensures.answers.0 c.run-given.ensures.answers.1 c.run-given.ensures.answers.2).0
-
-pub returns-clause-answers : goal.returns-clause-answers
-returns-clause-answers c =
-    let a = c.args in
-    let s : State = state a.first.now a.second.now a.sum.now in
-    let es : List Change = asked_edits a.rows.now a.places.now a.digits.now a.whose.now a.numbers.now a.values.now in
-    (as_run (length a.answer.now) a.table.now s es a.whose.now a.numbers.now a.values.now _ _ _ _ c.if-answer-lt8.false
-    c.run-given.ensures.buffers c.run-given.ensures.answers.0 c.run-given.ensures.answers.1 c.run-given.ensures.answers.2).1
+    let room = c.if-answer-lt8.false in
+    let given = c.run-given.ensures in
+    let put = c.ran.ensures in
+    let made = as_run (length a.answer.now) a.table.now s es a.whose.now a.numbers.now a.values.now _ _ _ _ room given.buffers given.answers.0 given.answers.1 given.answers.2 in
+    record { outcome = told run_words (run_outcome a.table.now s (length es)) a.answer.now _ _ _ room given.outcome put.status put.answer; buffers = made.0; answers = made.1 }

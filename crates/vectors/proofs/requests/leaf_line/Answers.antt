@@ -6,8 +6,8 @@ use Rattle.vectors.proofs.requests.leaf_line.Goals as goal
 
 pub section-leaves-requires : goal.section-leaves-requires
 section-leaves-requires g c =
-    (directory_kept c.args.table.now (found_facts c.args.table.now _ _ c.in-Facts.is c.read-answer.ensures).passes, lit< tt)
+    (directory_kept c.args.table.now (found_facts c.args.table.now _ c.in-Ok.ensures).passes, lit< tt)
 
 pub section-words-requires : goal.section-words-requires
 section-words-requires g c =
-    (directory_kept c.args.table.now (found_facts c.args.table.now _ _ c.in-Facts.is c.read-answer.ensures).passes, lit< tt)
+    (directory_kept c.args.table.now (found_facts c.args.table.now _ c.in-Ok.ensures).passes, lit< tt)

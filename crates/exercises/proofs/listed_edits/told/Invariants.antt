@@ -1,9 +1,0 @@
--- At each turn the place is below 6.
-use Rattle.std.proofs.Common.{◌-◌, ◌≤◌}
-use Rattle.exercises.proofs.listed_edits.told.Given as goal
-
-abbrev pub invariant-loop-i : goal.invariant-loop-i
-invariant-loop-i g l = l.i ≤ 6
-
-abbrev pub decreases-loop-i : goal.decreases-loop-i
-decreases-loop-i g l = 6 - l.i

@@ -1,9 +1,0 @@
--- Each record is one of the section's.
-use Rattle.std.proofs.Common.{◌-◌, ◌≤◌}
-use Rattle.shown_parts.proofs.digits.Given as goal
-
-abbrev pub invariant-loop-k : goal.invariant-loop-k
-invariant-loop-k g l = l.k ≤ l.count
-
-abbrev pub decreases-loop-k : goal.decreases-loop-k
-decreases-loop-k g l = l.count - l.k
