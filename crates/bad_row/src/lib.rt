@@ -31,7 +31,7 @@ fn digit_of(table: &[u8], pair: Pair) -> Element
     let degree = layout::degree_in(table);
     let leaves = reader::section(table, 3);
     let word = leaves::word(degree, leaves, reader::section(table, 4), pair.upper);
-    let first = octets::wide(octets::byte_at(word, 0));
+    let first = usize::from(octets::byte_at(word, 0));
     let sum = elements::sum(
         digits::record_at(degree, reader::section(table, 2), first),
         leaves::weight(degree, leaves, pair.lower),

@@ -60,8 +60,7 @@ fn discriminant_allowed(degree: Degree, base: &[u8]) -> bool
 {
     match degree {
         Degree::Two => is_square_free(base),
-        Degree::Three => true,
-        Degree::Four => true,
+        Degree::Three | Degree::Four => true,
     }
 }
 
@@ -72,8 +71,7 @@ fn base_allowed(degree: Degree, base: &[u8]) -> bool
 {
     match degree {
         Degree::Two => is_expanding(base),
-        Degree::Three => has_large_determinant(degree, base),
-        Degree::Four => has_large_determinant(degree, base),
+        Degree::Three | Degree::Four => has_large_determinant(degree, base),
     }
 }
 

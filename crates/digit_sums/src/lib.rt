@@ -67,7 +67,7 @@ fn follow(
     ensures { result ≡ below (element_count (of_degree degree inputs.now)) (followed (of_degree degree inputs.now) links.now x 136 first) }
 {
     let count = layout::record_count(degree, inputs, INPUTS);
-    let mut at = octets::wide(first);
+    let mut at = usize::from(first);
     for _ in 0..MOST {
         if at >= count {
             return None;
@@ -75,7 +75,7 @@ fn follow(
         if elements::equal(digits::record_at(degree, inputs, at), x) {
             return Some(at);
         }
-        at = octets::wide(links[at]);
+        at = usize::from(links[at]);
     }
     None
 }

@@ -2,13 +2,13 @@
 // Each section is given as its bytes, of a file or not.
 #![tactic(auto)]
 
-ghost use Rattle.std.specs.Prelude.{◌≡◌, ◌+◌, ◌-◌, ◌≤◌, ◌<◌, length};
-ghost use Rattle.ring.specs.declared.Degree.TheVariants.{Two, Three, Four};
+ghost use Rattle.std.specs.Prelude.{◌≡◌, ◌*◌, ◌+◌, ◌-◌, ◌≤◌, ◌<◌, length};
 ghost use Rattle.lists.specs.Found.{below};
 ghost use Rattle.lists.specs.Span.{span};
 ghost use Rattle.ring.specs.Degree.{part_count};
 ghost use Rattle.ring.specs.Element.{part};
-ghost use Rattle.ring.specs.Padded.{padded};
+ghost use Rattle.ring.specs.Padded.{width, padded};
+ghost use Rattle.layout_rules.specs.Number.{signed_at};
 ghost use Rattle.layout_rules.specs.Section.{element_size, of_degree};
 ghost use Rattle.ring.specs.Tests.{Within};
 ghost use Rattle.ring.specs.Operation.{combine};
@@ -21,55 +21,29 @@ use ring::{Degree, Operation};
 // The section of input digits.
 const INPUTS: usize = 2;
 
-// The element whose first byte stands at a place, by its degree.
-fn element_of_two(bytes: &[u8], at: usize) -> [i64; 4]
-    requires { at + 4 ≤ length bytes.now }
-    ensures element { result ≡ element_at (of_degree Two bytes.now) at }
+// The N parts whose first byte stands at a place, with zeros behind them.
+fn parts_at<const N: usize>(bytes: &[u8], at: usize) -> [i64; 4]
+    requires { (N ≤ width) × (at + 2 * N ≤ length bytes.now) }
+    ensures parts { result ≡ padded (span (λ k. signed_at bytes.now (at + 2 * k)) 0 N) }
     ensures within { Within 32768 result }
 {
-    [
-        layout::signed(bytes, at),
-        layout::signed(bytes, at + 2),
-        0,
-        0,
-    ]
+    let mut parts = [0; 4];
+    for k in 0..N {
+        parts[k] = layout::signed(bytes, at + 2 * k);
+    }
+    parts
 }
 
-fn element_of_three(bytes: &[u8], at: usize) -> [i64; 4]
-    requires { at + 6 ≤ length bytes.now }
-    ensures element { result ≡ element_at (of_degree Three bytes.now) at }
-    ensures within { Within 32768 result }
-{
-    [
-        layout::signed(bytes, at),
-        layout::signed(bytes, at + 2),
-        layout::signed(bytes, at + 4),
-        0,
-    ]
-}
-
-fn element_of_four(bytes: &[u8], at: usize) -> [i64; 4]
-    requires { at + 8 ≤ length bytes.now }
-    ensures element { result ≡ element_at (of_degree Four bytes.now) at }
-    ensures within { Within 32768 result }
-{
-    [
-        layout::signed(bytes, at),
-        layout::signed(bytes, at + 2),
-        layout::signed(bytes, at + 4),
-        layout::signed(bytes, at + 6),
-    ]
-}
-
+// The element whose first byte stands at a place.
 pub fn element(degree: Degree, bytes: &[u8], at: usize) -> [i64; 4]
     requires { at + element_size degree ≤ length bytes.now }
     ensures element { result ≡ element_at (of_degree degree bytes.now) at }
     ensures within { Within 32768 result }
 {
     match degree {
-        Degree::Two => element_of_two(bytes, at),
-        Degree::Three => element_of_three(bytes, at),
-        Degree::Four => element_of_four(bytes, at),
+        Degree::Two => parts_at::<2>(bytes, at),
+        Degree::Three => parts_at::<3>(bytes, at),
+        Degree::Four => parts_at::<4>(bytes, at),
     }
 }
 
@@ -148,7 +122,8 @@ pub fn combined(
     }
 }
 
-// The input index of what the operation makes of alphabet digits i and j, or the count of input digits.
+// The input index of what the operation makes of alphabet digits i and j, or the count of input digits: no `Option`, since input_rows keeps
+// the index as the definition has it, the count included.
 pub fn pair_index(
     degree: Degree,
     operation: Operation,

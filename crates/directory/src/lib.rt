@@ -31,16 +31,9 @@ fn pair_allowed(file: &[u8], section: usize) -> bool
     ensures { result ≡ pair_allowed file.now section }
 {
     let end = layout::section_end(file, section);
-    if layout::section_start(file, section) != expected_start(file, section) {
-        return false;
-    }
-    if file.len() < end {
-        return false;
-    }
-    if section < 4 {
-        return true;
-    }
-    end == file.len()
+    layout::section_start(file, section) == expected_start(file, section)
+        && end <= file.len()
+        && (section < 4 || end == file.len())
 }
 
 // Rules 1 and 2: the file's size and its directory.
@@ -83,13 +76,9 @@ fn length_allowed(degree: Degree, section: usize, n: usize) -> bool
     ensures { result ≡ length_allowed degree section n }
 {
     let size = layout::size_of_record(degree, section);
-    if n % size != 0 {
-        return false;
-    }
-    if n < least_records(section) * size {
-        return false;
-    }
-    n <= most_records(section) * size
+    let least = least_records(section) * size;
+    let most = most_records(section) * size;
+    n % size == 0 && least <= n && n <= most
 }
 
 // Rule 3: the lengths of the five sections, from a file or not. The first tells the degree that the others are judged by.

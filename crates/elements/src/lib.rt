@@ -1,7 +1,7 @@
 // Elements of every degree as four 64-bit parts, those above the degree zero, and multiplication by the base.
 #![tactic(auto)]
 
-ghost use Rattle.std.specs.Prelude.{◌≡◌, map, ◌+◌, ◌-◌, ◌≤◌, ◌<◌, ◌^◌, take, nat_abs};
+ghost use Rattle.std.specs.Prelude.{◌≡◌, map, ◌*◌, ◌+◌, ◌-◌, ◌≤◌, ◌<◌, ◌^◌, take, nat_abs};
 ghost use Rattle.ring.specs.Element.{part, plus, minus};
 ghost use Rattle.ring.specs.Degree.{part_count};
 ghost use Rattle.ring.specs.Tests.{Within, same, RowsWithin, BaseSizes, ColumnsWithin};
@@ -11,60 +11,29 @@ ghost use Rattle.ring.specs.Product.{scale, times_omega, columns};
 
 use ring::Degree;
 
-// One part of matrix times element, by the first entries of the row: two, and one more each.
-fn dot_two(row: [i64; 4], x: [i64; 4]) -> i64
-    requires { Within (2 ^ 21) row × Within (2 ^ 32) x }
-    ensures product { result ≡ dot (take 2 row) x }
-    ensures within { nat_abs result ≤ 2 ^ 54 }
+// One part of matrix times element, by the first N entries of the row.
+fn dot<const N: usize>(row: [i64; 4], x: [i64; 4]) -> i64
+    requires { (N ≤ width) × Within (2 ^ 21) row × Within (2 ^ 32) x }
+    ensures product { result ≡ dot (take N row) x }
+    ensures within { nat_abs result ≤ N * 2 ^ 53 }
 {
-    row[0] * x[0] + row[1] * x[1]
+    let mut all = 0;
+    for k in 0..N {
+        all += row[k] * x[k];
+    }
+    all
 }
 
-fn dot_three(row: [i64; 4], x: [i64; 4]) -> i64
-    requires { Within (2 ^ 21) row × Within (2 ^ 32) x }
-    ensures product { result ≡ dot (take 3 row) x }
-    ensures within { nat_abs result ≤ 2 ^ 54 + 2 ^ 53 }
+// Matrix times element, by the first N rows and columns.
+fn times<const N: usize>(base: [[i64; 4]; 4], x: [i64; 4]) -> [i64; 4]
+    requires { (N ≤ width) × RowsWithin (2 ^ 21) base × Within (2 ^ 32) x }
+    ensures { result ≡ padded_times N base x }
 {
-    dot_two(row, x) + row[2] * x[2]
-}
-
-fn dot_four(row: [i64; 4], x: [i64; 4]) -> i64
-    requires { Within (2 ^ 21) row × Within (2 ^ 32) x }
-    ensures product { result ≡ dot (take 4 row) x }
-    ensures within { nat_abs result ≤ 2 ^ 55 }
-{
-    dot_three(row, x) + row[3] * x[3]
-}
-
-fn times_two(base: [[i64; 4]; 4], x: [i64; 4]) -> [i64; 4]
-    requires { RowsWithin (2 ^ 21) base × Within (2 ^ 32) x }
-    ensures product { result ≡ padded_times 2 base x }
-{
-    [dot_two(base[0], x), dot_two(base[1], x), 0, 0]
-}
-
-fn times_three(base: [[i64; 4]; 4], x: [i64; 4]) -> [i64; 4]
-    requires { RowsWithin (2 ^ 21) base × Within (2 ^ 32) x }
-    ensures product { result ≡ padded_times 3 base x }
-{
-    [
-        dot_three(base[0], x),
-        dot_three(base[1], x),
-        dot_three(base[2], x),
-        0,
-    ]
-}
-
-fn times_four(base: [[i64; 4]; 4], x: [i64; 4]) -> [i64; 4]
-    requires { RowsWithin (2 ^ 21) base × Within (2 ^ 32) x }
-    ensures product { result ≡ padded_times 4 base x }
-{
-    [
-        dot_four(base[0], x),
-        dot_four(base[1], x),
-        dot_four(base[2], x),
-        dot_four(base[3], x),
-    ]
+    let mut all = [0; 4];
+    for i in 0..N {
+        all[i] = dot::<N>(base[i], x);
+    }
+    all
 }
 
 // Multiplication by the base: its matrix times an element.
@@ -74,9 +43,9 @@ pub fn times_base(degree: Degree, base: [[i64; 4]; 4], x: [i64; 4]) -> [i64; 4]
     ensures within { Within (2 ^ 55) result }
 {
     match degree {
-        Degree::Two => times_two(base, x),
-        Degree::Three => times_three(base, x),
-        Degree::Four => times_four(base, x),
+        Degree::Two => times::<2>(base, x),
+        Degree::Three => times::<3>(base, x),
+        Degree::Four => times::<4>(base, x),
     }
 }
 
@@ -97,7 +66,7 @@ pub fn difference(x: [i64; 4], y: [i64; 4]) -> [i64; 4]
 pub fn equal(x: [i64; 4], y: [i64; 4]) -> bool
     ensures { result ≡ same x y }
 {
-    (x[0] == y[0]) & (x[1] == y[1]) & (x[2] == y[2]) & (x[3] == y[3])
+    x == y
 }
 
 // The parts below the degree.

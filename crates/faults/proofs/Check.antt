@@ -96,10 +96,3 @@ judge_passed number at test n some h k l =
   where
     not_zero : number ≡ 0 → ⊥
     not_zero e = omega arith
-
--- for a function that runs one check, and another where it found nothing
-pub found_first : (a b found : Refusal) → found ≡ a → (found.number ≡ 0 → ⊥) → found ≡ (a then b)
-found_first a b found is h = is ∙ sym (then_found a b (rw is at h))
-
-pub found_next : (a b found later : Refusal) → found ≡ a → found.number ≡ 0 → later ≡ b → later ≡ (a then b)
-found_next a b found later is h next = next ∙ sym (then_next a b (rw is at h))

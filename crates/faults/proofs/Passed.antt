@@ -68,8 +68,8 @@ passed_first a b {r} {e} ends h =
 pub judge_found : (number : ℕ) (at : ℕ → ℕ) (test : ℕ → Bool) (n i : ℕ) → 0 < number → i ≡ first_failing test 0 n → i < n → Err (refusal number (at i)) ≡ passed (judge number at test n)
 judge_found number at test n i some e h = err_of some (sym (judge_broken number at test n i e h))
 
-pub judge_passed : (number : ℕ) (at : ℕ → ℕ) (test : ℕ → Bool) (n i : ℕ) → i ≡ first_failing test 0 n → n ≤ i → Ok tt ≡ passed (judge number at test n)
-judge_passed number at test n i e h = ok_of (sym (judge_kept number at test n i e h))
+pub judge_nothing : (number : ℕ) (at : ℕ → ℕ) (test : ℕ → Bool) (n i : ℕ) → i ≡ first_failing test 0 n → n ≤ i → Ok tt ≡ passed (judge number at test n)
+judge_nothing number at test n i e h = ok_of (sym (judge_kept number at test n i e h))
 
 -- a rule that judges one thing
 pub once_found : (number : ℕ) (at : ℕ → ℕ) (allowed : Bool) → 0 < number → allowed ≡ false → Err (refusal number (at 0)) ≡ passed (judge number at (λ _. allowed) 1)

@@ -150,6 +150,7 @@ pub fn input_row(
     // 255 is no input index: `Option`s would take twice the room, which the header's bound on the stack hasn't
     let mut known = [255u8; 256];
     let mut place = from;
+    // a `while`: the place goes past a run of known pairs at once, and doesn't count up by one
     while place < end {
         let upper = rows::byte_at(change, 0, first, place) as usize;
         let lower = rows::byte_at(change, 1, second, place) as usize;

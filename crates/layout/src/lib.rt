@@ -52,7 +52,7 @@ pub fn unsigned(bytes: &[u8], at: usize) -> usize
     ensures number { result ≡ unsigned_at bytes.now at }
     ensures within { result < 65536 }
 {
-    octets::wide(bytes[at]) + 256 * octets::wide(bytes[at + 1])
+    usize::from(bytes[at]) + 256 * usize::from(bytes[at + 1])
 }
 
 // The signed 16-bit number at a place.
@@ -106,7 +106,7 @@ pub fn section_lengths(file: &[u8]) -> [usize; 5]
 pub fn degree_in(file: &[u8]) -> Degree
     ensures { result ≡ degree_in file.now }
 {
-    degree_of(octets::wide(octets::byte_at(file, 2)) + 256 * octets::wide(octets::byte_at(file, 3)))
+    degree_of(usize::from(octets::byte_at(file, 2)) + 256 * usize::from(octets::byte_at(file, 3)))
 }
 
 pub fn size_of_record(degree: Degree, section: usize) -> usize

@@ -42,7 +42,7 @@ fn digit_text(degree: Degree, inputs: &[u8], word: &[u8], i: usize, out: &mut [u
     ensures buffer { out.new ≡ overwrite out.old 0 (digit_text (of_degree degree inputs.now) word.now i) }
 {
     if i < word.len() {
-        input_text(degree, inputs, octets::wide(word[i]), out)
+        input_text(degree, inputs, usize::from(word[i]), out)
     } else if i == 0 {
         octets::put(out, 0, b"?")
     } else {

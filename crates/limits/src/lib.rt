@@ -19,21 +19,11 @@ use ring::Degree;
 // Of each section with elements: the size limit of their parts. That of section 0 goes by the degree.
 const LIMITS: [usize; 4] = [64, 64, 128, 1024];
 
-// The size of the signed number at a place.
-fn magnitude(bytes: &[u8], at: usize) -> usize
-    requires { at + 1 < length bytes.now }
-    ensures { result ≡ nat_abs (signed_at bytes.now at) }
-{
-    let u = layout::unsigned(bytes, at);
-    if u < 32768 { u } else { 65536 - u }
-}
-
 fn base_limit(degree: Degree) -> usize
     ensures { result ≡ base_limit degree }
 {
     match degree {
-        Degree::Two => 64,
-        Degree::Three => 64,
+        Degree::Two | Degree::Three => 64,
         Degree::Four => 32,
     }
 }
@@ -77,19 +67,12 @@ fn first_outside(
     ensures { result ≡ below count (first_failing (number_allowed size limit (of_degree degree part.now)) 0 count) }
 {
     for m in 0..count {
-        if limit < magnitude(part, number_place(degree, size, m)) {
+        let number = layout::signed(part, number_place(degree, size, m));
+        if (limit as u64) < number.unsigned_abs() {
             return Some(m);
         }
     }
     None
-}
-
-// A byte in 32 bits.
-fn wide_32(x: u8) -> u32
-    ensures same { result ≡ x }
-    ensures small { result < 256 }
-{
-    x as u32
 }
 
 // The number at a place, raised so that it is 65,536 or more where it is outside the limit.
@@ -97,7 +80,7 @@ fn raised(bytes: &[u8], at: usize, limit: u32) -> u32
     requires { (at + 1 < length bytes.now) × (limit ≤ 1024) }
     ensures { result < 65536 → nat_abs (signed_at bytes.now at) ≤ limit }
 {
-    (wide_32(bytes[at]) + 256 * wide_32(bytes[at + 1]) + limit) % 65536 + (65535 - 2 * limit)
+    (u32::from(bytes[at]) + 256 * u32::from(bytes[at + 1]) + limit) % 65536 + (65535 - 2 * limit)
 }
 
 // A number that is at least each of two, without a branch.

@@ -8,10 +8,11 @@ use borrow.Author.Tests.{lt-ltb, le-ltb}
 use Rattle.lists.specs.Overwrite.{overwrite}
 use Rattle.faults.specs.declared.Fault.{Fault}
 use Rattle.faults.specs.Outcome.{Outcome}
-use Rattle.faults.specs.Stated.{number_of, place_of}
 use Rattle.table_rules.specs.declared.Facts.{Facts}
 use Rattle.line_rules.specs.Line.{refused_line, line_of, line_into, line_count}
 use Rattle.std.proofs.Common.{Result, Err}
+use mathlib.Core.Logic.{◌⊎◌, inl, inr}
+use Rattle.faults.specs.declared.Fault.TheVariants.{Author, Rows, Editor}
 use Rattle.faults.specs.Answer.{outcome_of}
 
 -- one that is too short: nothing is written
@@ -25,7 +26,9 @@ unfolding line_count line_into
 line_long o s t text r h e (p, (q, w)) =
     (p ∙ ap length (sym e) ∙ rw (le-ltb (length s) 128 h, line_count), (q ∙ ap (overwrite s 0) (sym e) ∙ rw (le-ltb (length s) 128 h, line_into), omega arith))
 
--- the line of an answer whose fault is known by its case
-pub refused_case : (answer : Result Facts Fault) (fault known : Fault) → answer ≡ Err fault → fault ≡ known → line_of (outcome_of answer) ≡ refused_line (number_of known) (place_of known)
+-- the line of a refusal, in whose name it is
+pub refused_case : (answer : Result Facts Fault) (fault : Fault) (number place : ℕ) → answer ≡ Err fault → (fault ≡ Author number place) ⊎ ((fault ≡ Rows number place) ⊎ (fault ≡ Editor number place)) → line_of (outcome_of answer) ≡ refused_line number place
 unfolding line_of
-refused_case answer fault known e f = rw (e, f)
+refused_case answer fault number place e (inl f) = rw (e, f)
+refused_case answer fault number place e (inr (inl f)) = rw (e, f)
+refused_case answer fault number place e (inr (inr f)) = rw (e, f)

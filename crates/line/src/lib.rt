@@ -45,9 +45,9 @@ pub fn line(answer: Result<Facts, Fault>, out: &mut [u8]) -> usize
     match answer {
         Ok(f) => accepted_line(f, out),
         Err(fault) => match fault {
-            Fault::Author { number, place } => refused_line(number, place, out),
-            Fault::Rows { number, place } => refused_line(number, place, out),
-            Fault::Editor { number, place } => refused_line(number, place, out),
+            Fault::Author { number, place }
+            | Fault::Rows { number, place }
+            | Fault::Editor { number, place } => refused_line(number, place, out),
         },
     }
 }

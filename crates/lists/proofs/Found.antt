@@ -1,13 +1,15 @@
 -- Laws of `below`: its two answers, what they say, those of a loop that counts i up to n, and those of a search for an element.
-use mathlib.Core.Path.{◌≡◌, sym, ap, ◌∙◌}
-use mathlib.Core.Bool.{Bool, true, false, not}
+use mathlib.Core.Path.{◌≡◌, refl, sym, ap, ◌∙◌}
+use mathlib.Core.Bool.{Bool, true, false, not, cond}
 use mathlib.Core.List.{List}
 use Prim.Native.Nat.{ℕ, ◌-◌, ◌<◌, ◌≤◌}
 use native.Mathlib.Decide.{dec_lt}
 use native.Mathlib.Omega.{arith}
 use borrow.Author.Tests.{lt-ltb, le-ltb}
 use lib.ListN.{length, get_or}
+use lib.Dec.{ltb}
 use Rattle.std.proofs.Common.{Option, Some, None}
+use Rattle.std.specs.Option.{is_some}
 use Rattle.std.specs.List.{position}
 use Rattle.std.proofs.lemmas.Option.{none-some}
 use Rattle.std.proofs.lemmas.List.Sums.{position_or_len_is}
@@ -23,7 +25,15 @@ pub below_none : (n i : ℕ) → n ≤ i → None ≡ below n i
 unfolding below
 below_none n i h = rw (le-ltb _ _ h, below)
 
-not_not : (a b : Bool) → not a ≡ b → a ≡ not b
+pub is_some_below : (n i : ℕ) → is_some (below n i) ≡ ltb i n
+unfolding below
+is_some_below n i = go (ltb i n)
+  where
+    go : (b : Bool) → is_some (cond b (Some i) None) ≡ b
+    go true = refl
+    go false = refl
+
+pub not_not : (a b : Bool) → not a ≡ b → a ≡ not b
 not_not true b h = ap not h
 not_not false b h = ap not h
 

@@ -2,6 +2,7 @@ pub mod Cons
 pub mod Each
 pub mod Span
 pub mod Overwrite
+pub mod Copied
 pub mod Pieces
 pub mod Scan
 pub mod Found

@@ -104,6 +104,7 @@ fn search_part(
 {
     let mut low = from;
     let mut size = count;
+    // a `while`: the part is halved without a branch, and no index counts up
     while 1 < size {
         let half = size / 2;
         low = next_low(degree, leaves, words, window, low, half);

@@ -47,7 +47,7 @@ fn stored_bits(byte: u8) -> usize
     ensures bits { result ≡ bits_of (stored_number byte) }
     ensures within { (result < 65536) × (byte < 256) }
 {
-    let low = octets::wide(byte);
+    let low = usize::from(byte);
     if low < 128 { low } else { low + 65280 }
 }
 
@@ -104,7 +104,7 @@ fn digit(words: &[u8], at: usize, positive: usize, mirrored: bool) -> usize
     ensures digit { result ≡ word_digit positive words.now mirrored at }
     ensures within { result < 256 }
 {
-    let stored = octets::wide(octets::byte_at(words, at));
+    let stored = usize::from(octets::byte_at(words, at));
     if mirrored {
         mirror(positive, stored)
     } else {
@@ -160,7 +160,7 @@ fn place_of(shape: Shape, words: &[u8], lengths: &[u8], limit: usize) -> Place
     for k in 0..lengths.len() {
         let images = images_below(shape, words, k, limit);
         leaf += images;
-        word += images * octets::wide(octets::byte_at(lengths, k));
+        word += images * usize::from(octets::byte_at(lengths, k));
     }
     Place { leaf, word }
 }
@@ -207,7 +207,7 @@ fn put_leaf(
     let place = place_of(shape, words, lengths, number(shape, words, k, mirrored));
     let record = at.leaves + 8 * place.leaf;
     let start = place.word;
-    let size = octets::wide(octets::byte_at(lengths, k));
+    let size = usize::from(octets::byte_at(lengths, k));
     put_number(out, record, start);
     put_number(out, record + 2, size);
     put_number(out, record + 4, bits(octets::byte_at(weights, k), mirrored));

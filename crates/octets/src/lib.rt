@@ -1,4 +1,4 @@
-// Bytes: one as a number, one at a place, many written, the highest of many, and how many there are up to the last that isn't 0.
+// Bytes: one at a place, many written, the highest of many, and how many there are up to the last that isn't 0.
 #![tactic(auto)]
 
 ghost use Rattle.std.specs.Prelude.{◌≡◌, ℕ, ◌+◌, ◌≤◌, ◌<◌, length, get_or};
@@ -6,14 +6,6 @@ ghost use Rattle.lists.specs.Overwrite.{overwrite};
 
 // Bytes that aren't halved any more.
 const FEW: usize = 16;
-
-// A byte as a number.
-pub fn wide(x: u8) -> usize
-    ensures same { result ≡ x }
-    ensures small { result < 256 }
-{
-    x as usize
-}
 
 // The byte at a place, 0 past the end.
 pub fn byte_at(bytes: &[u8], at: usize) -> u8
@@ -50,6 +42,7 @@ fn halved(bytes: &[u8]) -> usize
     ensures zeros { (k : ℕ) → result ≤ k → get_or bytes.now k 0 ≡ 0 }
 {
     let mut end = bytes.len();
+    // a `while`: it halves a length, and no index counts up
     while FEW < end && highest(&bytes[end / 2..end]) == 0 {
         end /= 2;
     }

@@ -96,7 +96,7 @@ fn in_slots(degree: Degree, alphabet: &[u8], slots: &[u8; SLOTS], x: [i64; 4]) -
     ensures { result ≡ in_alphabet (of_degree degree alphabet.now) x }
 {
     let slot = slots::slot_of(x);
-    let digit = octets::wide(slots[slot]);
+    let digit = usize::from(slots[slot]);
     digit < layout::record_count(degree, alphabet, 1)
         && elements::equal(digits::record_at(degree, alphabet, digit), x)
 }

@@ -99,7 +99,7 @@ fn one_by_one(keys: &[u64], numbers: &[u8], count: usize, run: Run, last: u64) -
         if last < keys[leaf] {
             return Run { set, end: leaf };
         }
-        set |= weight_sets::single(octets::wide(numbers[leaf]));
+        set |= weight_sets::single(usize::from(numbers[leaf]));
     }
     Run { set, end: count }
 }
@@ -144,7 +144,7 @@ fn fitting(
     let low = runs::low_leaf(keys, count, guess, tail);
     if runs::next_above(keys, count, low, last) {
         return FitRun {
-            set: weight_sets::single(octets::wide(numbers[low])),
+            set: weight_sets::single(usize::from(numbers[low])),
             count: 1,
             end: low + 1,
         };
@@ -202,7 +202,7 @@ fn all_in(
     for upper in 0..leaf_count {
         let run = fitting(degree, leaves, keys, numbers, sets, all, upper, guess);
         let mark = first_digit(keys[upper]) + 1;
-        let number = octets::wide(numbers[upper]);
+        let number = usize::from(numbers[upper]);
         let known = weight_sets::judged(
             degree, base, alphabet, &slots, inputs, leaves, words, upper, mark, number, first,
             count, &mut made, &mut good,

@@ -160,7 +160,7 @@ pub fn leaf_tried(
     ensures found { Counted (of_degree degree leaves.now) found.new result.reach }
 {
     let slot = window_slot(row, place, first, single);
-    let digit = octets::wide(first);
+    let digit = usize::from(first);
     let below = leaf_below(
         degree,
         leaves,

@@ -36,7 +36,7 @@ fn index_of(degree: Degree, alphabet: &[u8], x: [i64; 4], slots: &mut [u8; DIGIT
 {
     let size = layout::record_count(degree, alphabet, 1);
     let slot = slots::slot_of(x);
-    let last = octets::wide(slots[slot]);
+    let last = usize::from(slots[slot]);
     if last < size && elements::equal(digits::record_at(degree, alphabet, last), x) {
         return Some(last);
     }

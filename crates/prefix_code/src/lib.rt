@@ -21,16 +21,7 @@ fn lies(start: usize, length: usize, place: usize, all: usize) -> bool
     requires { (start < 65536) × (length < 65536) }
     ensures { result ≡ true → (start ≡ place) × (1 ≤ length) × (length ≤ 8) × (start + length ≤ all) }
 {
-    if start != place {
-        return false;
-    }
-    if length < 1 {
-        return false;
-    }
-    if LONGEST < length {
-        return false;
-    }
-    start + length <= all
+    start == place && 1 <= length && length <= LONGEST && start + length <= all
 }
 
 // Whether the words lie one after the other, each above the one before, and begin as many strings of eight as there are, so that rules
@@ -62,29 +53,20 @@ fn numbered(degree: Degree, leaves: &[u8], words: &[u8], inputs: u64) -> bool
         floor = number + units[length];
         strings += shares[length];
     }
-    if end != words.len() {
-        return false;
-    }
-    strings == shares[1] * inputs
+    end == words.len() && strings == shares[1] * inputs
 }
 
 // Whether rules 9 to 12 hold, by a quick look that says yes or nothing.
 fn well_coded(degree: Degree, leaves: &[u8], words: &[u8], inputs: usize) -> bool
     ensures { result ≡ true → CodeKept (of_degree degree leaves.now) words.now inputs }
 {
-    if inputs < 1 {
-        return false;
-    }
-    if 136 < inputs {
-        return false;
-    }
-    if 8191 < leaves::leaf_count(degree, leaves) {
-        return false;
-    }
-    if inputs <= octets::wide(octets::highest(words)) {
-        return false;
-    }
-    numbered(degree, leaves, words, inputs as u64)
+    let count = leaves::leaf_count(degree, leaves);
+    let top = usize::from(octets::highest(words));
+    1 <= inputs
+        && inputs <= 136
+        && count <= 8191
+        && top < inputs
+        && numbered(degree, leaves, words, inputs as u64)
 }
 
 // Rules 9 to 13, of sections 3 and 4 and the count of input digits. The scans run only where the quick look doesn't say yes.

@@ -34,6 +34,7 @@ fn leaf_allowed(degree: Degree, leaves: &[u8], all: usize, leaf: usize) -> bool
 {
     let start = leaves::word_start(degree, leaves, leaf);
     let length = leaves::word_length(degree, leaves, leaf);
+    // tests one by one: of five joined by `&&` the check hands a proof no fact that says which failed
     if length < 1 {
         return false;
     }
@@ -73,7 +74,7 @@ fn indexes(words: &[u8], inputs: usize) -> Result<(), Refusal>
     ensures { result ≡ passed (word_index_check words.now inputs) }
 {
     for (i, digit) in words.iter().enumerate() {
-        if inputs <= octets::wide(*digit) {
+        if inputs <= usize::from(*digit) {
             return Err(Refusal {
                 number: 10,
                 place: i,
@@ -128,7 +129,7 @@ fn run_end(
     ensures { result ≡ coverage.run_end (code_of (of_degree degree leaves.now) words.now) place digit low high }
 {
     for leaf in low..high {
-        if octets::wide(octets::byte_at(words, leaves::word_start(degree, leaves, leaf) + place))
+        if usize::from(octets::byte_at(words, leaves::word_start(degree, leaves, leaf) + place))
             != digit
         {
             return leaf;

@@ -1,5 +1,5 @@
 -- What a file that passes rules 1 to 4 gives.
-use mathlib.Core.Path.{◌≡◌, sym, ap, ◌∙◌}
+use mathlib.Core.Path.{◌≡◌, ap}
 use mathlib.Core.List.{List}
 use Prim.Native.Nat.{ℕ, ◌≤◌, ◌<◌}
 use lib.ListN.{length}
@@ -22,9 +22,6 @@ use Rattle.reader_rules.specs.Table.{base_part, input_part, leaf_part, word_part
 use Rattle.reader_rules.specs.Check.{layout_check, digit_check_of, leaf_check_of, table_check}
 
 -- what a stage that found nothing says of its definition
-pub stage_nothing : (found a : Refusal) → found ≡ a → found.number ≡ 0 → a.number ≡ 0
-stage_nothing found a e z = ap (λ (r : Refusal). r.number) (sym e) ∙ z
-
 pub no_number : (a : Refusal) → a ≡ none → a.number ≡ 0
 no_number a e = ap (λ (r : Refusal). r.number) e
 

@@ -5,7 +5,7 @@ use mathlib.Core.List.{List, [], ◌∷◌}
 use Prim.Native.Nat.{ℕ, zero, suc, ◌+◌, ◌*◌, ◌≤◌, max, ◌<◌, zero-le}
 use native.Mathlib.Omega.{arith}
 use native.Mathlib.Nat.{not-suc-le-zero, add-zero, add-suc, suc-add}
-use lib.ListN.{length, take, length-map, get_or-map}
+use lib.ListN.{length, set, take, length-map, get_or-map}
 use lib.IntN.{ℤ, pos, nat_abs, neg_ℤ, ◌+ℤ◌, ◌-ℤ◌, ◌*ℤ◌, +ℤ_assoc, +ℤ_comm, +ℤ_idl, +ℤ_idr, +ℤ_invl, neg_ℤ-+ℤ, *ℤ_comm, *ℤ-zero, zero-*ℤ}
 use Rattle.lists.specs.Span.{span}
 use Rattle.lists.proofs.Cons.{cons≡}
@@ -186,6 +186,15 @@ within_scale m n k x h w i = rw (part_scale k x i) (nat_abs-*≤ k (part x i) m 
 pub within_le : (m n : ℕ) (x : List ℤ) → m ≤ n → Within m x → Within n x
 unfolding Within
 within_le m n x h w k = omega (arith, w k)
+
+-- one entry written
+pub within_set : (n : ℕ) (x : List ℤ) (i : ℕ) (z : ℤ) → Within n x → nat_abs z ≤ n → Within n (set x i z)
+unfolding Within
+within_set n [] i z w h k = w k
+within_set n (a ∷ x) zero z w h zero = h
+within_set n (a ∷ x) zero z w h (suc k) = w (suc k)
+within_set n (a ∷ x) (suc i) z w h zero = w zero
+within_set n (a ∷ x) (suc i) z w h (suc k) = within_set n x i z (λ j. w (suc j)) h k
 
 -- a list by a function of the place
 pub within_span : (n : ℕ) (f : ℕ → ℤ) (i c : ℕ) → ((k : ℕ) → k < c → nat_abs (f (i + k)) ≤ n) → Within n (span f i c)

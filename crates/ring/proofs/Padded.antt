@@ -4,15 +4,18 @@ use mathlib.Core.List.{List, [], ◌∷◌, map}
 use Prim.Native.Nat.{ℕ, zero, suc, ◌+◌, ◌-◌, ◌*◌, ◌<◌, ◌≤◌, zero-le}
 use native.Mathlib.Omega.{arith}
 use native.Mathlib.Nat.{zero-add}
-use native.Mathlib.Decide.{dec_lt}
-use lib.ListN.{length, get_or, take, length-take, length-replicate, get_or-map, get_or-eq_default}
-use lib.Seq.{take-nil, ext_get_or}
+use native.Mathlib.Decide.{dec_lt, ℕ_discrete}
+use lib.ListN.{length, get_or, set, take, length-set, length-take, length-replicate, get_or-map, get_or-eq_default}
+use lib.Seq.{take-nil, ext_get_or, get_or-set_same, get_or-set_other}
 use lib.IntN.{ℤ, pos, nat_abs, neg_ℤ, ◌+ℤ◌, ◌-ℤ◌}
+use mir.Syntax.{w64}
+use mir.Val.{SFits, to_z, of_z}
+use mir.ValLaws.{to_z-of_z}
 use Rattle.lists.specs.Span.{span}
 use Rattle.lists.proofs.Cons.{cons≡}
 use Rattle.lists.proofs.Span.{length_span, get_d_span, span_ext, take_span, map_span, listed}
 use Rattle.ring.specs.Element.{part, zeros, plus, negative, minus}
-use Rattle.ring.specs.Matrix.{times}
+use Rattle.ring.specs.Matrix.{dot, times}
 use Rattle.ring.specs.Product.{product, matrix_of}
 use Rattle.ring.specs.Tests.{Within, RowsWithin}
 use Rattle.ring.specs.Padded.{width, padded, padded_rows, corner, padded_times, padded_matrix}
@@ -57,6 +60,35 @@ padded_zeros d =
 pub padded_same : (x y : List ℤ) → length x ≡ length y → length x ≤ width → padded x ≡ padded y → x ≡ y
 padded_same x y long fits e =
     ext_get_or (pos 0) x y long (λ k h. sym (part_padded x k (omega arith)) ∙ ap (λ z. part z k) e ∙ part_padded y k (omega arith))
+
+-- four parts of which the first i are set: those of n functions' values, and one more
+pub padded_more : (f : ℕ → ℤ) (i : ℕ) → i < width → set (padded (span f 0 i)) i (f i) ≡ padded (span f 0 (i + 1))
+padded_more f i h =
+    sym (padded_is (span f 0 (i + 1)) (set (padded (span f 0 i)) i (f i)) (length-set (padded (span f 0 i)) i (f i) ∙ length_padded (span f 0 i)) parts)
+  where
+    value : (n k : ℕ) → k < n → part (span f 0 n) k ≡ f k
+    value n k l = get_d_span f 0 n k (pos 0) l ∙ ap f (zero-add k)
+
+    past : (n k : ℕ) → n ≤ k → part (span f 0 n) k ≡ pos 0
+    past n k l = get_or-eq_default (span f 0 n) (pos 0) (omega (arith, length_span f 0 n))
+
+    other : (k : ℕ) → k < width → (k ≡ i → ⊥) → part (set (padded (span f 0 i)) i (f i)) k ≡ part (span f 0 i) k
+    other k l e = get_or-set_other (padded (span f 0 i)) i k (f i) (pos 0) e ∙ part_padded (span f 0 i) k l
+
+    parts : (k : ℕ) → k < width → part (span f 0 (i + 1)) k ≡ part (set (padded (span f 0 i)) i (f i)) k
+    parts k l =
+        elim (ℕ_discrete k i) [
+          | yes e ↦ value (i + 1) k (omega arith) ∙ ap f e ∙ sym (get_or-set_same (padded (span f 0 i)) i (f i) (pos 0) (omega (arith, length_padded (span f 0 i)))) ∙ ap (part (set (padded (span f 0 i)) i (f i))) (sym e)
+          | no e ↦ elim (dec_lt k i) [
+            | yes m ↦ value (i + 1) k (omega arith) ∙ sym (value i k m) ∙ sym (other k l e)
+            | no m ↦ past (i + 1) k (omega arith) ∙ sym (past i k (omega arith)) ∙ sym (other k l e)
+          ]
+        ]
+
+-- the same for a loop that writes the next one
+pub padded_stored : (f : ℕ → ℤ) (i : ℕ) (all : List ℤ) (z : ℤ) → all ≡ padded (span f 0 i) → i < width → SFits w64 z → z ≡ f i → set all i (to_z w64 (of_z w64 z)) ≡ padded (span f 0 (i + 1))
+padded_stored f i all z so_far h fits is =
+    ap₂ (λ x y. set x i y) so_far (to_z-of_z w64 z fits ∙ is) ∙ padded_more f i h
 
 -- ---- rows of four
 
@@ -128,6 +160,15 @@ pub padded_product : (r β x : List ℤ) → 1 ≤ length r → length r ≤ wid
 unfolding padded_matrix
 padded_product r β x positive fits h k =
     padded_times_lem (length r) (matrix_of r β) x fits (length_matrix r β) (length_row r β) ∙ ap padded (matrix_product r positive β x h k)
+
+-- row by row
+pub padded_times_rows : (d : ℕ) (m : List (List ℤ)) (x : List ℤ) → d ≤ width → length m ≡ width → padded_times d m x ≡ padded (span (λ i. dot (take d (get_or m i [])) x) 0 d)
+unfolding padded_times times corner
+padded_times_rows d m x fits h =
+    let rows : take d m ≡ span (λ i. get_or m i []) 0 d = ap (take d) (listed [] width m h) ∙ take_four (λ i. get_or m i []) d fits in
+    ap (λ r. padded (map (λ row. dot row x) (map (take d) r))) rows
+    ∙ ap (λ r. padded (map (λ row. dot row x) r)) (map_span (take d) (λ i. get_or m i []) 0 d)
+    ∙ ap padded (map_span (λ row. dot row x) (λ i. take d (get_or m i [])) 0 d)
 
 -- ---- sizes
 

@@ -1,22 +1,19 @@
 -- Elements of four parts and the base, as the code takes them apart: numbers with their bounds, and each operation part by part.
-use mathlib.Core.Path.{◌≡◌, ap, ap₂, ◌∙◌}
+use mathlib.Core.Path.{◌≡◌, ap, ap₂}
 use mathlib.Core.Bool.{Bool, true, ◌&&◌, and-true, and_assoc}
 use mathlib.Core.List.{List, [], ◌∷◌}
 use Prim.Native.Nat.{ℕ, zero, suc, ◌≤◌, zero-le}
 use native.Mathlib.Nat.{le_refl}
-use lib.ListN.{length, get_or, take}
-use lib.IntN.{ℤ, pos, nat_abs, ◌+ℤ◌, ◌-ℤ◌, ◌*ℤ◌, +ℤ_idl}
+use lib.ListN.{length, get_or}
+use lib.IntN.{ℤ, pos, nat_abs, ◌+ℤ◌, ◌-ℤ◌, ◌*ℤ◌}
 use Rattle.lists.specs.Span.{span}
 use Rattle.lists.proofs.Span.{listed}
-use Rattle.integers.specs.Test.{eq_z}
 use Rattle.integers.proofs.Machine.{Term, leaf, ◌⊕◌, ◌⊖◌, ◌⊗◌, plain_bound}
 use Rattle.ring.specs.Element.{part, plus, negative, minus}
-use Rattle.ring.specs.Tests.{Within, same, BaseLimits, RowsWithin, LimitedBy, row_limits, RowsLimited}
+use Rattle.ring.specs.Tests.{Within, BaseLimits, RowsWithin, LimitedBy, row_limits, RowsLimited}
 use Rattle.ring.specs.Base.{base_trace, base_norm}
 use Rattle.ring.specs.Padded.{width}
-use Rattle.ring.specs.Matrix.{dot}
 use Rattle.ring.specs.Product.{scale}
-use Rattle.ring.proofs.Matrix.{dot_next}
 
 pub within_part : (n : ℕ) (x : List ℤ) → Within n x → (k : ℕ) → nat_abs (part x k) ≤ n
 unfolding Within
@@ -69,16 +66,6 @@ module _ (x y : List ℤ) (h : length x ≡ width) (k : length y ≡ width) wher
   pub minus_four : minus x y ≡ (part x 0 -ℤ part y 0) ∷ (part x 1 -ℤ part y 1) ∷ (part x 2 -ℤ part y 2) ∷ (part x 3 -ℤ part y 3) ∷ []
   unfolding minus negative plus
   minus_four = ap₂ minus (four_parts x h) (four_parts y k)
-
-  pub same_four : same x y ≡ (eq_z (part x 0) (part y 0) && eq_z (part x 1) (part y 1) && eq_z (part x 2) (part y 2) && eq_z (part x 3) (part y 3))
-  unfolding same
-  same_four =
-      ap₂ same (four_parts x h) (four_parts y k) ∙ grouped (eq_z (part x 0) (part y 0)) (eq_z (part x 1) (part y 1)) (eq_z (part x 2) (part y 2)) (eq_z (part x 3) (part y 3))
-
-pub dot_two : (row x : List ℤ) → dot (take 2 row) x ≡ part row 0 *ℤ part x 0 +ℤ part row 1 *ℤ part x 1
-unfolding dot
-dot_two row x =
-    dot_next 1 row x ∙ ap (λ z. z +ℤ part row 1 *ℤ part x 1) (dot_next 0 row x ∙ +ℤ_idl (part row 0 *ℤ part x 0))
 
 pub scale_four : (k : ℤ) (x : List ℤ) → length x ≡ width → scale k x ≡ (k *ℤ part x 0) ∷ (k *ℤ part x 1) ∷ (k *ℤ part x 2) ∷ (k *ℤ part x 3) ∷ []
 unfolding scale

@@ -117,13 +117,10 @@ pub fn byte_at(change: Change, number: usize, row: &[u8], place: usize) -> u8
     ensures { result ≡ get_or (changed change number row.now) place 0 }
 {
     if row.len() <= place {
-        return 0;
+        0
+    } else if change.row == number && change.place == place {
+        change.digit
+    } else {
+        row[place]
     }
-    if change.row != number {
-        return row[place];
-    }
-    if change.place != place {
-        return row[place];
-    }
-    change.digit
 }

@@ -64,7 +64,8 @@ pub fn behind(length: usize) -> u64
     u64::MAX >> (8 * (length - 1))
 }
 
-// The first place whose number is above a bound, by halves: `partition_point`, which says nothing of numbers that aren't known to be sorted.
+// The first place whose number is above a bound, by halves. Not by `partition_point`: the contract holds of any numbers, and that method's
+// says nothing of numbers that aren't known to be sorted.
 fn by_halves(keys: &[u64], from: usize, end: usize, bound: u64) -> usize
     requires { (from ≤ end) × (end ≤ length keys.now) }
     ensures { FirstAbove keys.now bound from end result }
@@ -89,6 +90,7 @@ fn first_above(keys: &[u64], from: usize, end: usize, bound: u64) -> usize
 {
     let mut low = from;
     let mut step = 1;
+    // a `while`: the step doubles, and no index counts up
     while step <= end - low {
         let last = low + (step - 1);
         if bound < keys[last] {

@@ -15,6 +15,7 @@ pub fn read_full<R: Read>(from: &mut R, out: &mut [u8]) -> io::Result<usize>
     ensures end { IfOk result (λ n. n < length out.new → IsAtEnd (R.remaining from.new)) }
 {
     let mut done = 0;
+    // a `while`: a read gives as many bytes as it likes, until the input ends or the buffer is full
     while done < out.len() {
         let n = from.read(&mut out[done..])?;
         if n == 0 {

@@ -2,7 +2,7 @@
 // its place, of rule 14 the two leaves, a row that holds them and how the digit comes out. It only moves bytes; `why_lines` makes the lines.
 #![tactic(auto)]
 
-ghost use Rattle.std.specs.Prelude.{◌≡◌, ◌≤◌, ◌<◌, ◌^◌, nat_abs, length};
+ghost use Rattle.std.specs.Prelude.{◌≡◌, ◌≤◌, ◌<◌, length};
 ghost use Rattle.layout_rules.specs.Directory.{directory_check};
 ghost use Rattle.layout_rules.specs.Section.{of_degree};
 ghost use Rattle.digit_rules.specs.Record.{element_count};
@@ -226,7 +226,7 @@ fn byte(
 ) -> io::Result<()> {
     if place < words.len() {
         let mut out = [0u8; 240];
-        let end = why_lines::byte_line(place, octets::wide(words[place]), &mut out);
+        let end = why_lines::byte_line(place, usize::from(words[place]), &mut out);
         shown_parts::written(rt, &out, end)?;
     }
     shown_parts::digits(rt, degree, b"  input digits:", inputs)
@@ -342,17 +342,15 @@ fn sum(
     Ok(())
 }
 
-// A part of the digit in 64 bits.
-fn wide(x: i32) -> i64
-    ensures { nat_abs result ≤ 2 ^ 31 }
-{
-    x as i64
-}
-
 // The digit that comes out, and the alphabet, which lacks it.
 fn outside(rt: &impl Print, degree: Degree, alphabet: &[u8], digit: Element) -> io::Result<()> {
     let mut out = [0u8; 480];
-    let parts = [wide(digit.a), wide(digit.b), wide(digit.c), wide(digit.d)];
+    let parts = [
+        i64::from(digit.a),
+        i64::from(digit.b),
+        i64::from(digit.c),
+        i64::from(digit.d),
+    ];
     let end = why_lines::digit_lines(parts, &mut out);
     shown_parts::written(rt, &out, end)?;
     shown_parts::digits(rt, degree, b"", alphabet)
@@ -405,7 +403,7 @@ fn row(rt: &impl Print, file: &[u8], shown: BadRow, string: &[u8]) -> io::Result
         shown.lower,
     )?;
     string_shown(rt, degree, inputs, string, shown.bytes)?;
-    let first = digit_at(degree, inputs, octets::wide(octets::byte_at(string, 0)));
+    let first = digit_at(degree, inputs, usize::from(octets::byte_at(string, 0)));
     let lower = leaves::weight(degree, leaves, shown.lower);
     sum(
         rt,

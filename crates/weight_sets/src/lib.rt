@@ -57,7 +57,7 @@ fn number_weights(
     let mut count = 0;
     for leaf in 0..leaves::leaf_count(degree, leaves) {
         let slot = slots::slot_of(leaves::weight(degree, leaves, leaf));
-        let kept = octets::wide(slots[slot]);
+        let kept = usize::from(slots[slot]);
         let number = number_in(degree, leaves, first, count, leaf, kept)?;
         if number == count {
             first[number] = leaf;
@@ -109,7 +109,7 @@ fn singles(numbers: &[u8], count: usize, sets: &mut [u64])
     ensures { Covers numbers.now sets.new count 1 }
 {
     for leaf in 0..count {
-        sets[leaf] = single(octets::wide(numbers[leaf]));
+        sets[leaf] = single(usize::from(numbers[leaf]));
     }
 }
 

@@ -1,10 +1,10 @@
 -- The powers of a base, filled in from the lowest.
-use mathlib.Core.Path.{◌≡◌, refl, sym, ap, subst, ◌∙◌}
-use mathlib.Core.List.{List, [], ◌∷◌}
+use mathlib.Core.Path.{◌≡◌, sym, ap, subst, ◌∙◌}
+use mathlib.Core.List.{List}
 use Prim.Native.Nat.{ℕ, suc, ◌+◌, ◌-◌, ◌*◌, ◌^◌, ◌<◌, ◌≤◌}
 use native.Mathlib.Omega.{arith}
 use native.Mathlib.Decide.{ℕ_discrete}
-use native.Mathlib.Nat.{pow-zero, pow-suc, pow-le-pow_left, pow-le-pow_right, mul-le-mul}
+use native.Mathlib.Nat.{pow-suc, pow-le-pow_left, pow-le-pow_right, mul-le-mul}
 use lib.ListN.{length, get_or, set, length-set}
 use lib.Seq.{get_or-set_same, get_or-set_other}
 
@@ -14,15 +14,6 @@ pub record Filled (base n : ℕ) (all : List ℕ) : Type 0 where
   pub high : n ≤ 8
   pub long : length all ≡ 9
   pub power : (k : ℕ) → n ≤ k → k ≤ 8 → get_or all k 0 ≡ base ^ (8 - k)
-
-pub filled_first : (base : ℕ) → Filled base 8 (1 ∷ 1 ∷ 1 ∷ 1 ∷ 1 ∷ 1 ∷ 1 ∷ 1 ∷ 1 ∷ [])
-filled_first base =
-    record {
-      low = omega arith;
-      high = omega arith;
-      long = refl;
-      power = λ k l h. let e : 8 ≡ k = omega arith in subst (λ (n : ℕ). get_or (1 ∷ 1 ∷ 1 ∷ 1 ∷ 1 ∷ 1 ∷ 1 ∷ 1 ∷ 1 ∷ []) n 0 ≡ base ^ (8 - n)) e (sym (pow-zero base));
-    }
 
 module _ (base n k : ℕ) (all : List ℕ) (next : n ≡ k + 1) (some : 1 ≤ k) (is : Filled base n all) where
   above : get_or all (k + 1) 0 ≡ base ^ (8 - n)

@@ -1,14 +1,16 @@
 -- Bytes as a number, and a number shifted to the high end of 64 bits.
 use mathlib.Core.Path.{◌≡◌, refl, sym, ap, ap₂, subst, ◌∙◌}
-use mathlib.Core.List.{List}
+use mathlib.Core.List.{List, [], ◌∷◌}
 use Prim.Native.Nat.{ℕ, zero, suc, ◌+◌, ◌-◌, ◌*◌, ◌/◌, ◌%◌, ◌^◌, ◌<◌, ◌≤◌}
 use native.Mathlib.Omega.{arith}
 use native.Mathlib.Numerals.{add-one}
-use native.Mathlib.Nat.{add-zero, add_assoc, add-mul, mul_assoc, pow-suc, pow-le-pow_right, one-le-pow, mul-lt-mul_of_pos_right, zero-add, zero-mul, mod-eq_of_lt}
+use native.Mathlib.Nat.{add-mul, mul_assoc, pow-suc, pow-le-pow_right, one-le-pow, mul-lt-mul_of_pos_right, zero-add, zero-mul, mod-eq_of_lt}
 use lib.ListN.{get_or}
 use lib.Arith.{digits_lt, digits_mod, digits_div}
 use lib.Bits.{bit_and, and_high}
 use lib.Pow.{pow-add}
+use mir.Syntax.{w64}
+use Rattle.std.specs.Int.{from_be_bytes}
 use Rattle.radix.specs.Number.{number, aligned}
 use Rattle.radix.proofs.Order.{number_lt, number_suc, number_split, agree_number}
 
@@ -16,16 +18,9 @@ use Rattle.radix.proofs.Order.{number_lt, number_suc, number_split, agree_number
 abbrev pub from : List ℕ → ℕ → ℕ → ℕ
 from bytes at i = get_or bytes (at + i) 0
 
-four_digits : (w : ℕ → ℕ) → number 256 w 4 ≡ w 0 * 16777216 + w 1 * 65536 + w 2 * 256 + w 3
+pub eight_bytes : (w : ℕ → ℕ) → from_be_bytes w64 (w 0 ∷ w 1 ∷ w 2 ∷ w 3 ∷ w 4 ∷ w 5 ∷ w 6 ∷ w 7 ∷ []) ≡ number 256 w 8
 unfolding number
-four_digits w = omega arith
-
-pub four_bytes : (bytes : List ℕ) (at : ℕ) → get_or bytes at 0 * 16777216 + get_or bytes (at + 1) 0 * 65536 + get_or bytes (at + 2) 0 * 256 + get_or bytes (at + 3) 0 ≡ number 256 (λ i. get_or bytes (at + i) 0) 4
-four_bytes bytes at = omega (arith, four_digits (from bytes at), ap (λ (k : ℕ). get_or bytes k 0) (add-zero at))
-
-pub eight_bytes : (bytes : List ℕ) (at : ℕ) → number 256 (λ i. get_or bytes (at + i) 0) 4 * 4294967296 + number 256 (λ i. get_or bytes (at + 4 + i) 0) 4 ≡ number 256 (λ i. get_or bytes (at + i) 0) 8
-eight_bytes bytes at =
-    omega (arith, number_split 256 (from bytes at) 4 4, agree_number 256 (λ i. from bytes at (4 + i)) (from bytes (at + 4)) 4 (λ i h. ap (λ (k : ℕ). get_or bytes k 0) (sym (add_assoc at 4 i))))
+eight_bytes w = omega arith
 
 -- one byte more
 pub more_bytes : (w : ℕ → ℕ) (i all : ℕ) → all ≡ number 256 w i → all * 256 + w i ≡ number 256 w (i + 1)

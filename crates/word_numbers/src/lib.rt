@@ -8,25 +8,22 @@ ghost use Rattle.radix.specs.Number.{number, aligned};
 // The most digits of a word, and the digits of a window.
 const LONGEST: usize = 8;
 
-// The four bytes from a place on.
-fn four(bytes: &[u8], at: usize) -> u64
-    requires { at + 4 ≤ length bytes.now }
-    ensures number { result ≡ number 256 (λ i. get_or bytes.now (at + i) 0) 4 }
-    ensures within { result < 4294967296 }
-{
-    u64::from(bytes[at]) * 16777216
-        + u64::from(bytes[at + 1]) * 65536
-        + u64::from(bytes[at + 2]) * 256
-        + u64::from(bytes[at + 3])
-}
-
 // The eight bytes from a place on. That they are bytes is said for a caller whose bytes are an array, which doesn't tell it.
 pub fn eight(bytes: &[u8], at: usize) -> u64
     requires { at + 8 ≤ length bytes.now }
     ensures number { result ≡ number 256 (λ i. get_or bytes.now (at + i) 0) 8 }
     ensures bytes { (i : ℕ) → get_or bytes.now i 0 < 256 }
 {
-    four(bytes, at) * 4294967296 + four(bytes, at + 4)
+    u64::from_be_bytes([
+        bytes[at],
+        bytes[at + 1],
+        bytes[at + 2],
+        bytes[at + 3],
+        bytes[at + 4],
+        bytes[at + 5],
+        bytes[at + 6],
+        bytes[at + 7],
+    ])
 }
 
 // The bytes from a place on, at most eight.

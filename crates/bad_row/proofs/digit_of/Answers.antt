@@ -34,10 +34,10 @@ section-requires-2 c = ((layout_kept c.args.table.now (table_kept c.args.table.n
 
 pub record_at-requires : goal.record_at-requires
 record_at-requires c =
-    let index : let s = c in c.wide-first.result ≡ get_or (word_given (leaf_part s.args.table.now) (word_part s.args.table.now) s.args.pair.upper) 0 0 = let s = c in let leaves = section_is s.args.table.now _ _ 3 c.degree_in-degree.ensures c.section-leaves.ensures in c.wide-first.ensures.same ∙ c.byte_at.ensures ∙ ap (λ word. get_or word 0 0) (c.word-word.ensures ∙ (λ i. word_given (leaves i) (c.section.ensures i) s.args.pair.upper)) in
+    let index : let s = c in c.from-first.result ≡ get_or (word_given (leaf_part s.args.table.now) (word_part s.args.table.now) s.args.pair.upper) 0 0 = let s = c in let leaves = section_is s.args.table.now _ _ 3 c.degree_in-degree.ensures c.section-leaves.ensures in c.from-first.ensures ∙ c.byte_at.ensures ∙ ap (λ word. get_or word 0 0) (c.word-word.ensures ∙ (λ i. word_given (leaves i) (c.section.ensures i) s.args.pair.upper)) in
     let table = c.args.table.now in
     let inputs = section_is table _ _ 2 c.degree_in-degree.ensures c.section-2.ensures in
-    subst (λ x. c.wide-first.result < element_count x) (sym inputs) (omega (arith, index, first_there table c.requires.table c.args.pair.upper c.requires.leaves.0))
+    subst (λ x. c.from-first.result < element_count x) (sym inputs) (omega (arith, index, first_there table c.requires.table c.args.pair.upper c.requires.leaves.0))
 
 pub sum-sum-requires : goal.sum-sum-requires
 sum-sum-requires c =
@@ -63,13 +63,13 @@ difference-requires c =
 pub shown-requires : goal.shown-requires
 unfolding out_digit elements
 shown-requires c =
-    let index : let s = c in c.wide-first.result ≡ get_or (word_given (leaf_part s.args.table.now) (word_part s.args.table.now) s.args.pair.upper) 0 0 = let s = c in let leaves = section_is s.args.table.now _ _ 3 c.degree_in-degree.ensures c.section-leaves.ensures in c.wide-first.ensures.same ∙ c.byte_at.ensures ∙ ap (λ word. get_or word 0 0) (c.word-word.ensures ∙ (λ i. word_given (leaves i) (c.section.ensures i) s.args.pair.upper)) in
+    let index : let s = c in c.from-first.result ≡ get_or (word_given (leaf_part s.args.table.now) (word_part s.args.table.now) s.args.pair.upper) 0 0 = let s = c in let leaves = section_is s.args.table.now _ _ 3 c.degree_in-degree.ensures c.section-leaves.ensures in c.from-first.ensures ∙ c.byte_at.ensures ∙ ap (λ word. get_or word 0 0) (c.word-word.ensures ∙ (λ i. word_given (leaves i) (c.section.ensures i) s.args.pair.upper)) in
     let made : let s = c in c.difference.result ≡ pair_digit (operations_of s.args.table.now) (record_at (input_part s.args.table.now)) (leaves_in s.args.table.now) s.args.pair.upper s.args.pair.lower = let at_wide = c in let s = at_wide in let table = s.args.table.now in let told = at_wide.degree_in-degree.ensures in let leaves = section_is table _ _ 3 told at_wide.section-leaves.ensures in let inputs = section_is table _ _ 2 told c.section-2.ensures in let base = section_is table _ _ 0 told c.section-3.ensures in let matrix = c.base_of-base.ensures ∙ ap base_matrix base in let first = c.record_at.ensures.element ∙ (λ i. record_at (inputs i) (index i)) in let below = c.weight.ensures.weight ∙ ap (λ x. weight_given x s.args.pair.lower) leaves in let own = c.weight-2.ensures.weight ∙ ap (λ x. weight_given x s.args.pair.upper) leaves in let sum = c.sum-sum.ensures ∙ (λ i. plus (first i) (below i)) in let product = c.times_base-product.ensures.product ∙ (λ i. padded_times (part_count (told i)) (matrix i) (own i)) in c.difference.ensures ∙ (λ i. minus (sum i) (product i)) ∙ digit_is table s.requires.table s.args.pair.upper s.args.pair.lower s.requires.leaves.0 s.requires.leaves.1 in
     subst (Within 2147483647) (sym (made)) (digit_fits c.args.table.now c.requires.table c.args.pair.upper c.args.pair.lower c.requires.leaves.0 c.requires.leaves.1)
 
 pub returns : goal.returns
 unfolding out_digit elements
 returns c =
-    let index : let s = c in c.wide-first.result ≡ get_or (word_given (leaf_part s.args.table.now) (word_part s.args.table.now) s.args.pair.upper) 0 0 = let s = c in let leaves = section_is s.args.table.now _ _ 3 c.degree_in-degree.ensures c.section-leaves.ensures in c.wide-first.ensures.same ∙ c.byte_at.ensures ∙ ap (λ word. get_or word 0 0) (c.word-word.ensures ∙ (λ i. word_given (leaves i) (c.section.ensures i) s.args.pair.upper)) in
+    let index : let s = c in c.from-first.result ≡ get_or (word_given (leaf_part s.args.table.now) (word_part s.args.table.now) s.args.pair.upper) 0 0 = let s = c in let leaves = section_is s.args.table.now _ _ 3 c.degree_in-degree.ensures c.section-leaves.ensures in c.from-first.ensures ∙ c.byte_at.ensures ∙ ap (λ word. get_or word 0 0) (c.word-word.ensures ∙ (λ i. word_given (leaves i) (c.section.ensures i) s.args.pair.upper)) in
     let made : let s = c in c.difference.result ≡ pair_digit (operations_of s.args.table.now) (record_at (input_part s.args.table.now)) (leaves_in s.args.table.now) s.args.pair.upper s.args.pair.lower = let at_wide = c in let s = at_wide in let table = s.args.table.now in let told = at_wide.degree_in-degree.ensures in let leaves = section_is table _ _ 3 told at_wide.section-leaves.ensures in let inputs = section_is table _ _ 2 told c.section-2.ensures in let base = section_is table _ _ 0 told c.section-3.ensures in let matrix = c.base_of-base.ensures ∙ ap base_matrix base in let first = c.record_at.ensures.element ∙ (λ i. record_at (inputs i) (index i)) in let below = c.weight.ensures.weight ∙ ap (λ x. weight_given x s.args.pair.lower) leaves in let own = c.weight-2.ensures.weight ∙ ap (λ x. weight_given x s.args.pair.upper) leaves in let sum = c.sum-sum.ensures ∙ (λ i. plus (first i) (below i)) in let product = c.times_base-product.ensures.product ∙ (λ i. padded_times (part_count (told i)) (matrix i) (own i)) in c.difference.ensures ∙ (λ i. minus (sum i) (product i)) ∙ digit_is table s.requires.table s.args.pair.upper s.args.pair.lower s.requires.leaves.0 s.requires.leaves.1 in
     c.shown.ensures ∙ made

@@ -2,6 +2,7 @@
 use mathlib.Core.Path.{◌≡◌, sym, subst}
 use mathlib.Core.Bool.{Bool}
 use mathlib.Core.List.{List}
+use mathlib.Core.Logic.{inl, inr}
 use Prim.Native.Nat.{ℕ}
 use lib.Dec.{ltb}
 use lib.IntN.{nat_abs}
@@ -35,8 +36,10 @@ returns-in-Two c = let a = c.args in subst (Allowed a.base.now c.is_expanding.re
 
 pub returns-in-Three : goal.returns-in-Three
 unfolding base_allowed
-returns-in-Three c = let a = c.args in large a.base.now c.has_large_determinant.result a.degree Three c.in-Three.is (λ h. h) c.has_large_determinant.ensures
-
-pub returns-in-Four : goal.returns-in-Four
-unfolding base_allowed
-returns-in-Four c = let a = c.args in large a.base.now c.has_large_determinant-in-Four.result a.degree Four c.in-Four.is (λ h. h) c.has_large_determinant-in-Four.ensures
+returns-in-Three c =
+    let a = c.args in
+    let r = c.has_large_determinant.result in
+    elim c.in-Three.is [
+      | inl is ↦ large a.base.now r a.degree Three is (λ h. h) c.has_large_determinant.ensures
+      | inr is ↦ large a.base.now r a.degree Four is (λ h. h) c.has_large_determinant.ensures
+    ]

@@ -21,7 +21,7 @@ returns-then-equal c =
 
 pub loop-preserved : goal.loop-preserved
 loop-preserved c =
-    sym (follow_on _ _ _ _ (136 - c.loop.counter) _ (omega arith) (omega (arith, c.record_count-count.ensures)) c.record_at.ensures.element (136 - (c.loop.counter + 1)) c.wide-at-in-loop.result (omega arith) c.wide-at-in-loop.ensures.same (sym c.equal.ensures ∙ c.if-equal.false))
+    sym (follow_on _ _ _ _ (136 - c.loop.counter) _ (omega arith) (omega (arith, c.record_count-count.ensures)) c.record_at.ensures.element (136 - (c.loop.counter + 1)) c.from-at-in-loop.result (omega arith) c.from-at-in-loop.ensures (sym c.equal.ensures ∙ c.if-equal.false))
     ∙ c.loop.invariant
 
 pub returns : goal.returns

@@ -1,39 +1,27 @@
--- By the degree.
-use mathlib.Core.Path.{◌≡◌, sym, subst, ◌∙◌}
+-- As many parts as the degree says.
+use mathlib.Core.Path.{◌≡◌, sym, ap, ◌∙◌}
 use mathlib.Core.List.{List}
-use Prim.Native.Nat.{ℕ, ◌+◌, ◌≤◌}
-use lib.ListN.{length}
+use Prim.Native.Nat.{ℕ, ◌+◌, ◌*◌}
 use lib.IntN.{ℤ}
+use Rattle.lists.specs.Span.{span}
 use Rattle.ring.specs.declared.Degree.{Degree}
 use Rattle.ring.specs.declared.Degree.TheVariants.{Two, Three, Four}
-use Rattle.layout_rules.specs.Section.{element_size, of_degree}
-use Rattle.digit_rules.specs.Record.{element_at}
+use Rattle.ring.specs.Degree.{part_count}
+use Rattle.ring.specs.Padded.{padded}
+use Rattle.layout_rules.specs.Number.{signed_at}
+use Rattle.layout_rules.specs.Section.{of_degree}
+use Rattle.digit_rules.specs.Record.{parts_at, element_at}
 use Rattle.digits.proofs.element.Goals as goal
 
--- the room of an element of the degree that was told
-room : (d e : Degree) (at n : ℕ) → d ≡ e → at + element_size d ≤ n → at + element_size e ≤ n
-room d e at n told h = subst (λ (f : Degree). at + element_size f ≤ n) told h
+whole : (d e : Degree) (bytes : List ℕ) (at : ℕ) (r : List ℤ) → d ≡ e → r ≡ padded (span (λ k. signed_at bytes (at + 2 * k)) 0 (part_count e)) → r ≡ element_at (of_degree d bytes) at
+unfolding element_at parts_at
+whole d e bytes at r told read = read ∙ ap (λ (f : Degree). element_at (of_degree f bytes) at) (sym told)
 
-pub element_of_two-requires : goal.element_of_two-requires
-element_of_two-requires c = let s = c in room _ Two s.args.at (length s.args.bytes.now) c.in-Two.is s.requires
+pub returns-in-Two-clause-element : goal.returns-in-Two-clause-element
+returns-in-Two-clause-element c = whole _ Two _ _ _ c.in-Two.is c.parts_at.ensures.parts
 
-pub element_of_three-requires : goal.element_of_three-requires
-element_of_three-requires c = let s = c in room _ Three s.args.at (length s.args.bytes.now) c.in-Three.is s.requires
+pub returns-in-Three-clause-element : goal.returns-in-Three-clause-element
+returns-in-Three-clause-element c = whole _ Three _ _ _ c.in-Three.is c.parts_at-in-Three.ensures.parts
 
-pub element_of_four-requires : goal.element_of_four-requires
-element_of_four-requires c = let s = c in room _ Four s.args.at (length s.args.bytes.now) c.in-Four.is s.requires
-
-pub returns-in-Two : goal.returns-in-Two
-returns-in-Two c =
-    let is : (d : Degree) (r : List ℤ) → c.args.degree ≡ d → r ≡ element_at (of_degree d c.args.bytes.now) c.args.at → r ≡ element_at (of_degree c.args.degree c.args.bytes.now) c.args.at = λ d r told read. read ∙ (λ i. element_at (of_degree (sym told i) c.args.bytes.now) c.args.at) in
-    record { element = is Two _ c.in-Two.is c.element_of_two.ensures.element; within = c.element_of_two.ensures.within }
-
-pub returns-in-Three : goal.returns-in-Three
-returns-in-Three c =
-    let is : (d : Degree) (r : List ℤ) → c.args.degree ≡ d → r ≡ element_at (of_degree d c.args.bytes.now) c.args.at → r ≡ element_at (of_degree c.args.degree c.args.bytes.now) c.args.at = λ d r told read. read ∙ (λ i. element_at (of_degree (sym told i) c.args.bytes.now) c.args.at) in
-    record { element = is Three _ c.in-Three.is c.element_of_three.ensures.element; within = c.element_of_three.ensures.within }
-
-pub returns-in-Four : goal.returns-in-Four
-returns-in-Four c =
-    let is : (d : Degree) (r : List ℤ) → c.args.degree ≡ d → r ≡ element_at (of_degree d c.args.bytes.now) c.args.at → r ≡ element_at (of_degree c.args.degree c.args.bytes.now) c.args.at = λ d r told read. read ∙ (λ i. element_at (of_degree (sym told i) c.args.bytes.now) c.args.at) in
-    record { element = is Four _ c.in-Four.is c.element_of_four.ensures.element; within = c.element_of_four.ensures.within }
+pub returns-in-Four-clause-element : goal.returns-in-Four-clause-element
+returns-in-Four-clause-element c = whole _ Four _ _ _ c.in-Four.is c.parts_at-in-Four.ensures.parts

@@ -4,7 +4,7 @@ use Rattle.listing_rules.proofs.Element.{right_length}
 use Rattle.listing_rules.specs.Element.{right}
 use Rattle.lists.proofs.Overwrite.{length_overwrite}
 use Rattle.lists.specs.Overwrite.{overwrite}
-use Rattle.octets.proofs.Copied.{put_mid-overwrite}
+use Rattle.lists.proofs.Copied.{put_mid-overwrite}
 use borrow.Rule.Slice.PartMut.{put_mid}
 use lib.ListN.{length, take, drop, replicate, length-replicate, length-drop}
 use lib.Seq.{length-take-le}

@@ -8,6 +8,6 @@ use Rattle.layout.proofs.degree_in.Goals as goal
 pub returns : goal.returns
 unfolding unsigned_at
 returns c =
-    let low = c.wide.ensures.same ∙ c.byte_at.ensures in
-    let high = c.wide-2.ensures.same ∙ c.byte_at-2.ensures in
+    let low = c.from.ensures ∙ c.byte_at.ensures in
+    let high = c.from-2.ensures ∙ c.byte_at-2.ensures in
     c.degree_of.ensures ∙ (λ i. degree_of (low i + 256 * high i))

@@ -10,12 +10,12 @@ use Rattle.leaf_lines.proofs.digit_text.Goals as goal
 pub returns-then-i-word-clause-count : goal.returns-then-i-word-clause-count
 returns-then-i-word-clause-count c =
     let a = c.args in
-    rw (digit_there (of_degree a.degree a.inputs.now) a.word.now a.i c.if-i-word.true) (rw c.wide.ensures.same at c.input_text.ensures.count)
+    rw (digit_there (of_degree a.degree a.inputs.now) a.word.now a.i c.if-i-word.true) (rw c.from.ensures at c.input_text.ensures.count)
 
 pub returns-then-i-word-clause-buffer : goal.returns-then-i-word-clause-buffer
 returns-then-i-word-clause-buffer c =
     let a = c.args in
-    rw (digit_there (of_degree a.degree a.inputs.now) a.word.now a.i c.if-i-word.true) (rw c.wide.ensures.same at c.input_text.ensures.buffer)
+    rw (digit_there (of_degree a.degree a.inputs.now) a.word.now a.i c.if-i-word.true) (rw c.from.ensures at c.input_text.ensures.buffer)
 
 pub returns-else-i-eq0-clause-count : goal.returns-else-i-eq0-clause-count
 returns-else-i-eq0-clause-count c = rw (digit_past (of_degree c.args.degree c.args.inputs.now) c.args.word.now c.args.i c.if-i-word.false c.if-i-eq0.false) (refl)

@@ -18,15 +18,5 @@ returns-in-Ok c =
 
 pub returns-in-Author : goal.returns-in-Author
 returns-in-Author c =
-    let made = line_long (outcome_of c.args.answer) c.args.out.now _ _ _ c.if-out-lt128.false (refused_case _ _ _ c.in-Err.is c.in-Author.is) (c.refused_line.ensures.count, (c.refused_line.ensures.buffer, c.refused_line.ensures.within)) in
-    record { count = made.0; buffer = made.1.0; within = made.1.1 }
-
-pub returns-in-Rows : goal.returns-in-Rows
-returns-in-Rows c =
-    let made = line_long (outcome_of c.args.answer) c.args.out.now _ _ _ c.if-out-lt128.false (refused_case _ _ _ c.in-Err.is c.in-Rows.is) (c.refused_line-in-Rows.ensures.count, (c.refused_line-in-Rows.ensures.buffer, c.refused_line-in-Rows.ensures.within)) in
-    record { count = made.0; buffer = made.1.0; within = made.1.1 }
-
-pub returns-in-Editor : goal.returns-in-Editor
-returns-in-Editor c =
-    let made = line_long (outcome_of c.args.answer) c.args.out.now _ _ _ c.if-out-lt128.false (refused_case _ _ _ c.in-Err.is c.in-Editor.is) (c.refused_line-in-Editor.ensures.count, (c.refused_line-in-Editor.ensures.buffer, c.refused_line-in-Editor.ensures.within)) in
+    let made = line_long (outcome_of c.args.answer) c.args.out.now _ _ _ c.if-out-lt128.false (refused_case _ _ _ _ c.in-Err.is c.in-Author.is) (c.refused_line.ensures.count, (c.refused_line.ensures.buffer, c.refused_line.ensures.within)) in
     record { count = made.0; buffer = made.1.0; within = made.1.1 }

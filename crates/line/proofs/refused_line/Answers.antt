@@ -5,7 +5,7 @@ use Rattle.text_rules.specs.Bytes.{bytes_of}
 use Rattle.text_rules.specs.Decimal.{decimal}
 use Rattle.text_rules.proofs.Fault.{item_room}
 use Rattle.lists.proofs.Pieces.{last, next, put_all, put_line}
-use lib.ListN.{length, length-append}
+use lib.ListN.{length-append}
 use native.Mathlib.Omega.{arith}
 use Prim.Native.Nat.{ℕ}
 use mathlib.Core.List.{List, append_assoc, ◌++◌}

@@ -9,4 +9,4 @@ pub returns : goal.returns
 returns c =
     let a = c.args in
     let bits = c.bits.ensures ∙ ap (λ (b : ℕ). bits_of (image_number a.mirrored b)) c.byte_at-2.ensures in
-    leaf_written a.shape.positive a.shape.width a.words.now a.lengths.now a.weights.now a.at.leaves a.at.words a.mirrored a.k _ _ _ _ _ a.out.now _ _ _ _ c.number.ensures c.place_of-place.ensures.leaf c.place_of-place.ensures.word (c.wide-size.ensures.same ∙ c.byte_at.ensures) bits c.put_number.ensures c.put_number-2.ensures c.put_number-3.ensures c.put_word.ensures
+    leaf_written a.shape.positive a.shape.width a.words.now a.lengths.now a.weights.now a.at.leaves a.at.words a.mirrored a.k _ _ _ _ _ a.out.now _ _ _ _ c.number.ensures c.place_of-place.ensures.leaf c.place_of-place.ensures.word (c.from-size.ensures ∙ c.byte_at.ensures) bits c.put_number.ensures c.put_number-2.ensures c.put_number-3.ensures c.put_word.ensures

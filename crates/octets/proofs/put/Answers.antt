@@ -1,6 +1,6 @@
 -- The bytes copied into the part are what the buffer has written there.
 use native.Mathlib.Omega.{arith}
-use Rattle.octets.proofs.Copied.{put_mid-overwrite}
+use Rattle.lists.proofs.Copied.{put_mid-overwrite}
 use Rattle.octets.proofs.put.Goals as goal
 
 pub returns-clause-written : goal.returns-clause-written

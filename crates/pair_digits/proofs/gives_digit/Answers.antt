@@ -6,11 +6,10 @@ use Rattle.ring.proofs.Element.{within_plus, within_le}
 use Rattle.ring.specs.Element.{plus}
 use Rattle.ring.specs.Tests.{Within}
 use lib.Dec.{ltb, lit≤}
-use Rattle.lists.specs.Found.{below}
-use Rattle.std.specs.Prelude.{Some, None, is_some}
-use mathlib.Core.Bool.{Bool, true, false, cond}
-use Prim.Native.Nat.{ℕ, ◌+◌, ◌^◌}
-use mathlib.Core.Path.{◌≡◌, refl, sym, ap, subst, ◌∙◌}
+use Rattle.lists.proofs.Found.{is_some_below}
+use Rattle.std.specs.Prelude.{is_some}
+use Prim.Native.Nat.{◌+◌, ◌^◌}
+use mathlib.Core.Path.{sym, ap, subst, ◌∙◌}
 use Rattle.pair_digits.proofs.gives_digit.Goals as goal
 
 pub sum-digit-requires : goal.sum-digit-requires
@@ -24,18 +23,10 @@ in_slots-requires c =
 pub returns-in-Some : goal.returns-in-Some
 returns-in-Some c = c.in_slots.ensures ∙ ap (in_alphabet (of_degree c.args.degree c.args.alphabet.now)) (c.sum-digit.ensures ∙ ap (plus c.args.part) c.weight.ensures.weight)
 
-is_some-below : (n i : ℕ) → is_some (below n i) ≡ ltb i n
-unfolding below
-is_some-below n i = go (ltb i n)
-  where
-    go : (b : Bool) → is_some (cond b (Some i) None) ≡ b
-    go true = refl
-    go false = refl
-
 pub returns-in-None : goal.returns-in-None
 unfolding in_alphabet
 returns-in-None c =
     let alphabet = of_degree c.args.degree c.args.alphabet.now in
     let digit = c.sum-digit.ensures ∙ ap (plus c.args.part) c.weight.ensures.weight in
     let count = c.record_count-count.ensures in
-    c.is_some.ensures ∙ ap is_some c.find.ensures ∙ is_some-below _ _ ∙ (λ i. ltb (index_in alphabet (count i) (digit i)) (count i))
+    c.is_some.ensures ∙ ap is_some c.find.ensures ∙ is_some_below _ _ ∙ (λ i. ltb (index_in alphabet (count i) (digit i)) (count i))

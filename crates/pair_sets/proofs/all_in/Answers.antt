@@ -104,17 +104,17 @@ judged-known-requires c =
     let ready = ready_words leaves words (element_count inputs) is (λ i. omega (arith, c.type_inv.words i)) in
     let first = c.first_digit-mark in
     let marked = ap (λ (x : ℕ). x + 1) (first.ensures.digit ∙ ap (λ (x : ℕ). x / 72057594037927936) (pre.known.0 loop.upper there) ∙ first_digit leaves words ready loop.upper there ∙ sym (reads leaves words (element_count inputs) pre.table.1 is loop.upper 0 there (is.some loop.upper there))) in
-    let wide = c.wide-number in record {
+    let number = c.from-number in record {
       part = (
         pre.table.0,
         slot-digits.ensures if1.false,
         first_input leaves words (element_count inputs) pre.table.1 (formed leaves words (element_count inputs) pre.table.1 pre.table.2) loop.upper (omega (arith, leaf-count.ensures)),
       );
       number = (
-        omega (arith, wide.ensures.same, (pre.known.1 loop.upper (omega (arith, leaf-count.ensures))).0, pre.room.3),
+        omega (arith, number.ensures, (pre.known.1 loop.upper (omega (arith, leaf-count.ensures))).0, pre.room.3),
         pre.room.3,
         pre.room.4,
-        ap (λ (n : ℕ). weight_given leaves (get_or a.first.now n 0)) wide.ensures.same ∙ (pre.known.1 loop.upper (omega (arith, leaf-count.ensures))).1,
+        ap (λ (n : ℕ). weight_given leaves (get_or a.first.now n 0)) number.ensures ∙ (pre.known.1 loop.upper (omega (arith, leaf-count.ensures))).1,
         marked,
       );
       kept = loop.invariant.3;

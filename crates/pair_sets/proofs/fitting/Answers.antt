@@ -19,7 +19,7 @@ returns-then-length-eq1 c =
     let counted = c.leaf_count-count.ensures in record { end = (omega (arith, counted), omega (arith, counted)); set = λ words ready keyed l there fit. c.requires.weights.2 l there; count = λ words m input is ready keyed. counted ∙ sym (short_count (code_of (of_degree a.degree a.leaves.now) words) a.upper (sym c.word_length-length.ensures.size ∙ c.if-length-eq1.true)) }
 
 pub single-requires : goal.single-requires
-single-requires c = omega (arith, c.wide.ensures.same, c.requires.weights.0 c.low_leaf-low.result (omega (arith, c.leaf_count-count.ensures, c.low_leaf-low.ensures.within)))
+single-requires c = omega (arith, c.from.ensures, c.requires.weights.0 c.low_leaf-low.result (omega (arith, c.leaf_count-count.ensures, c.low_leaf-low.ensures.within)))
 
 pub returns-then-next_above : goal.returns-then-next_above
 returns-then-next_above c =
@@ -32,7 +32,7 @@ returns-then-next_above c =
     let above = c.next_above.ensures c.if-next_above.true in
     let rest = c.behind.ensures ∙ ap (λ (n : ℕ). 256 ^ (8 - pred n)) c.word_length-length.ensures.size in
     let tail = (get_or keys a.upper 0 * 2 ^ 8) % 2 ^ 64 in
-    let has = subst (λ (x : ℕ). Has x (get_or numbers low.result 0)) (sym (c.single.ensures ∙ ap (λ (n : ℕ). 2 ^ n) c.wide.ensures.same)) (has_single (get_or numbers low.result 0)) in record {
+    let has = subst (λ (x : ℕ). Has x (get_or numbers low.result 0)) (sym (c.single.ensures ∙ ap (λ (n : ℕ). 2 ^ n) c.from.ensures)) (has_single (get_or numbers low.result 0)) in record {
       end = (omega (arith, above.0, counted), omega (arith, above.0, counted));
       set = λ words ready keyed l there fit.
           let within = run_within table words ready a.upper c.requires.upper.0 keys keyed tail c.behind.result low.result (low.result + 1) refl rest (omega (arith, low.ensures.within, counted)) low.ensures.low (λ h. above.1) l there fit in

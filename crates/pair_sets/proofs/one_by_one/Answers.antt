@@ -16,7 +16,7 @@ pub returns-then-last-keys : goal.returns-then-last-keys
 returns-then-last-keys c = record { end = λ start between. between_below _ _ _ _ _ _ (c.loop-leaf.invariant.0 start between) _ (omega arith) c.loop-leaf-test.true c.if-last-keys.true; set = c.loop-leaf.invariant.1 }
 
 pub single-set-requires : goal.single-set-requires
-single-set-requires c = omega (arith, c.wide.ensures.same, c.requires.weights c.loop-leaf.leaf c.loop-leaf-test.true)
+single-set-requires c = omega (arith, c.from.ensures, c.requires.weights c.loop-leaf.leaf c.loop-leaf-test.true)
 
 pub loop-leaf-preserved : goal.loop-leaf-preserved
 loop-leaf-preserved c =
@@ -24,7 +24,7 @@ loop-leaf-preserved c =
     let loop = c.loop-leaf in (
       λ start between. between_above _ _ _ _ _ _ (loop.invariant.0 start between) _ (omega arith) c.loop-leaf-test.true (omega (arith, c.if-last-keys.false)),
       λ start before. run_next numbers c.args.count start loop.set loop.leaf c.single-set.result
-          (subst (λ (x : ℕ). Has x (get_or numbers loop.leaf 0)) (sym (c.single-set.ensures ∙ ap (λ (n : ℕ). 2 ^ n) c.wide.ensures.same)) (has_single (get_or numbers loop.leaf 0)))
+          (subst (λ (x : ℕ). Has x (get_or numbers loop.leaf 0)) (sym (c.single-set.ensures ∙ ap (λ (n : ℕ). 2 ^ n) c.from.ensures)) (has_single (get_or numbers loop.leaf 0)))
           (loop.invariant.1 start before),
     )
 

@@ -29,9 +29,9 @@ returns-then-equal-clause-index c =
     let a = c.args in
     let alphabet = of_degree a.degree a.alphabet.now in
     let size = c.record_count-size.ensures in
-    let last = c.wide-last.ensures.same in
+    let last = c.from-last.ensures in
     let same = ap (record_at alphabet) (sym last) ∙ sym c.record_at.ensures.element ∙ same→≡ _ _ (sym c.equal.ensures ∙ c.if-equal.true) in
-    let hit : c.wide-last.result ≡ alphabet_index alphabet a.x = last ∙ first_hit alphabet a.x a.slots.now c.requires.2 c.slot_of-slot.result (omega (arith, last, c.if-last-size.true, size)) same in
+    let hit : c.from-last.result ≡ alphabet_index alphabet a.x = last ∙ first_hit alphabet a.x a.slots.now c.requires.2 c.slot_of-slot.result (omega (arith, last, c.if-last-size.true, size)) same in
     ap Some hit ∙ below_some (element_count alphabet) (alphabet_index alphabet a.x) (omega (arith, hit, c.if-last-size.true, size))
 
 pub overflow_cast-slots : goal.overflow_cast-slots

@@ -98,18 +98,15 @@ loop-leaf-preserved c =
     (omega (arith, leaf-count.ensures)) word-start.ensures.start word-length.ensures.size l c.word_number_by-number.ensures (powers.ensures word-length.result l.1 l.2)
     (powers2.ensures word-length.result l.1 l.2) pre.sizes.1 (omega (arith, c.if-number-floor.false))
 
-pub returns-then-end-words : goal.returns-then-end-words
-returns-then-end-words c = λ t. clash t refl
-
 pub overflow_mul-result : goal.overflow_mul-result
 overflow_mul-result c = omega (arith, strings_room c.args.inputs (get_or c.powers-shares.result 1 0) c.requires.sizes.1 (c.powers-shares.ensures 1 (omega arith) (omega arith)))
 
-pub returns : goal.returns
-returns c =
+pub returns-then-end-words : goal.returns-then-end-words
+returns-then-end-words c =
     let a = c.args in
     let inputs = a.inputs in
     let powers2 = c.powers-shares in
     let loop = c.loop-leaf in
     λ t. all_kept (of_degree a.degree a.leaves.now) a.words.now inputs loop.leaf loop.end loop.floor loop.strings loop.invariant
-    (omega (arith, c.leaf_count-count.ensures, c.loop-leaf-test.false)) (omega (arith, c.if-end-words.false))
+    (omega (arith, c.leaf_count-count.ensures, c.loop-leaf-test.false)) c.if-end-words.true
     (strings_all inputs (get_or powers2.result 1 0) loop.strings (powers2.ensures 1 (omega arith) (omega arith)) (eqb-true _ _ t))

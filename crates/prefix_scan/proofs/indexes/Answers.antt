@@ -12,9 +12,9 @@ use Rattle.prefix_scan.proofs.indexes.Goals as goal
 pub loop-i-init : goal.loop-i-init
 loop-i-init c = simp sub-zero
 
-pub returns-then-inputs-wide : goal.returns-then-inputs-wide
+pub returns-then-inputs-from : goal.returns-then-inputs-from
 unfolding word_index_check
-returns-then-inputs-wide c =
+returns-then-inputs-from c =
     let a = c.args in
     let words = a.words.now in
     let loop = c.loop-i in

@@ -10,22 +10,22 @@ use Rattle.prefix_scan.proofs.run_end.Goals as goal
 pub loop-leaf-init : goal.loop-leaf-init
 loop-leaf-init c = refl
 
-pub returns-then-wide-digit : goal.returns-then-wide-digit
+pub returns-then-from-digit : goal.returns-then-from-digit
 unfolding run_end
-returns-then-wide-digit c =
+returns-then-from-digit c =
     let a = c.args in
     let loop = c.loop-leaf in
     let loop-test = c.loop-leaf-test in
-    let read = c.wide.ensures.same ∙ digit_read (of_degree a.degree a.leaves.now) a.words.now loop.leaf a.place _ _ c.word_start.ensures.start c.byte_at.ensures in
-    sym (scan_here _ _ a.high loop-test.true (ne_eqb _ _ (λ q. c.if-wide-digit.true (read ∙ q)))) ∙ loop.invariant
+    let read = c.from.ensures ∙ digit_read (of_degree a.degree a.leaves.now) a.words.now loop.leaf a.place _ _ c.word_start.ensures.start c.byte_at.ensures in
+    sym (scan_here _ _ a.high loop-test.true (ne_eqb _ _ (λ q. c.if-from-digit.true (read ∙ q)))) ∙ loop.invariant
 
 pub loop-leaf-preserved : goal.loop-leaf-preserved
 loop-leaf-preserved c =
     let a = c.args in
     let loop = c.loop-leaf in
     let loop-test = c.loop-leaf-test in
-    let read = c.wide.ensures.same ∙ digit_read (of_degree a.degree a.leaves.now) a.words.now loop.leaf a.place _ _ c.word_start.ensures.start c.byte_at.ensures in
-    sym (scan_on _ _ a.high loop-test.true (eq-eqb _ _ (sym read ∙ c.if-wide-digit.false))) ∙ loop.invariant
+    let read = c.from.ensures ∙ digit_read (of_degree a.degree a.leaves.now) a.words.now loop.leaf a.place _ _ c.word_start.ensures.start c.byte_at.ensures in
+    sym (scan_on _ _ a.high loop-test.true (eq-eqb _ _ (sym read ∙ c.if-from-digit.false))) ∙ loop.invariant
 
 pub returns : goal.returns
 unfolding run_end
