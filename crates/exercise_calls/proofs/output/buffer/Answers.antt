@@ -1,6 +1,5 @@
 -- Two digits for each of at most 260 bytes have room behind a space.
 use Rattle.std.proofs.Common.{arith}
-use lib.ListN.{length}
 use Rattle.text_rules.proofs.Hex.{length_hex}
 use Rattle.exercise_calls.proofs.output.buffer.Goals as goal
 

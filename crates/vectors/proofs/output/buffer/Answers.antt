@@ -1,6 +1,5 @@
 -- Two digits for each of at most 1,000 bytes, or the mark of none, have room behind a space.
 use Rattle.std.proofs.Common.{arith}
-use lib.ListN.{length}
 use Rattle.text_rules.proofs.Hex.{length_hex}
 use Rattle.vectors.proofs.output.buffer.Goals as goal
 
