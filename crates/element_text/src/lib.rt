@@ -1,107 +1,93 @@
-// Elements as people write them, `w` standing for ω, and text at the right of a column, written into a lent buffer.
+// Elements as people write them, `w` standing for ω, and text at the right of a column, each written behind a text.
 #![tactic(auto)]
 
-ghost use Rattle.std.specs.Prelude.{◌≡◌, ◌+◌, ◌^◌, ◌≤◌, ◌<◌, nat_abs, length};
-ghost use Rattle.lists.specs.Overwrite.{overwrite};
+ghost use Rattle.std.specs.Prelude.{◌≡◌, ◌++◌, ◌+◌, ◌^◌, ◌≤◌, ◌<◌, nat_abs, length};
 ghost use Rattle.ring.specs.Tests.{Within};
 ghost use Rattle.ring.specs.Padded.{width};
 ghost use Rattle.listing_rules.specs.Element.{power_text, factor_text, sign_text, part_text, parts_text, element_text, right};
 
-// Writes a power of ω from a place on; the next place.
-fn put_power(out: &mut [u8], at: usize, k: usize) -> usize
-    requires { at + length (power_text k) ≤ length out.old }
-    ensures end { result ≡ at + length (power_text k) }
-    ensures buffer { out.new ≡ overwrite out.old at (power_text k) }
+use text::Text;
+
+// Writes a power of ω.
+fn put_power<const N: usize>(text: &mut Text<N>, k: usize)
+    requires { length text.old + length (power_text k) ≤ N }
+    ensures { text.new ≡ text.old ++ power_text k }
 {
-    if k == 0 {
-        at
-    } else if k == 1 {
-        octets::put(out, at, b"w")
-    } else {
-        text::put_item(out, at, b"w^", k)
+    match k {
+        0 => (),
+        1 => text.put(b"w"),
+        _ => text.item(b"w^", k),
     }
 }
 
-// Writes the number before a power of ω; the next place.
-fn put_factor(out: &mut [u8], at: usize, n: usize, k: usize) -> usize
-    requires { at + length (factor_text n k) ≤ length out.old }
-    ensures end { result ≡ at + length (factor_text n k) }
-    ensures buffer { out.new ≡ overwrite out.old at (factor_text n k) }
+// Writes the number before a power of ω.
+fn put_factor<const N: usize>(text: &mut Text<N>, n: usize, k: usize)
+    requires { length text.old + length (factor_text n k) ≤ N }
+    ensures { text.new ≡ text.old ++ factor_text n k }
 {
-    if n == 1 && 0 < k {
-        at
-    } else {
-        text::put_decimal(out, at, n)
+    if n != 1 || k == 0 {
+        text.decimal(n);
     }
 }
 
-// Writes the sign of a part that so many bytes stand before: no plus where none does. The next place.
-fn put_sign(out: &mut [u8], at: usize, written: usize, a: i64) -> usize
-    requires { at + length (sign_text written a) ≤ length out.old }
-    ensures end { result ≡ at + length (sign_text written a) }
-    ensures buffer { out.new ≡ overwrite out.old at (sign_text written a) }
+// Writes the sign of a part that so many bytes stand before: no plus where none does.
+fn put_sign<const N: usize>(text: &mut Text<N>, written: usize, a: i64)
+    requires { length text.old + length (sign_text written a) ≤ N }
+    ensures { text.new ≡ text.old ++ sign_text written a }
 {
     if a < 0 {
-        octets::put(out, at, b"-")
-    } else if written == 0 {
-        at
-    } else {
-        octets::put(out, at, b"+")
+        text.put(b"-");
+    } else if 0 < written {
+        text.put(b"+");
     }
 }
 
-// Writes a part with its power of ω, behind so many bytes; the next place.
-fn put_part(out: &mut [u8], at: usize, written: usize, a: i64, k: usize) -> usize
-    requires room { at + length (part_text written a k) ≤ length out.old }
+// Writes a part with its power of ω, behind so many bytes.
+fn put_part<const N: usize>(text: &mut Text<N>, written: usize, a: i64, k: usize)
+    requires room { length text.old + length (part_text written a k) ≤ N }
     requires size { nat_abs a < 2 ^ 63 }
-    ensures end { result ≡ at + length (part_text written a k) }
-    ensures buffer { out.new ≡ overwrite out.old at (part_text written a k) }
+    ensures { text.new ≡ text.old ++ part_text written a k }
 {
     let n = magnitude::size(a);
     if n == 0 {
-        return at;
+        return;
     }
-    let factor = put_sign(out, at, written, a);
-    let power = put_factor(out, factor, n, k);
-    put_power(out, power, k)
+    put_sign(text, written, a);
+    put_factor(text, n, k);
+    put_power(text, k);
 }
 
-// Writes the parts of an element; the next place.
-fn put_parts(out: &mut [u8], at: usize, x: [i64; 4]) -> usize
-    requires room { at + length (parts_text x width) ≤ length out.old }
+// Writes the parts of an element.
+fn put_parts<const N: usize>(text: &mut Text<N>, x: [i64; 4])
+    requires room { length text.old + length (parts_text x width) ≤ N }
     requires parts { Within (2 ^ 62) x }
-    ensures end { result ≡ at + length (parts_text x width) }
-    ensures buffer { out.new ≡ overwrite out.old at (parts_text x width) }
+    ensures { text.new ≡ text.old ++ parts_text x width }
 {
-    let mut end = at;
+    let start = text.len();
     for k in 0..4 {
-        end = put_part(out, end, end - at, x[k], k);
+        let written = text.len() - start;
+        put_part(text, written, x[k], k);
     }
-    end
 }
 
-// Writes an element from a place on; the next place.
-pub fn put_element(out: &mut [u8], at: usize, x: [i64; 4]) -> usize
-    requires room { at + length (element_text x) ≤ length out.old }
+// Writes an element.
+pub fn put_element<const N: usize>(text: &mut Text<N>, x: [i64; 4])
+    requires room { length text.old + length (element_text x) ≤ N }
     requires parts { Within (2 ^ 62) x }
-    ensures end { result ≡ at + length (element_text x) }
-    ensures buffer { out.new ≡ overwrite out.old at (element_text x) }
+    ensures { text.new ≡ text.old ++ element_text x }
 {
-    let end = put_parts(out, at, x);
-    if end == at {
-        octets::put(out, at, b"0")
-    } else {
-        end
+    let start = text.len();
+    put_parts(text, x);
+    if text.len() == start {
+        text.put(b"0");
     }
 }
 
-// Writes a text at the right of a column that starts at a place; the next place.
-pub fn put_right(out: &mut [u8], at: usize, width: usize, text: &[u8]) -> usize
-    requires { at + length (right width text.now) ≤ length out.old }
-    ensures end { result ≡ at + length (right width text.now) }
-    ensures buffer { out.new ≡ overwrite out.old at (right width text.now) }
+// Writes bytes at the right of a column.
+pub fn put_right<const N: usize>(text: &mut Text<N>, width: usize, bytes: &[u8])
+    requires { length text.old + length (right width bytes.now) ≤ N }
+    ensures { text.new ≡ text.old ++ right width bytes.now }
 {
-    let end = at + width.saturating_sub(text.len());
-    out[at..end].fill(b' ');
-    octets::put(out, end, text)
+    text.fill(width.saturating_sub(bytes.len()), b' ');
+    text.put(bytes);
 }

@@ -10,29 +10,24 @@ use midpoint::Element;
 use ring::Degree;
 use std::io;
 use table_rules::Facts;
-
-// What a buffer holds up to a place.
-fn written(rt: &impl Print, out: &[u8], end: usize) -> io::Result<()> {
-    match out.get(..end) {
-        Some(text) => rt.write_all(text),
-        None => Err(io::Error::from(io::ErrorKind::InvalidData)),
-    }
-}
+use text::Text;
 
 // A space and a buffer.
 pub fn buffer(rt: &impl Print, bytes: &[u8]) -> io::Result<()>
     requires { length bytes.now ≤ 260 }
 {
-    let mut out = [b' '; 522];
-    let end = fault_text::put_hex(&mut out, 1, bytes);
-    written(rt, &out, end)
+    let mut text: Text<522> = Text::new();
+    text.push(b' ');
+    fault_text::put_hex(&mut text, bytes);
+    rt.write_all(text.as_bytes())
 }
 
 // A space and a fault.
 pub fn refused(rt: &impl Print, fault: Fault) -> io::Result<()> {
-    let mut out = [b' '; 65];
-    let end = fault_text::put_fault(&mut out, 1, fault);
-    written(rt, &out, end)
+    let mut text: Text<65> = Text::new();
+    text.push(b' ');
+    fault_text::put_fault(&mut text, fault);
+    rt.write_all(text.as_bytes())
 }
 
 // As many parts as the degree says.

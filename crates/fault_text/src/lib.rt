@@ -1,13 +1,13 @@
-// Faults and buffers as text, as the programs write them into a lent buffer.
+// Faults and buffers as text, as the programs write them, each written behind a text.
 #![tactic(auto)]
 
 ghost use Rattle.std.specs.Prelude.{◌≡◌, ◌++◌, ◌+◌, ◌≤◌, ◌<◌, length};
-ghost use Rattle.lists.specs.Overwrite.{overwrite};
 ghost use Rattle.text_rules.specs.Decimal.{decimal};
 ghost use Rattle.text_rules.specs.Hex.{hex_byte, hex_digits, hex};
 ghost use Rattle.text_rules.specs.Fault.{place_word, fault_text};
 
 use faults::Fault;
+use text::Text;
 
 // The byte of a hexadecimal digit.
 fn hex_byte(d: u8) -> u8
@@ -17,54 +17,46 @@ fn hex_byte(d: u8) -> u8
     if d < 10 { 48 + d } else { 87 + d }
 }
 
-// Writes two hexadecimal digits for each byte from a place on; the next place.
-fn put_hex_digits(out: &mut [u8], at: usize, bytes: &[u8]) -> usize
-    requires { at + length (hex_digits bytes.now) ≤ length out.old }
-    ensures end { result ≡ at + length (hex_digits bytes.now) }
-    ensures buffer { out.new ≡ overwrite out.old at (hex_digits bytes.now) }
+// Writes two hexadecimal digits for each byte.
+fn put_hex_digits<const N: usize>(text: &mut Text<N>, bytes: &[u8])
+    requires { length text.old + length (hex_digits bytes.now) ≤ N }
+    ensures { text.new ≡ text.old ++ hex_digits bytes.now }
 {
-    let mut end = at;
     for byte in bytes {
-        out[end] = hex_byte(*byte / 16);
-        out[end + 1] = hex_byte(*byte % 16);
-        end += 2;
+        text.push(hex_byte(*byte / 16));
+        text.push(hex_byte(*byte % 16));
     }
-    end
 }
 
-// Writes a buffer in hexadecimal from a place on, `-` where it is empty; the next place.
-pub fn put_hex(out: &mut [u8], at: usize, bytes: &[u8]) -> usize
-    requires { at + length (hex bytes.now) ≤ length out.old }
-    ensures end { result ≡ at + length (hex bytes.now) }
-    ensures buffer { out.new ≡ overwrite out.old at (hex bytes.now) }
+// Writes a buffer in hexadecimal, `-` where it is empty.
+pub fn put_hex<const N: usize>(text: &mut Text<N>, bytes: &[u8])
+    requires { length text.old + length (hex bytes.now) ≤ N }
+    ensures { text.new ≡ text.old ++ hex bytes.now }
 {
-    if bytes.len() == 0 {
-        octets::put(out, at, b"-")
+    if bytes.is_empty() {
+        text.push(b'-');
     } else {
-        put_hex_digits(out, at, bytes)
+        put_hex_digits(text, bytes);
     }
 }
 
-// Writes a word, a fault's number and its place from a place on; the next place. Each number has at most 20 digits.
-fn put_refusal(out: &mut [u8], at: usize, word: &[u8], number: usize, place: usize) -> usize
-    requires { at + length word.now + 47 ≤ length out.old }
-    ensures end { result ≡ at + length (word.now ++ (decimal number ++ (place_word ++ decimal place))) }
-    ensures buffer { out.new ≡ overwrite out.old at
-        (word.now ++ (decimal number ++ (place_word ++ decimal place))) }
+// Writes a word, a fault's number and its place. Each number has at most 20 digits.
+fn put_refusal<const N: usize>(text: &mut Text<N>, word: &[u8], number: usize, place: usize)
+    requires { length text.old + length word.now + 47 ≤ N }
+    ensures { text.new ≡ text.old ++ (word.now ++ (decimal number ++ (place_word ++ decimal place))) }
 {
-    let end = text::put_item(out, at, word, number);
-    text::put_item(out, end, b" place ", place)
+    text.item(word, number);
+    text.item(b" place ", place);
 }
 
-// Writes `refused GROUP N place P` from a place on; the next place.
-pub fn put_fault(out: &mut [u8], at: usize, fault: Fault) -> usize
-    requires { at + 64 ≤ length out.old }
-    ensures end { result ≡ at + length (fault_text fault) }
-    ensures buffer { out.new ≡ overwrite out.old at (fault_text fault) }
+// Writes `refused GROUP N place P`.
+pub fn put_fault<const N: usize>(text: &mut Text<N>, fault: Fault)
+    requires { length text.old + 64 ≤ N }
+    ensures { text.new ≡ text.old ++ fault_text fault }
 {
     match fault {
-        Fault::Author { number, place } => put_refusal(out, at, b"refused author ", number, place),
-        Fault::Rows { number, place } => put_refusal(out, at, b"refused rows ", number, place),
-        Fault::Editor { number, place } => put_refusal(out, at, b"refused editor ", number, place),
+        Fault::Author { number, place } => put_refusal(text, b"refused author ", number, place),
+        Fault::Rows { number, place } => put_refusal(text, b"refused rows ", number, place),
+        Fault::Editor { number, place } => put_refusal(text, b"refused editor ", number, place),
     }
 }

@@ -2,35 +2,47 @@
 #![tactic(auto)]
 
 ghost use Rattle.std.specs.Prelude.{◌≡◌, length, ◌≤◌, ◌<◌};
-ghost use Rattle.lists.specs.Overwrite.{overwrite};
 ghost use Rattle.table_rules.specs.Check.{check_outcome};
-ghost use Rattle.line_rules.specs.Line.{accepted_line, refused_line, line_count, line_into};
+ghost use Rattle.line_rules.specs.Line.{accepted_line, refused_line, line_of, line_count, line_into};
 ghost use Rattle.faults.specs.Answer.{outcome_of};
 
 use faults::Fault;
 use table_rules::Facts;
+use text::Text;
 
-fn accepted_line(f: Facts, out: &mut [u8]) -> usize
-    requires { 128 ≤ length out.old }
-    ensures count { result ≡ length (accepted_line f.depth f.leaves f.digits) }
-    ensures buffer { out.new ≡ overwrite out.old 0 (accepted_line f.depth f.leaves f.digits) }
-    ensures within { result ≤ 128 }
+fn accepted_line(f: Facts) -> Text<128>
+    ensures { result ≡ accepted_line f.depth f.leaves f.digits }
 {
-    let leaves = text::put_item(out, 0, b"accepted depth ", f.depth);
-    let digits = text::put_item(out, leaves, b" leaves ", f.leaves);
-    let end = text::put_item(out, digits, b" digits ", f.digits);
-    octets::put(out, end, b"\n")
+    let mut text: Text<128> = Text::new();
+    text.item(b"accepted depth ", f.depth);
+    text.item(b" leaves ", f.leaves);
+    text.item(b" digits ", f.digits);
+    text.put(b"\n");
+    text
 }
 
-fn refused_line(number: usize, place: usize, out: &mut [u8]) -> usize
-    requires { 128 ≤ length out.old }
-    ensures count { result ≡ length (refused_line number place) }
-    ensures buffer { out.new ≡ overwrite out.old 0 (refused_line number place) }
-    ensures within { result ≤ 128 }
+fn refused_line(number: usize, place: usize) -> Text<128>
+    ensures { result ≡ refused_line number place }
 {
-    let at = text::put_item(out, 0, b"refused ", number);
-    let end = text::put_item(out, at, b" place ", place);
-    octets::put(out, end, b"\n")
+    let mut text: Text<128> = Text::new();
+    text.item(b"refused ", number);
+    text.item(b" place ", place);
+    text.put(b"\n");
+    text
+}
+
+fn line_of(answer: Result<Facts, Fault>) -> Text<128>
+    ensures { result ≡ line_of (outcome_of answer) }
+{
+    match answer {
+        Ok(f) => accepted_line(f),
+        // an arm for each group: behind an or-pattern the proof knows nothing of the number and the place that it binds
+        Err(fault) => match fault {
+            Fault::Author { number, place } => refused_line(number, place),
+            Fault::Rows { number, place } => refused_line(number, place),
+            Fault::Editor { number, place } => refused_line(number, place),
+        },
+    }
 }
 
 // Writes the program's line; the count of its bytes. A buffer under 128 bytes is left as it is, and the count is 0.
@@ -42,14 +54,7 @@ pub fn line(answer: Result<Facts, Fault>, out: &mut [u8]) -> usize
     if out.len() < 128 {
         return 0;
     }
-    match answer {
-        Ok(f) => accepted_line(f, out),
-        Err(fault) => match fault {
-            Fault::Author { number, place }
-            | Fault::Rows { number, place }
-            | Fault::Editor { number, place } => refused_line(number, place, out),
-        },
-    }
+    octets::put(out, 0, line_of(answer).as_bytes())
 }
 
 // The program `check` on the bytes that it reads: writes the line for a file; the count of its bytes.

@@ -1,8 +1,7 @@
-// The lines of a table as the program `show` writes them, each written from the start of a lent buffer.
+// The lines of a table as the program `show` writes them.
 #![tactic(auto)]
 
 ghost use Rattle.std.specs.Prelude.{◌≡◌, ◌+◌, ◌*◌, ◌≤◌, ◌<◌, length};
-ghost use Rattle.lists.specs.Overwrite.{overwrite};
 ghost use Rattle.layout_rules.specs.Section.{of_degree};
 ghost use Rattle.ring.specs.Degree.{part_count};
 ghost use Rattle.ring.specs.declared.Degree.TheVariants.{Two};
@@ -14,6 +13,7 @@ ghost use Rattle.listing_rules.specs.Listing.{ring_line, limited_base, expanding
 ghost use Rattle.listing_rules.specs.Listing.{columns_for, word_shown, widest};
 
 use ring::Degree;
+use text::Text;
 
 // The base section.
 const BASE: usize = 0;
@@ -21,20 +21,22 @@ const BASE: usize = 0;
 // Where the base section starts in a file.
 const START: usize = 20;
 
-// Writes the line of ω to the power of the degree, and of the base; the count of its bytes.
-pub fn ring_line(degree: Degree, base: &[u8], out: &mut [u8]) -> usize
-    requires { (length base.now ≡ 4 * part_count degree) × (80 ≤ length out.old) }
-    ensures count { result ≡ length (ring_line (of_degree degree base.now)) }
-    ensures buffer { out.new ≡ overwrite out.old 0 (ring_line (of_degree degree base.now)) }
-    ensures within { result ≤ 80 }
+// The line of ω to the power of the degree, and of the base.
+pub fn ring_line(degree: Degree, base: &[u8]) -> Text<80>
+    requires { length base.now ≡ 4 * part_count degree }
+    ensures { result ≡ ring_line (of_degree degree base.now) }
 {
-    let omega = digits::turned(degree, digits::record_at(degree, base, 0));
-    let equals = text::put_item(out, 0, b"omega^", layout::part_count(degree));
-    let ring = octets::put(out, equals, b" = ");
-    let comma = element_text::put_element(out, ring, omega);
-    let number = octets::put(out, comma, b", base ");
-    let end = element_text::put_element(out, number, digits::record_at(degree, base, 1));
-    octets::put(out, end, b"\n")
+    let mut text: Text<80> = Text::new();
+    text.item(b"omega^", layout::part_count(degree));
+    text.put(b" = ");
+    element_text::put_element(
+        &mut text,
+        digits::turned(degree, digits::record_at(degree, base, 0)),
+    );
+    text.put(b", base ");
+    element_text::put_element(&mut text, digits::record_at(degree, base, 1));
+    text.put(b"\n");
+    text
 }
 
 // Whether a base section has its length and numbers inside their size limits.
@@ -45,86 +47,75 @@ pub fn is_limited(degree: Degree, base: &[u8]) -> bool
         && limits::limits_in(degree, base, START, BASE).is_ok()
 }
 
-// Writes whether the base is expanding, and the line's end; the next place.
-fn put_expanding(expanding: bool, at: usize, out: &mut [u8]) -> usize
-    requires { at + 16 ≤ length out.old }
-    ensures end { result ≡ at + length (expanding_word expanding) }
-    ensures buffer { out.new ≡ overwrite out.old at (expanding_word expanding) }
+// Whether the base is expanding, and the line's end.
+fn expanding_word(expanding: bool) -> &'static [u8]
+    ensures { result.now ≡ expanding_word expanding }
 {
     if expanding {
-        octets::put(out, at, b", expanding\n")
+        b", expanding\n"
     } else {
-        octets::put(out, at, b", not expanding\n")
+        b", not expanding\n"
     }
 }
 
-// Writes the line of T and N at degree two; the count of its bytes.
-fn trace_line(base: &[u8], out: &mut [u8]) -> usize
-    requires { BasePart (of_degree Two base.now) × (64 ≤ length out.old) }
-    ensures count { result ≡ length (norm_line_of (of_degree Two base.now)) }
-    ensures buffer { out.new ≡ overwrite out.old 0 (norm_line_of (of_degree Two base.now)) }
-    ensures within { result ≤ 64 }
+// The line of T and N at degree two.
+fn trace_line(base: &[u8]) -> Text<64>
+    requires { BasePart (of_degree Two base.now) }
+    ensures { result ≡ norm_line_of (of_degree Two base.now) }
 {
     let s = layout::signed(base, 0);
     let t = layout::signed(base, 2);
     let u = layout::signed(base, 4);
     let v = layout::signed(base, 6);
-    let trace = octets::put(out, 0, b"T = ");
-    let comma = text::put_signed(out, trace, base_tests::base_trace(s, u, v) as i32);
-    let norm = octets::put(out, comma, b", N = ");
-    let end = text::put_signed(out, norm, base_tests::base_norm(s, t, u, v) as i32);
-    put_expanding(base_tests::is_expanding(s, t, u, v), end, out)
+    let mut text: Text<64> = Text::new();
+    text.put(b"T = ");
+    text.signed(base_tests::base_trace(s, u, v) as i32);
+    text.put(b", N = ");
+    text.signed(base_tests::base_norm(s, t, u, v) as i32);
+    text.put(expanding_word(base_tests::is_expanding(s, t, u, v)));
+    text
 }
 
-// Writes what rule 6 says above degree two, where it refuses, and the line's end; the next place.
-fn put_allowed(allowed: bool, at: usize, out: &mut [u8]) -> usize
-    requires { at + 15 ≤ length out.old }
-    ensures end { result ≡ at + length (allowed_word allowed) }
-    ensures buffer { out.new ≡ overwrite out.old at (allowed_word allowed) }
+// What rule 6 says above degree two, where it refuses, and the line's end.
+fn allowed_word(allowed: bool) -> &'static [u8]
+    ensures { result.now ≡ allowed_word allowed }
 {
-    if allowed {
-        octets::put(out, at, b"\n")
-    } else {
-        octets::put(out, at, b", refused by 6\n")
-    }
+    if allowed { b"\n" } else { b", refused by 6\n" }
 }
 
-// Writes the line of N above degree two; the count of its bytes.
-fn determinant_line(degree: Degree, base: &[u8], out: &mut [u8]) -> usize
-    requires { BasePart (of_degree degree base.now) × (64 ≤ length out.old) }
-    ensures count { result ≡ length (determinant_line (determinant_of (of_degree degree base.now))) }
-    ensures buffer { out.new ≡ overwrite out.old 0 (determinant_line (determinant_of (of_degree degree base.now))) }
-    ensures within { result ≤ 64 }
+// The line of N above degree two.
+fn determinant_line(degree: Degree, base: &[u8]) -> Text<64>
+    requires { BasePart (of_degree degree base.now) }
+    ensures { result ≡ determinant_line (determinant_of (of_degree degree base.now)) }
 {
     let norm = base_tests::determinant(degree, digits::base_of(degree, base));
-    let number = octets::put(out, 0, b"N = ");
-    let end = element_text::put_element(out, number, [norm, 0, 0, 0]);
-    put_allowed(1 < magnitude::size(norm), end, out)
+    let mut text: Text<64> = Text::new();
+    text.put(b"N = ");
+    element_text::put_element(&mut text, [norm, 0, 0, 0]);
+    text.put(allowed_word(1 < magnitude::size(norm)));
+    text
 }
 
-// Writes the line of the base's numbers; the count of its bytes.
-pub fn norm_line(degree: Degree, base: &[u8], out: &mut [u8]) -> usize
-    requires { BasePart (of_degree degree base.now) × (64 ≤ length out.old) }
-    ensures count { result ≡ length (norm_line_of (of_degree degree base.now)) }
-    ensures buffer { out.new ≡ overwrite out.old 0 (norm_line_of (of_degree degree base.now)) }
-    ensures within { result ≤ 64 }
+// The line of the base's numbers.
+pub fn norm_line(degree: Degree, base: &[u8]) -> Text<64>
+    requires { BasePart (of_degree degree base.now) }
+    ensures { result ≡ norm_line_of (of_degree degree base.now) }
 {
     match degree {
-        Degree::Two => trace_line(base, out),
-        Degree::Three => determinant_line(degree, base, out),
-        Degree::Four => determinant_line(degree, base, out),
+        Degree::Two => trace_line(base),
+        Degree::Three | Degree::Four => determinant_line(degree, base),
     }
 }
 
-// Writes a digit of a section of elements, behind a space; the count of its bytes.
-pub fn item(degree: Degree, part: &[u8], k: usize, out: &mut [u8]) -> usize
-    requires { (k < element_count (of_degree degree part.now)) × (32 ≤ length out.old) }
-    ensures count { result ≡ length (item_text (record_at (of_degree degree part.now) k)) }
-    ensures buffer { out.new ≡ overwrite out.old 0 (item_text (record_at (of_degree degree part.now) k)) }
-    ensures within { result ≤ 32 }
+// A digit of a section of elements, behind a space.
+pub fn item(degree: Degree, part: &[u8], k: usize) -> Text<32>
+    requires { k < element_count (of_degree degree part.now) }
+    ensures { result ≡ item_text (record_at (of_degree degree part.now) k) }
 {
-    let at = octets::put(out, 0, b" ");
-    element_text::put_element(out, at, digits::record_at(degree, part, k))
+    let mut text: Text<32> = Text::new();
+    text.put(b" ");
+    element_text::put_element(&mut text, digits::record_at(degree, part, k));
+    text
 }
 
 // The word of a leaf as it is shown: an empty part in the place of one that points outside section 4 or is longer than a word may be.
@@ -154,8 +145,9 @@ fn text_length(x: [i64; 4]) -> usize
     ensures count { result ≡ length (element_text x) }
     ensures within { result ≤ 31 }
 {
-    let mut text = [0u8; 32];
-    element_text::put_element(&mut text, 0, x)
+    let mut text: Text<32> = Text::new();
+    element_text::put_element(&mut text, x);
+    text.len()
 }
 
 // The longest text among the elements of a section's records, each of which ends its record.

@@ -26,18 +26,10 @@ fn leaf(
 ) -> io::Result<()>
     requires { (columns.count ≤ 8) × (columns.digits ≤ 31) × (columns.weights ≤ 31) }
 {
-    let mut out = [0u8; 320];
     let word = listing::word_shown(degree, leaves, words, leaf);
-    let end = leaf_lines::leaf_line(
-        degree,
-        inputs,
-        word,
-        leaf,
-        leaves::weight(degree, leaves, leaf),
-        columns,
-        &mut out,
-    );
-    shown_parts::written(rt, &out, end)
+    let weight = leaves::weight(degree, leaves, leaf);
+    let line = leaf_lines::leaf_line(degree, inputs, word, leaf, weight, columns);
+    rt.write_all(line.as_bytes())
 }
 
 // The leaves, in columns that fit all of them.
@@ -48,7 +40,7 @@ fn leaves(
     leaves: &[u8],
     words: &[u8],
 ) -> io::Result<()> {
-    shown_parts::write(rt, b"leaves:\n")?;
+    rt.write_all(b"leaves:\n")?;
     let columns = Columns {
         count: listing::columns(degree, leaves, words),
         digits: listing::width(degree, inputs, INPUTS),

@@ -25,34 +25,26 @@ const WORDS: usize = 4;
 
 // A rule by its number, 0 where none is broken.
 fn rule(rt: &impl Print, number: usize) -> io::Result<()> {
-    let mut out = [0u8; 240];
-    let end = why_lines::rule_line(number, &mut out);
-    shown_parts::written(rt, &out, end)
+    rt.write_all(why_lines::rule_line(number))
 }
 
 // Where something starts and how long it is.
 fn extent(rt: &impl Print, name: &[u8], k: usize, start: usize, size: usize) -> io::Result<()>
     requires { length name.now ≤ 40 }
 {
-    let mut out = [0u8; 240];
-    let end = why_lines::extent_line(name, k, start, size, &mut out);
-    shown_parts::written(rt, &out, end)
+    rt.write_all(why_lines::extent_line(name, k, start, size).as_bytes())
 }
 
 // Where it has to start, and the length of what it stands in.
 fn due(rt: &impl Print, start: usize, name: &[u8], size: usize) -> io::Result<()>
     requires { length name.now ≤ 40 }
 {
-    let mut out = [0u8; 240];
-    let end = why_lines::due_line(start, name, size, &mut out);
-    shown_parts::written(rt, &out, end)
+    rt.write_all(why_lines::due_line(start, name, size).as_bytes())
 }
 
 // Rule 1.
 fn size(rt: &impl Print, n: usize) -> io::Result<()> {
-    let mut out = [0u8; 240];
-    let end = why_lines::file_line(n, &mut out);
-    shown_parts::written(rt, &out, end)
+    rt.write_all(why_lines::file_line(n).as_bytes())
 }
 
 // Where a section has to start: past the directory, or where the one before it ends.
@@ -106,9 +98,7 @@ fn section(rt: &impl Print, file: &[u8], place: usize) -> io::Result<()> {
 fn element(rt: &impl Print, name: &[u8], k: usize, x: [i64; 4]) -> io::Result<()>
     requires { (length name.now ≤ 40) × Within 32768 x }
 {
-    let mut out = [0u8; 240];
-    let end = why_lines::element_line(name, k, x, &mut out);
-    shown_parts::written(rt, &out, end)
+    rt.write_all(why_lines::element_line(name, k, x).as_bytes())
 }
 
 // Rule 4.
@@ -225,9 +215,7 @@ fn byte(
     place: usize,
 ) -> io::Result<()> {
     if place < words.len() {
-        let mut out = [0u8; 240];
-        let end = why_lines::byte_line(place, usize::from(words[place]), &mut out);
-        shown_parts::written(rt, &out, end)?;
+        rt.write_all(why_lines::byte_line(place, usize::from(words[place])).as_bytes())?;
     }
     shown_parts::digits(rt, degree, b"  input digits:", inputs)
 }
@@ -244,11 +232,9 @@ fn leaf(
 ) -> io::Result<()>
     requires { length name.now ≤ 40 }
 {
-    let mut out = [0u8; 480];
     let word = listing::word_shown(degree, leaves, words, k);
     let weight = leaves::weight(degree, leaves, k);
-    let end = why_lines::leaf_line(degree, inputs, name, k, word, weight, &mut out);
-    shown_parts::written(rt, &out, end)
+    rt.write_all(why_lines::leaf_line(degree, inputs, name, k, word, weight).as_bytes())
 }
 
 // Rule 11: the two leaves, and the digits in the order that the words have to keep.
@@ -332,27 +318,27 @@ fn sum(
     requires { Within 32768 first × Within 32768 lower × Within 32768 upper }
 {
     if listing::is_limited(degree, base) {
-        let mut out = [0u8; 480];
-        let end = why_lines::sum_line(first, lower, digit_at(degree, base, 1), upper, &mut out);
-        shown_parts::written(rt, &out, end)?;
+        rt.write_all(why_lines::sum_line(
+            first,
+            lower,
+            digit_at(degree, base, 1),
+            upper,
+        ).as_bytes())?;
         let product = elements::times_base(degree, digits::base_of(degree, base), upper);
-        let product_end = why_lines::product_line(first, lower, product, &mut out);
-        shown_parts::written(rt, &out, product_end)?;
+        rt.write_all(why_lines::product_line(first, lower, product).as_bytes())?;
     }
     Ok(())
 }
 
 // The digit that comes out, and the alphabet, which lacks it.
 fn outside(rt: &impl Print, degree: Degree, alphabet: &[u8], digit: Element) -> io::Result<()> {
-    let mut out = [0u8; 480];
     let parts = [
         i64::from(digit.a),
         i64::from(digit.b),
         i64::from(digit.c),
         i64::from(digit.d),
     ];
-    let end = why_lines::digit_lines(parts, &mut out);
-    shown_parts::written(rt, &out, end)?;
+    rt.write_all(why_lines::digit_lines(parts).as_bytes())?;
     shown_parts::digits(rt, degree, b"", alphabet)
 }
 
@@ -367,9 +353,7 @@ fn string_shown(
     requires { length string.now ≤ 9 }
 {
     if bytes <= string.len() {
-        let mut out = [0u8; 480];
-        let end = why_lines::row_line(degree, inputs, &string[..bytes], &mut out);
-        shown_parts::written(rt, &out, end)?;
+        rt.write_all(why_lines::row_line(degree, inputs, &string[..bytes]).as_bytes())?;
     }
     Ok(())
 }

@@ -1,45 +1,117 @@
-// Decimal text written into a lent buffer.
+// Text in an array of its own, written behind what it holds.
 #![tactic(auto)]
 
-ghost use Rattle.std.specs.Prelude.{◌≡◌, ◌++◌, ◌+◌, ◌≤◌, ◌<◌, length};
-ghost use Rattle.lists.specs.Overwrite.{overwrite};
+ghost use Rattle.std.specs.Prelude.{◌≡◌, [], ◌∷◌, ◌++◌, ◌+◌, ◌≤◌, ◌<◌, length, replicate};
 ghost use Rattle.text_rules.specs.Decimal.{decimal, decimal_z};
 
-// Writes a number in decimal from a place on; the next place.
-pub fn put_decimal(out: &mut [u8], at: usize, n: usize) -> usize
-    requires { at + length (decimal n) ≤ length out.old }
-    ensures end { result ≡ at + length (decimal n) }
-    ensures buffer { out.new ≡ overwrite out.old at (decimal n) }
-{
-    if n < 10 {
-        out[at] = 48 + n as u8;
-        return at + 1;
-    }
-    let end = put_decimal(out, at, n / 10);
-    out[end] = 48 + (n % 10) as u8;
-    end + 1
+use std::marker::Model;
+
+// The bytes written so far, at most N.
+#[derive(Drop)]
+pub struct Text<const N: usize> {
+    bytes: [u8; N],
+    len: usize,
 }
 
-// Writes a word and then a number from a place on; the next place.
-pub fn put_item(out: &mut [u8], at: usize, word: &[u8], n: usize) -> usize
-    requires { at + length (word.now ++ decimal n) ≤ length out.old }
-    ensures end { result ≡ at + length (word.now ++ decimal n) }
-    ensures buffer { out.new ≡ overwrite out.old at (word.now ++ decimal n) }
-{
-    let number = octets::put(out, at, word);
-    put_decimal(out, number, n)
+impl<const N: usize> Model for Text<N> {
+    ghost use Rattle.std.specs.Prelude.{ℕ, ◌≤◌, List, take};
+
+    ghost Value = { List ℕ };
+
+    ghost view = { λ t. take t.len t.bytes };
+
+    ghost invariant = { λ t. t.len ≤ N };
 }
 
-// Writes a whole number in decimal from a place on, a minus before a negative one only; the next place. Its size is taken in 64 bits,
-// since the lowest number of 32 has no opposite there.
-pub fn put_signed(out: &mut [u8], at: usize, z: i32) -> usize
-    requires { at + length (decimal_z z) ≤ length out.old }
-    ensures end { result ≡ at + length (decimal_z z) }
-    ensures buffer { out.new ≡ overwrite out.old at (decimal_z z) }
-{
-    let digits = magnitude::size(z as i64);
-    if z < 0 {
-        return put_item(out, at, b"-", digits);
+impl<const N: usize> Text<N> {
+    // A text of no bytes.
+    pub fn new() -> Text<N>
+        ensures { result ≡ [] }
+    {
+        Text {
+            bytes: [0; N],
+            len: 0,
+        }
     }
-    put_decimal(out, at, digits)
+
+    // What is written.
+    pub fn as_bytes(&self) -> &[u8]
+        ensures same { result.now ≡ self.now }
+        ensures within { length self.now ≤ N }
+    {
+        &self.bytes[..self.len]
+    }
+
+    // How many bytes are written.
+    pub fn len(&self) -> usize
+        ensures count { result ≡ length self.now }
+        ensures within { length self.now ≤ N }
+    {
+        self.len
+    }
+
+    // Writes bytes behind the others.
+    pub fn put(&mut self, bytes: &[u8])
+        requires { length self.old + length bytes.now ≤ N }
+        ensures { self.new ≡ self.old ++ bytes.now }
+    {
+        self.len = octets::put(&mut self.bytes, self.len, bytes);
+    }
+
+    // Writes a byte so many times.
+    pub fn fill(&mut self, n: usize, byte: u8)
+        requires { length self.old + n ≤ N }
+        ensures { self.new ≡ self.old ++ replicate n byte }
+    {
+        for _ in 0..n {
+            self.push(byte);
+        }
+    }
+
+    // Writes a byte.
+    pub fn push(&mut self, byte: u8)
+        requires { length self.old < N }
+        ensures { self.new ≡ self.old ++ (byte ∷ []) }
+    {
+        self.bytes[self.len] = byte;
+        self.len += 1;
+    }
+
+    // Writes a number in decimal.
+    pub fn decimal(&mut self, n: usize)
+        requires { length self.old + length (decimal n) ≤ N }
+        ensures { self.new ≡ self.old ++ decimal n }
+    {
+        self.put(decimal(n).as_bytes());
+    }
+
+    // Writes a word and then a number.
+    pub fn item(&mut self, word: &[u8], n: usize)
+        requires { length self.old + length (word.now ++ decimal n) ≤ N }
+        ensures { self.new ≡ self.old ++ (word.now ++ decimal n) }
+    {
+        self.put(word);
+        self.decimal(n);
+    }
+
+    // Writes a whole number in decimal, a minus before a negative one only. Its size is taken in 64 bits, since the lowest number of 32 has
+    // no opposite there.
+    pub fn signed(&mut self, z: i32)
+        requires { length self.old + length (decimal_z z) ≤ N }
+        ensures { self.new ≡ self.old ++ decimal_z z }
+    {
+        if z < 0 {
+            self.push(b'-');
+        }
+        self.decimal(magnitude::size(z as i64));
+    }
+}
+
+// A number in decimal.
+pub fn decimal(n: usize) -> Text<20>
+    ensures { result ≡ decimal n }
+{
+    let mut text: Text<20> = if n < 10 { Text::new() } else { decimal(n / 10) };
+    text.push(48 + (n % 10) as u8);
+    text
 }

@@ -5,11 +5,9 @@ use Prim.Native.Nat.{ℕ, ◌+◌, ◌-◌, ◌*◌, ◌/◌, ◌%◌, ◌<◌, 
 use native.Mathlib.Omega.{arith}
 use native.Mathlib.Decide.{dec_lt}
 use native.Mathlib.Numerals.{add-one}
-use lib.ListN.{length, get_or, take, set, length-append}
-use lib.Seq.{take-suc, length-take-le}
+use lib.ListN.{length, get_or, take}
+use lib.Seq.{take-suc}
 use borrow.Author.Tests.{lt-ltb, le-ltb}
-use Rattle.lists.specs.Overwrite.{overwrite}
-use Rattle.lists.proofs.Overwrite.{overwrite_snoc}
 use Rattle.lists.proofs.Cons.{cons≡}
 use Rattle.text_rules.specs.Hex.{hex_byte, hex_digits, hex, hex_value, read_hex}
 
@@ -48,28 +46,15 @@ unfolding hex
 length_hex [] = omega arith
 length_hex (byte ∷ bytes) = omega (arith, length_hex_digits (byte ∷ bytes))
 
-one_more : (bytes : List ℕ) (i : ℕ) → i < length bytes → hex_digits (take (i + 1) bytes) ≡ (hex_digits (take i bytes) ++ (hex_byte (get_or bytes i 0 / 16) ∷ [])) ++ (hex_byte (get_or bytes i 0 % 16) ∷ [])
+-- the two digits of the next byte behind those of the first i
+pub hex_more : (bytes : List ℕ) (i : ℕ) → i < length bytes → hex_digits (take (i + 1) bytes) ≡ (hex_digits (take i bytes) ++ (hex_byte (get_or bytes i 0 / 16) ∷ [])) ++ (hex_byte (get_or bytes i 0 % 16) ∷ [])
 unfolding hex_digits
-one_more bytes i h =
+hex_more bytes i h =
     let byte = get_or bytes i 0 in
     ap (λ (k : ℕ). hex_digits (take k bytes)) (add-one i)
     ∙ ap hex_digits (take-suc bytes i 0 h)
     ∙ hex_digits_append (take i bytes) (byte ∷ [])
     ∙ sym (append_assoc (hex_digits (take i bytes)) (hex_byte (byte / 16) ∷ []) (hex_byte (byte % 16) ∷ []))
-
--- the two digits of the next byte, written behind those of the first i
-pub hex_step : (s t bytes : List ℕ) (p e i x y : ℕ) → p + length (hex_digits bytes) ≤ length s → i < length bytes → e ≡ p + 2 * i → t ≡ overwrite s p (hex_digits (take i bytes)) → x ≡ hex_byte (get_or bytes i 0 / 16) → y ≡ hex_byte (get_or bytes i 0 % 16) → set (set t e x) (e + 1) y ≡ overwrite s p (hex_digits (take (i + 1) bytes))
-hex_step s t bytes p e i x y h l ee te xe ye =
-    let a : List ℕ = hex_digits (take i bytes) in
-    let b : List ℕ = a ++ (x ∷ []) in
-    let la : length a ≡ 2 * i = omega (arith, length_hex_digits (take i bytes), length-take-le i bytes (omega arith)) in
-    let ea : e ≡ p + length a = omega arith in
-    let eb : e + 1 ≡ p + length b = omega (arith, length-append a (x ∷ [])) in
-    let room : p + length a + 1 < length s = omega (arith, length_hex_digits bytes) in
-    let first : set t e x ≡ overwrite s p b = cc (overwrite_snoc s p a x (omega arith)) in
-    let second : set (set t e x) (e + 1) y ≡ overwrite s p (b ++ (y ∷ [])) = cc (overwrite_snoc s p b y (omega (arith, length-append a (x ∷ [])))) in
-    let text : b ++ (y ∷ []) ≡ hex_digits (take (i + 1) bytes) = cc (one_more bytes i l) in
-    second ∙ ap (overwrite s p) text
 
 -- ---- what the text says
 

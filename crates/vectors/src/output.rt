@@ -11,28 +11,22 @@ use midpoint::Element;
 use ring::Degree;
 use std::io;
 use table_rules::Facts;
-
-// What a buffer holds up to a place.
-fn written(rt: &impl Print, out: &[u8], end: usize) -> io::Result<()> {
-    match out.get(..end) {
-        Some(text) => rt.write_all(text),
-        None => Err(io::Error::from(io::ErrorKind::InvalidData)),
-    }
-}
+use text::Text;
 
 // A space and a whole buffer.
 fn buffer(rt: &impl Print, bytes: &[u8]) -> io::Result<()>
     requires { length bytes.now ≤ 1000 }
 {
-    let mut out = [b' '; 2002];
-    let end = fault_text::put_hex(&mut out, 1, bytes);
-    written(rt, &out, end)
+    let mut text: Text<2002> = Text::new();
+    text.push(b' ');
+    fault_text::put_hex(&mut text, bytes);
+    rt.write_all(text.as_bytes())
 }
 
 fn refused(rt: &impl Print, fault: Fault) -> io::Result<()> {
-    let mut out = [0u8; 64];
-    let end = fault_text::put_fault(&mut out, 0, fault);
-    written(rt, &out, end)
+    let mut text: Text<64> = Text::new();
+    fault_text::put_fault(&mut text, fault);
+    rt.write_all(text.as_bytes())
 }
 
 // `table BYTES`, of a file that is carried.

@@ -1,53 +1,45 @@
 -- The parts, or a 0 where none of them was written.
 use mathlib.Core.Path.{◌≡◌, ap, ◌∙◌}
-use mathlib.Core.List.{List, [], ◌∷◌}
+use mathlib.Core.List.{List, [], ◌∷◌, ◌++◌, append-nil}
 use Prim.Native.Nat.{ℕ}
 use native.Mathlib.Omega.{arith}
-use lib.ListN.{length}
+use lib.ListN.{length, length-append}
+use Rattle.std.proofs.Common.{rules}
 use Rattle.text_rules.specs.Bytes.{bytes_of}
 use Rattle.listing_rules.specs.Element.{parts_text}
 use Rattle.listing_rules.proofs.Element.{element_none, element_some, element_room}
-use Rattle.lists.proofs.Pieces.{Put}
-use Rattle.lists.proofs.Overwrite.{overwrite_none}
-use Rattle.listing_rules.specs.Element.{element_text}
 use Rattle.element_text.proofs.put_element.Goals as goal
 
--- nothing was written
-emptied : (s t a : List ℕ) (p q : ℕ) → Put s t p q a → length a ≡ 0 → t ≡ s
-emptied s t [] p q w h = w.1 ∙ overwrite_none s p
-emptied s t (b ∷ a) p q w h = absurd (omega arith)
+-- what was written, by the lengths before and after
+module _ (s t parts : List ℕ) (m n : ℕ) (from : n ≡ length s) (to : m ≡ length t) (put : t ≡ s ++ parts) where
+  emptied : m ≡ n → (length parts ≡ 0) × (t ≡ s)
+  emptied h =
+      let none : length parts ≡ 0 = omega (arith, ap length put, length-append s parts) in
+      (none, go parts none put)
+    where
+      go : (a : List ℕ) → length a ≡ 0 → t ≡ s ++ a → t ≡ s
+      go [] z e = e ∙ append-nil s
+      go (b ∷ a) z e = absurd (omega arith)
+
+  some : (m ≡ n → ⊥) → length parts ≡ 0 → ⊥
+  some h z = h (omega (arith, ap length put, length-append s parts))
+
+pub put_parts-requires : goal.put_parts-requires
+put_parts-requires g c = (search rules, (omega (arith, element_room c.args.x, c.requires.room), c.requires.parts))
 
 pub put-requires : goal.put-requires
 unfolding bytes_of
-put-requires c =
-    let none : (taken : c.put_parts-end.result ≡ c.args.at) → length (parts_text c.args.x 4) ≡ 0 = λ taken. omega (arith, c.put_parts-end.ensures.end) in
-    let nothing : (taken : c.put_parts-end.result ≡ c.args.at) → element_text c.args.x ≡ bytes_of "0" = λ taken. element_none c.args.x (none taken) in
-    omega (arith, c.requires.room, ap length (nothing c.if-end-at.true))
+put-requires g c =
+    let empty = emptied c.args.text.now c.put_parts.new.text (parts_text c.args.x 4) _ _ c.len-start.ensures.count c.len.ensures.count c.put_parts.ensures c.if-len-start.true in
+    (search rules, omega (arith, c.requires.room, ap length (element_none c.args.x empty.0), ap length empty.1))
 
-pub put_parts-end-requires-clause-room : goal.put_parts-end-requires-clause-room
-put_parts-end-requires-clause-room c = omega (arith, element_room c.args.x, c.requires.room)
-
-pub put_parts-end-requires-clause-parts : goal.put_parts-end-requires-clause-parts
-put_parts-end-requires-clause-parts c = c.requires.parts
-
-pub returns-then-end-at-clause-end : goal.returns-then-end-at-clause-end
+pub returns-then-len-start : goal.returns-then-len-start
 unfolding bytes_of
-returns-then-end-at-clause-end c =
-    let none : (taken : c.put_parts-end.result ≡ c.args.at) → length (parts_text c.args.x 4) ≡ 0 = λ taken. omega (arith, c.put_parts-end.ensures.end) in
-    let nothing : (taken : c.put_parts-end.result ≡ c.args.at) → element_text c.args.x ≡ bytes_of "0" = λ taken. element_none c.args.x (none taken) in
-    let same = emptied c.args.out.now _ (parts_text c.args.x 4) c.args.at _ (c.put_parts-end.ensures.end, c.put_parts-end.ensures.buffer) (none c.if-end-at.true) in
-    rw (nothing c.if-end-at.true) c.put.ensures.next
+returns-then-len-start g c =
+    let empty = emptied c.args.text.now c.put_parts.new.text (parts_text c.args.x 4) _ _ c.len-start.ensures.count c.len.ensures.count c.put_parts.ensures c.if-len-start.true in
+    rw (element_none c.args.x empty.0) (c.put.ensures ∙ ap (λ s. s ++ bytes_of "0") empty.1)
 
-pub returns-then-end-at-clause-buffer : goal.returns-then-end-at-clause-buffer
-unfolding bytes_of
-returns-then-end-at-clause-buffer c =
-    let none : (taken : c.put_parts-end.result ≡ c.args.at) → length (parts_text c.args.x 4) ≡ 0 = λ taken. omega (arith, c.put_parts-end.ensures.end) in
-    let nothing : (taken : c.put_parts-end.result ≡ c.args.at) → element_text c.args.x ≡ bytes_of "0" = λ taken. element_none c.args.x (none taken) in
-    let same = emptied c.args.out.now _ (parts_text c.args.x 4) c.args.at _ (c.put_parts-end.ensures.end, c.put_parts-end.ensures.buffer) (none c.if-end-at.true) in
-    rw (nothing c.if-end-at.true) (rw same at c.put.ensures.written)
-
-pub returns-else-end-at-clause-end : goal.returns-else-end-at-clause-end
-returns-else-end-at-clause-end c = rw (element_some c.args.x (λ z. c.if-end-at.false (omega (arith, c.put_parts-end.ensures.end)))) (c.put_parts-end.ensures.end)
-
-pub returns-else-end-at-clause-buffer : goal.returns-else-end-at-clause-buffer
-returns-else-end-at-clause-buffer c = rw (element_some c.args.x (λ z. c.if-end-at.false (omega (arith, c.put_parts-end.ensures.end)))) (c.put_parts-end.ensures.buffer)
+pub returns-else-len-start : goal.returns-else-len-start
+returns-else-len-start g c =
+    let some_part = some c.args.text.now c.put_parts.new.text (parts_text c.args.x 4) _ _ c.len-start.ensures.count c.len.ensures.count c.put_parts.ensures c.if-len-start.false in
+    rw (element_some c.args.x some_part) c.put_parts.ensures

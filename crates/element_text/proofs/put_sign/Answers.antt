@@ -1,41 +1,39 @@
 -- A minus below zero, and else a plus where something stands before.
-use mathlib.Core.Path.{ap}
+use mathlib.Core.Bool.{Bool, true, false}
+use mathlib.Core.Path.{◌≡◌, sym, ap, ◌∙◌}
+use mathlib.Core.List.{append-nil}
 use native.Mathlib.Omega.{arith}
+use lib.IntN.{ℤ, pos}
 use lib.ListN.{length}
-use mathlib.Core.Bool.{true, false}
+use lib.Signed.{lt_z}
 use mir.Syntax.{w64}
+use mir.Val.{SFits, to_z, of_z}
+use mir.ValLaws.{to_z-of_z}
+use Rattle.std.proofs.Common.{rules}
 use Rattle.text_rules.specs.Bytes.{bytes_of}
 use Rattle.listing_rules.proofs.Element.{sign_below, sign_none, sign_above}
-use Rattle.lists.proofs.Pieces.{put_none}
-use Rattle.element_text.proofs.Zero.{sign_test}
 use Rattle.element_text.proofs.put_sign.Goals as goal
+
+-- the test goes by the number's bits
+sign_test : (a : ℤ) (b : Bool) → SFits w64 a → lt_z (to_z w64 (of_z w64 a)) (pos 0) ≡ b → lt_z a (pos 0) ≡ b
+sign_test a b f h = ap (λ z. lt_z z (pos 0)) (sym (to_z-of_z w64 a f)) ∙ h
 
 pub put-requires : goal.put-requires
 unfolding bytes_of
-put-requires c = omega (arith, ap length (sign_below c.args.written c.args.a (sign_test w64 c.args.a true c.ranges.a c.if-a-lt0.true)))
+put-requires g c = (search rules, omega (arith, c.requires, ap length (sign_below c.args.written c.args.a (sign_test c.args.a true c.ranges.a c.if-a-lt0.true))))
 
-pub put-requires-else-written-eq0 : goal.put-requires-else-written-eq0
+pub put-requires-then-written-gt0 : goal.put-requires-then-written-gt0
 unfolding bytes_of
-put-requires-else-written-eq0 c = omega (arith, ap length (sign_above c.args.written c.args.a (sign_test w64 c.args.a false c.ranges.a c.if-a-lt0.false) c.if-written-eq0.false))
+put-requires-then-written-gt0 g c =
+    (search rules, omega (arith, c.requires, ap length (sign_above c.args.written c.args.a (sign_test c.args.a false c.ranges.a c.if-a-lt0.false) (λ z. omega (arith, c.if-written-gt0.true)))))
 
-pub returns-then-a-lt0-clause-end : goal.returns-then-a-lt0-clause-end
+pub returns-then-a-lt0 : goal.returns-then-a-lt0
 unfolding bytes_of
-returns-then-a-lt0-clause-end c = rw (sign_below c.args.written c.args.a (sign_test w64 c.args.a true c.ranges.a c.if-a-lt0.true)) (c.put.ensures.next)
+returns-then-a-lt0 g c = rw (sign_below c.args.written c.args.a (sign_test c.args.a true c.ranges.a c.if-a-lt0.true)) c.put.ensures
 
-pub returns-then-a-lt0-clause-buffer : goal.returns-then-a-lt0-clause-buffer
+pub returns-then-written-gt0 : goal.returns-then-written-gt0
 unfolding bytes_of
-returns-then-a-lt0-clause-buffer c = rw (sign_below c.args.written c.args.a (sign_test w64 c.args.a true c.ranges.a c.if-a-lt0.true)) (c.put.ensures.written)
+returns-then-written-gt0 g c = rw (sign_above c.args.written c.args.a (sign_test c.args.a false c.ranges.a c.if-a-lt0.false) (λ z. omega (arith, c.if-written-gt0.true))) c.put-then-written-gt0.ensures
 
-pub returns-then-written-eq0-clause-end : goal.returns-then-written-eq0-clause-end
-returns-then-written-eq0-clause-end c = rw (sign_none c.args.written c.args.a (sign_test w64 c.args.a false c.ranges.a c.if-a-lt0.false) c.if-written-eq0.true) (put_none c.args.out.now c.args.at).0
-
-pub returns-then-written-eq0-clause-buffer : goal.returns-then-written-eq0-clause-buffer
-returns-then-written-eq0-clause-buffer c = rw (sign_none c.args.written c.args.a (sign_test w64 c.args.a false c.ranges.a c.if-a-lt0.false) c.if-written-eq0.true) (put_none c.args.out.now c.args.at).1
-
-pub returns-else-written-eq0-clause-end : goal.returns-else-written-eq0-clause-end
-unfolding bytes_of
-returns-else-written-eq0-clause-end c = rw (sign_above c.args.written c.args.a (sign_test w64 c.args.a false c.ranges.a c.if-a-lt0.false) c.if-written-eq0.false) (c.put-else-written-eq0.ensures.next)
-
-pub returns-else-written-eq0-clause-buffer : goal.returns-else-written-eq0-clause-buffer
-unfolding bytes_of
-returns-else-written-eq0-clause-buffer c = rw (sign_above c.args.written c.args.a (sign_test w64 c.args.a false c.ranges.a c.if-a-lt0.false) c.if-written-eq0.false) (c.put-else-written-eq0.ensures.written)
+pub returns-else-written-gt0 : goal.returns-else-written-gt0
+returns-else-written-gt0 g c = rw (sign_none c.args.written c.args.a (sign_test c.args.a false c.ranges.a c.if-a-lt0.false) (omega (arith, c.if-written-gt0.false))) (sym (append-nil c.args.text.now))

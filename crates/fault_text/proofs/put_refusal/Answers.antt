@@ -1,36 +1,22 @@
 -- Two items, one behind the other; each number has room.
-use Rattle.lists.proofs.Pieces.{put_more}
-use Rattle.text_rules.proofs.Fault.{item_room}
+use mathlib.Core.Path.{refl, ap}
 use mathlib.Core.List.{◌++◌, append_assoc}
-use Rattle.text_rules.specs.Decimal.{decimal}
-use Rattle.text_rules.specs.Bytes.{bytes_of}
-use Rattle.text_rules.specs.Fault.{place_word}
 use native.Mathlib.Omega.{arith}
+use lib.ListN.{length, length-append}
+use Rattle.std.proofs.Common.{rules}
+use Rattle.text_rules.proofs.Fault.{item_room}
+use Rattle.text_rules.specs.Bytes.{bytes_of}
+use Rattle.text_rules.specs.Decimal.{decimal}
+use Rattle.text_rules.specs.Fault.{place_word}
 use Rattle.fault_text.proofs.put_refusal.Goals as goal
 
-pub put_item-end-requires : goal.put_item-end-requires
-put_item-end-requires c = omega (arith, item_room c.args.word.now c.args.number c.ranges.number)
+pub item-requires : goal.item-requires
+item-requires g c = (search rules, omega (arith, c.requires, item_room c.args.word.now c.args.number c.ranges.number))
 
-pub put_item-requires : goal.put_item-requires
+pub item-requires-2 : goal.item-requires-2
 unfolding bytes_of place_word
-put_item-requires c =
-    let st = c in
-    omega (arith, item_room st.args.word.now st.args.number st.ranges.number, item_room place_word st.args.place st.ranges.place)
+item-requires-2 g c = (search rules, omega (arith, c.requires, ap length c.item.ensures, length-append c.args.text.now (c.args.word.now ++ decimal c.args.number), item_room c.args.word.now c.args.number c.ranges.number, item_room place_word c.args.place c.ranges.place))
 
-pub returns-clause-end : goal.returns-clause-end
+pub returns : goal.returns
 unfolding bytes_of place_word
-returns-clause-end c =
-    let st = c in
-    let a = st.args in
-    let first = a.word.now ++ decimal a.number in
-    let second = place_word ++ decimal a.place in
-    let both = put_more a.out.now _ _ first second a.at _ _ (c.put_item-end.ensures.end, c.put_item-end.ensures.buffer) (c.put_item.ensures.end, c.put_item.ensures.buffer) (omega (arith, item_room a.word.now a.number st.ranges.number)) in rw (append_assoc a.word.now (decimal a.number) second) at both.0
-
-pub returns-clause-buffer : goal.returns-clause-buffer
-unfolding bytes_of place_word
-returns-clause-buffer c =
-    let st = c in
-    let a = st.args in
-    let first = a.word.now ++ decimal a.number in
-    let second = place_word ++ decimal a.place in
-    let both = put_more a.out.now _ _ first second a.at _ _ (c.put_item-end.ensures.end, c.put_item-end.ensures.buffer) (c.put_item.ensures.end, c.put_item.ensures.buffer) (omega (arith, item_room a.word.now a.number st.ranges.number)) in rw (append_assoc a.word.now (decimal a.number) second) at both.1
+returns g c = simp (c.item-2.ensures, c.item.ensures, append_assoc) refl

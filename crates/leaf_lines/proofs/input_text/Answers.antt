@@ -1,26 +1,23 @@
 -- The record, or `?` where there is none.
 use Prim.Native.Nat.{◌^◌}
+use mathlib.Core.Path.{ap, ◌∙◌}
+use native.Mathlib.Omega.{arith}
 use Rattle.ring.proofs.Element.{within_le}
+use Rattle.text_rules.specs.Bytes.{bytes_of}
+use Rattle.text.proofs.Behind.{last, line}
 use Rattle.layout_rules.specs.Section.{of_degree}
+use Rattle.listing_rules.specs.Element.{element_text}
 use Rattle.listing_rules.proofs.Lines.{input_there, input_missing}
 use Rattle.listing_rules.proofs.Element.{element_short}
-use Rattle.text_rules.specs.Bytes.{bytes_of}
-use native.Mathlib.Omega.{arith}
 use Rattle.leaf_lines.proofs.input_text.Goals as goal
 
 pub put_element-requires : goal.put_element-requires
-put_element-requires c = record { room = omega (arith, element_short _ c.record_at.ensures.within, c.requires); parts = within_le 32768 (2 ^ 62) _ (omega arith) c.record_at.ensures.within }
-
-pub returns-else-k-record_count-clause-count : goal.returns-else-k-record_count-clause-count
-unfolding bytes_of
-returns-else-k-record_count-clause-count c = rw (input_missing (of_degree c.args.degree c.args.inputs.now) c.args.k (omega arith)) (omega (arith, c.put.ensures.next))
-
-pub returns-else-k-record_count-clause-buffer : goal.returns-else-k-record_count-clause-buffer
-unfolding bytes_of
-returns-else-k-record_count-clause-buffer c = rw (input_missing (of_degree c.args.degree c.args.inputs.now) c.args.k (omega arith)) (c.put.ensures.written)
+put_element-requires c = (omega arith, (simp c.new-text.ensures (omega (arith, element_short _ c.record_at.ensures.within)), within_le 32768 (2 ^ 62) _ (omega arith) c.record_at.ensures.within))
 
 pub returns-then-k-record_count : goal.returns-then-k-record_count
 returns-then-k-record_count c =
-    let put = c.put_element.ensures in
-    let element = c.record_at.ensures.element in
-    rw (input_there (of_degree c.args.degree c.args.inputs.now) c.args.k (omega arith)) (record { count = omega (arith, rw element at put.end); buffer = rw element at put.buffer })
+    rw (input_there (of_degree c.args.degree c.args.inputs.now) c.args.k (omega arith)) (line c.new-text.ensures (last _ _ _ c.put_element.ensures) ∙ ap element_text c.record_at.ensures.element)
+
+pub returns-else-k-record_count : goal.returns-else-k-record_count
+unfolding bytes_of
+returns-else-k-record_count c = rw (input_missing (of_degree c.args.degree c.args.inputs.now) c.args.k (omega arith)) (line c.new-text.ensures (last _ _ _ c.put.ensures))

@@ -1,22 +1,24 @@
--- The line of each case of the answer, where there is room for it.
-use Rattle.line.proofs.Room.{line_short, line_long, refused_case}
-use Rattle.line_rules.specs.Line.{line_of}
-use Rattle.faults.specs.Answer.{outcome_of}
-use mathlib.Core.Path.{ap}
+-- Where there is room, the line stands at the start of the buffer.
+use mathlib.Core.Path.{ap, ◌∙◌}
+use native.Mathlib.Omega.{arith}
+use lib.ListN.{length}
+use borrow.Author.Tests.{lt-ltb, le-ltb}
+use Rattle.lists.specs.Overwrite.{overwrite}
+use Rattle.line_rules.specs.Line.{line_into, line_count}
 use Rattle.line.proofs.line.Goals as goal
 
-pub returns-then-out-lt128 : goal.returns-then-out-lt128
-returns-then-out-lt128 c =
-    let made = line_short (outcome_of c.args.answer) c.args.out.now c.if-out-lt128.true in
-    record { count = made.0; buffer = made.1.0; within = made.1.1 }
+pub returns-then-out-lt128-clause-count : goal.returns-then-out-lt128-clause-count
+unfolding line_count
+returns-then-out-lt128-clause-count c = rw (lt-ltb (length c.args.out.now) 128 c.if-out-lt128.true, line_count)
 
-pub returns-in-Ok : goal.returns-in-Ok
-unfolding line_of
-returns-in-Ok c =
-    let made = line_long (outcome_of c.args.answer) c.args.out.now _ _ _ c.if-out-lt128.false (ap (λ a. line_of (outcome_of a)) c.in-Ok.is) (c.accepted_line.ensures.count, (c.accepted_line.ensures.buffer, c.accepted_line.ensures.within)) in
-    record { count = made.0; buffer = made.1.0; within = made.1.1 }
+pub returns-then-out-lt128-clause-buffer : goal.returns-then-out-lt128-clause-buffer
+unfolding line_into
+returns-then-out-lt128-clause-buffer c = rw (lt-ltb (length c.args.out.now) 128 c.if-out-lt128.true, line_into)
 
-pub returns-in-Author : goal.returns-in-Author
-returns-in-Author c =
-    let made = line_long (outcome_of c.args.answer) c.args.out.now _ _ _ c.if-out-lt128.false (refused_case _ _ _ _ c.in-Err.is c.in-Author.is) (c.refused_line.ensures.count, (c.refused_line.ensures.buffer, c.refused_line.ensures.within)) in
-    record { count = made.0; buffer = made.1.0; within = made.1.1 }
+pub returns-clause-count : goal.returns-clause-count
+unfolding line_count
+returns-clause-count c = rw (le-ltb (length c.args.out.now) 128 c.if-out-lt128.false, line_count) (omega (arith, c.put.ensures.next, ap length c.as_bytes.ensures.same, ap length c.line_of.ensures))
+
+pub returns-clause-buffer : goal.returns-clause-buffer
+unfolding line_into
+returns-clause-buffer c = rw (le-ltb (length c.args.out.now) 128 c.if-out-lt128.false, line_into) (c.put.ensures.written ∙ ap (overwrite c.args.out.now 0) (c.as_bytes.ensures.same ∙ c.line_of.ensures))

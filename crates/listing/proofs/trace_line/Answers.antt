@@ -1,11 +1,12 @@
 -- T and N are found for the numbers of the section and fit 32 bits; five pieces, one behind the other.
-use Rattle.lists.proofs.Pieces.{last, next, put_all, put_line}
+use Rattle.text.proofs.Behind.{last, next, line}
 use Rattle.listing_rules.proofs.Lines.{expanding_short}
 use Rattle.listing_rules.proofs.Element.{whole_short}
 use Rattle.listing_rules.specs.Listing.{expanding_word, norm_line, norm_line_of}
 use Rattle.digit_rules.proofs.Base.{base_limits}
 use Rattle.digit_rules.proofs.Record.{passed_on}
 use Rattle.digit_rules.specs.Base.{sOf, tOf, uOf, vOf}
+use Rattle.digit_rules.specs.Digits.{BasePart}
 use Rattle.digit_rules.specs.Record.{parts_at, element_at}
 use Rattle.text_rules.specs.Decimal.{decimal_z}
 use Rattle.text_rules.specs.Bytes.{bytes_of}
@@ -22,8 +23,8 @@ use mir.Syntax.{w32, w64}
 use lib.ListN.{length, length-append}
 use lib.IntN.{ℤ, nat_abs}
 use native.Mathlib.Omega.{arith}
-use Prim.Native.Nat.{◌≤◌}
-use mathlib.Core.List.{◌++◌}
+use Prim.Native.Nat.{ℕ, ◌≤◌}
+use mathlib.Core.List.{List, ◌++◌}
 use mathlib.Core.Bool.{Bool}
 use mathlib.Core.Path.{◌≡◌, refl, ap, ◌∙◌}
 use Rattle.listing.proofs.trace_line.Goals as goal
@@ -44,250 +45,98 @@ module _ (z n : ℤ) (found : z ≡ n) (h : nat_abs n ≤ 528384) where
   cast_fits : SFits w32 (held z)
   cast_fits = rw (found, stored_is w64 number refl) (plain_fits w32 number refl)
 
+-- the four numbers of the section as they were read and are handed on
+abbrev Read : List ℕ → ℤ → ℤ → ℤ → ℤ → Type 0
+Read bytes s t u v =
+    let base : Section = of_degree Two bytes in
+    (held s ≡ sOf base) × ((held t ≡ tOf base) × ((held u ≡ uOf base) × (held v ≡ vOf base)))
+
+module _ (bytes : List ℕ) (part : BasePart (of_degree Two bytes)) (s t u v : ℤ) (numbers : Read bytes s t u v) where
+  abbrev base : Section
+  base = of_degree Two bytes
+
+  abbrev trace : ℤ
+  trace = base_trace (sOf base) (uOf base) (vOf base)
+
+  abbrev norm : ℤ
+  norm = base_norm (sOf base) (tOf base) (uOf base) (vOf base)
+
+  small : BaseLimits (sOf base) (tOf base) (uOf base) (vOf base)
+  small = base_limits bytes part
+
+  limits : BaseLimits (held s) (held t) (held u) (held v)
+  limits = rw (numbers.0, numbers.1.0, numbers.1.1.0, numbers.1.1.1) small
+
+  trace_small : nat_abs trace ≤ 528384
+  trace_small = omega (arith, trace_size (sOf base) (uOf base) (vOf base) small.of_s small.of_u small.of_v)
+
+  trace_short : length (decimal_z trace) ≤ 7
+  trace_short = whole_short 5 trace (omega (arith, trace_small))
+
+  norm_short : length (decimal_z norm) ≤ 7
+  norm_short = whole_short 5 norm (omega (arith, norm_size small))
+
+  module _ (z : ℤ) where
+    trace_is : z ≡ base_trace (held s) (held u) (held v) → z ≡ trace
+    trace_is e = rw (numbers.0, numbers.1.1.0, numbers.1.1.1) at e
+
+    trace_fits : z ≡ base_trace (held s) (held u) (held v) → SFits w32 (held z)
+    trace_fits e = cast_fits z trace (trace_is e) trace_small
+
+    trace_cast : z ≡ base_trace (held s) (held u) (held v) → to_z w32 (of_z w32 (held z)) ≡ trace
+    trace_cast e = narrow z trace (trace_is e) trace_small
+
+    norm_is : z ≡ base_norm (held s) (held t) (held u) (held v) → z ≡ norm
+    norm_is e = rw (numbers.0, numbers.1.0, numbers.1.1.0, numbers.1.1.1) at e
+
+    norm_fits : z ≡ base_norm (held s) (held t) (held u) (held v) → SFits w32 (held z)
+    norm_fits e = cast_fits z norm (norm_is e) (norm_size small)
+
+    norm_cast : z ≡ base_norm (held s) (held t) (held u) (held v) → to_z w32 (of_z w32 (held z)) ≡ norm
+    norm_cast e = narrow z norm (norm_is e) (norm_size small)
+
+  expanding_is : (b : Bool) → b ≡ expanding (held s) (held t) (held u) (held v) → b ≡ expanding (sOf base) (tOf base) (uOf base) (vOf base)
+  expanding_is b e = rw (numbers.0, numbers.1.0, numbers.1.1.0, numbers.1.1.1) at e
+
 pub base_trace-requires : goal.base_trace-requires
 unfolding element_at parts_at padded span
-base_trace-requires c =
-    let base : Section = of_degree Two c.args.base.now in
-    let s : ℤ = held c.signed-s.result in
-    let t : ℤ = held c.signed-t.result in
-    let u : ℤ = held c.signed-u.result in
-    let v : ℤ = held c.signed-v.result in
-    let limits : BaseLimits (s) (t) (u) (v) = rw (passed_on _ _ (c.signed-s.ensures.number, c.signed-s.ensures.within), passed_on _ _ (c.signed-t.ensures.number, c.signed-t.ensures.within), passed_on _ _ (c.signed-u.ensures.number, c.signed-u.ensures.within), passed_on _ _ (c.signed-v.ensures.number, c.signed-v.ensures.within)) (base_limits (base).bytes c.requires.0) in
-    let l = limits in (l.of_s, l.of_u, l.of_v)
+base_trace-requires c = let l = limits c.args.base.now c.requires c.signed-s.result c.signed-t.result c.signed-u.result c.signed-v.result (passed_on _ _ (c.signed-s.ensures.number, c.signed-s.ensures.within), (passed_on _ _ (c.signed-t.ensures.number, c.signed-t.ensures.within), (passed_on _ _ (c.signed-u.ensures.number, c.signed-u.ensures.within), passed_on _ _ (c.signed-v.ensures.number, c.signed-v.ensures.within)))) in (l.of_s, l.of_u, l.of_v)
 
 pub overflow_cast-base_trace : goal.overflow_cast-base_trace
 unfolding element_at parts_at padded span
-overflow_cast-base_trace c =
-    let base : Section = of_degree Two c.args.base.now in
-    let trace : ℤ = base_trace (sOf (base)) (uOf (base)) (vOf (base)) in
-    let s : ℤ = held c.signed-s.result in
-    let u : ℤ = held c.signed-u.result in
-    let v : ℤ = held c.signed-v.result in
-    let small : BaseLimits (sOf (base)) (tOf (base)) (uOf (base)) (vOf (base)) = base_limits (base).bytes c.requires.0 in
-    let trace-small : nat_abs (trace) ≤ 528384 = omega (arith, trace_size (sOf (base)) (uOf (base)) (vOf (base)) small.of_s small.of_u small.of_v) in
-    let trace-is : (z : ℤ) → (given : z ≡ base_trace (s) (u) (v)) → z ≡ trace = λ z given. rw (passed_on _ _ (c.signed-s.ensures.number, c.signed-s.ensures.within), passed_on _ _ (c.signed-u.ensures.number, c.signed-u.ensures.within), passed_on _ _ (c.signed-v.ensures.number, c.signed-v.ensures.within)) at given in
-    let trace-fits : (z : ℤ) → (given : z ≡ base_trace (s) (u) (v)) → SFits w32 (held z) = λ z given. cast_fits z (trace) (trace-is z given) trace-small in
-    trace-fits _ c.base_trace.ensures
+overflow_cast-base_trace c = trace_fits c.args.base.now c.requires c.signed-s.result c.signed-t.result c.signed-u.result c.signed-v.result (passed_on _ _ (c.signed-s.ensures.number, c.signed-s.ensures.within), (passed_on _ _ (c.signed-t.ensures.number, c.signed-t.ensures.within), (passed_on _ _ (c.signed-u.ensures.number, c.signed-u.ensures.within), passed_on _ _ (c.signed-v.ensures.number, c.signed-v.ensures.within)))) c.base_trace.result c.base_trace.ensures
 
-pub put_signed-comma-requires : goal.put_signed-comma-requires
-unfolding bytes_of element_at parts_at padded span
-put_signed-comma-requires c =
-    let base : Section = of_degree Two c.args.base.now in
-    let trace : ℤ = base_trace (sOf (base)) (uOf (base)) (vOf (base)) in
-    let s : ℤ = held c.signed-s.result in
-    let u : ℤ = held c.signed-u.result in
-    let v : ℤ = held c.signed-v.result in
-    let small : BaseLimits (sOf (base)) (tOf (base)) (uOf (base)) (vOf (base)) = base_limits (base).bytes c.requires.0 in
-    let trace-small : nat_abs (trace) ≤ 528384 = omega (arith, trace_size (sOf (base)) (uOf (base)) (vOf (base)) small.of_s small.of_u small.of_v) in
-    let trace-short : length (decimal_z (trace)) ≤ 7 = whole_short 5 (trace) (omega (arith, trace-small)) in
-    let trace-is : (z : ℤ) → (given : z ≡ base_trace (s) (u) (v)) → z ≡ trace = λ z given. rw (passed_on _ _ (c.signed-s.ensures.number, c.signed-s.ensures.within), passed_on _ _ (c.signed-u.ensures.number, c.signed-u.ensures.within), passed_on _ _ (c.signed-v.ensures.number, c.signed-v.ensures.within)) at given in
-    let trace-cast : (z : ℤ) → (given : z ≡ base_trace (s) (u) (v)) → to_z w32 (of_z w32 (held z)) ≡ trace = λ z given. narrow z (trace) (trace-is z given) trace-small in
-    rw (trace-cast _ c.base_trace.ensures) (omega (arith, trace-short, c.requires.1))
-
-pub put-norm-requires : goal.put-norm-requires
+pub signed-requires : goal.signed-requires
 unfolding element_at parts_at padded span
-put-norm-requires c =
-    let base : Section = of_degree Two c.args.base.now in
-    let trace : ℤ = base_trace (sOf (base)) (uOf (base)) (vOf (base)) in
-    let s : ℤ = held c.signed-s.result in
-    let u : ℤ = held c.signed-u.result in
-    let v : ℤ = held c.signed-v.result in
-    let small : BaseLimits (sOf (base)) (tOf (base)) (uOf (base)) (vOf (base)) = base_limits (base).bytes c.requires.0 in
-    let trace-small : nat_abs (trace) ≤ 528384 = omega (arith, trace_size (sOf (base)) (uOf (base)) (vOf (base)) small.of_s small.of_u small.of_v) in
-    let trace-short : length (decimal_z (trace)) ≤ 7 = whole_short 5 (trace) (omega (arith, trace-small)) in
-    let trace-is : (z : ℤ) → (given : z ≡ base_trace (s) (u) (v)) → z ≡ trace = λ z given. rw (passed_on _ _ (c.signed-s.ensures.number, c.signed-s.ensures.within), passed_on _ _ (c.signed-u.ensures.number, c.signed-u.ensures.within), passed_on _ _ (c.signed-v.ensures.number, c.signed-v.ensures.within)) at given in
-    let trace-cast : (z : ℤ) → (given : z ≡ base_trace (s) (u) (v)) → to_z w32 (of_z w32 (held z)) ≡ trace = λ z given. narrow z (trace) (trace-is z given) trace-small in
-    let first = rw (trace-cast _ c.base_trace.ensures) at c.put_signed-comma.ensures.end in
-    omega (arith, trace-short, first, c.requires.1)
+signed-requires c = (omega arith, rw (trace_cast c.args.base.now c.requires c.signed-s.result c.signed-t.result c.signed-u.result c.signed-v.result (passed_on _ _ (c.signed-s.ensures.number, c.signed-s.ensures.within), (passed_on _ _ (c.signed-t.ensures.number, c.signed-t.ensures.within), (passed_on _ _ (c.signed-u.ensures.number, c.signed-u.ensures.within), passed_on _ _ (c.signed-v.ensures.number, c.signed-v.ensures.within)))) c.base_trace.result c.base_trace.ensures) (simp (c.put.ensures, c.new-text.ensures) (omega (arith, trace_short c.args.base.now c.requires c.signed-s.result c.signed-t.result c.signed-u.result c.signed-v.result (passed_on _ _ (c.signed-s.ensures.number, c.signed-s.ensures.within), (passed_on _ _ (c.signed-t.ensures.number, c.signed-t.ensures.within), (passed_on _ _ (c.signed-u.ensures.number, c.signed-u.ensures.within), passed_on _ _ (c.signed-v.ensures.number, c.signed-v.ensures.within))))))))
+
+pub put-requires-2 : goal.put-requires-2
+unfolding element_at parts_at padded span
+put-requires-2 c = (omega arith, simp (c.signed.ensures, trace_cast c.args.base.now c.requires c.signed-s.result c.signed-t.result c.signed-u.result c.signed-v.result (passed_on _ _ (c.signed-s.ensures.number, c.signed-s.ensures.within), (passed_on _ _ (c.signed-t.ensures.number, c.signed-t.ensures.within), (passed_on _ _ (c.signed-u.ensures.number, c.signed-u.ensures.within), passed_on _ _ (c.signed-v.ensures.number, c.signed-v.ensures.within)))) c.base_trace.result c.base_trace.ensures, c.put.ensures, c.new-text.ensures, length-append) (omega (arith, trace_short c.args.base.now c.requires c.signed-s.result c.signed-t.result c.signed-u.result c.signed-v.result (passed_on _ _ (c.signed-s.ensures.number, c.signed-s.ensures.within), (passed_on _ _ (c.signed-t.ensures.number, c.signed-t.ensures.within), (passed_on _ _ (c.signed-u.ensures.number, c.signed-u.ensures.within), passed_on _ _ (c.signed-v.ensures.number, c.signed-v.ensures.within)))))))
 
 pub base_norm-requires : goal.base_norm-requires
 unfolding element_at parts_at padded span
-base_norm-requires c =
-    let base : Section = of_degree Two c.args.base.now in
-    let s : ℤ = held c.signed-s.result in
-    let t : ℤ = held c.signed-t.result in
-    let u : ℤ = held c.signed-u.result in
-    let v : ℤ = held c.signed-v.result in
-    let limits : BaseLimits (s) (t) (u) (v) = rw (passed_on _ _ (c.signed-s.ensures.number, c.signed-s.ensures.within), passed_on _ _ (c.signed-t.ensures.number, c.signed-t.ensures.within), passed_on _ _ (c.signed-u.ensures.number, c.signed-u.ensures.within), passed_on _ _ (c.signed-v.ensures.number, c.signed-v.ensures.within)) (base_limits (base).bytes c.requires.0) in
-    limits
+base_norm-requires c = limits c.args.base.now c.requires c.signed-s.result c.signed-t.result c.signed-u.result c.signed-v.result (passed_on _ _ (c.signed-s.ensures.number, c.signed-s.ensures.within), (passed_on _ _ (c.signed-t.ensures.number, c.signed-t.ensures.within), (passed_on _ _ (c.signed-u.ensures.number, c.signed-u.ensures.within), passed_on _ _ (c.signed-v.ensures.number, c.signed-v.ensures.within))))
 
 pub overflow_cast-base_norm : goal.overflow_cast-base_norm
 unfolding element_at parts_at padded span
-overflow_cast-base_norm c =
-    let base : Section = of_degree Two c.args.base.now in
-    let norm : ℤ = base_norm (sOf (base)) (tOf (base)) (uOf (base)) (vOf (base)) in
-    let s : ℤ = held c.signed-s.result in
-    let t : ℤ = held c.signed-t.result in
-    let u : ℤ = held c.signed-u.result in
-    let v : ℤ = held c.signed-v.result in
-    let small : BaseLimits (sOf (base)) (tOf (base)) (uOf (base)) (vOf (base)) = base_limits (base).bytes c.requires.0 in
-    let norm-is : (z : ℤ) → (given : z ≡ base_norm (s) (t) (u) (v)) → z ≡ norm = λ z given. rw (passed_on _ _ (c.signed-s.ensures.number, c.signed-s.ensures.within), passed_on _ _ (c.signed-t.ensures.number, c.signed-t.ensures.within), passed_on _ _ (c.signed-u.ensures.number, c.signed-u.ensures.within), passed_on _ _ (c.signed-v.ensures.number, c.signed-v.ensures.within)) at given in
-    let norm-fits : (z : ℤ) → (given : z ≡ base_norm (s) (t) (u) (v)) → SFits w32 (held z) = λ z given. cast_fits z (norm) (norm-is z given) (norm_size small) in
-    norm-fits _ c.base_norm.ensures
+overflow_cast-base_norm c = norm_fits c.args.base.now c.requires c.signed-s.result c.signed-t.result c.signed-u.result c.signed-v.result (passed_on _ _ (c.signed-s.ensures.number, c.signed-s.ensures.within), (passed_on _ _ (c.signed-t.ensures.number, c.signed-t.ensures.within), (passed_on _ _ (c.signed-u.ensures.number, c.signed-u.ensures.within), passed_on _ _ (c.signed-v.ensures.number, c.signed-v.ensures.within)))) c.base_norm.result c.base_norm.ensures
 
-pub put_signed-end-requires : goal.put_signed-end-requires
+pub signed-requires-2 : goal.signed-requires-2
 unfolding element_at parts_at padded span
-put_signed-end-requires c =
-    let base : Section = of_degree Two c.args.base.now in
-    let trace : ℤ = base_trace (sOf (base)) (uOf (base)) (vOf (base)) in
-    let norm : ℤ = base_norm (sOf (base)) (tOf (base)) (uOf (base)) (vOf (base)) in
-    let s : ℤ = held c.signed-s.result in
-    let t : ℤ = held c.signed-t.result in
-    let u : ℤ = held c.signed-u.result in
-    let v : ℤ = held c.signed-v.result in
-    let small : BaseLimits (sOf (base)) (tOf (base)) (uOf (base)) (vOf (base)) = base_limits (base).bytes c.requires.0 in
-    let trace-small : nat_abs (trace) ≤ 528384 = omega (arith, trace_size (sOf (base)) (uOf (base)) (vOf (base)) small.of_s small.of_u small.of_v) in
-    let trace-short : length (decimal_z (trace)) ≤ 7 = whole_short 5 (trace) (omega (arith, trace-small)) in
-    let norm-short : length (decimal_z (norm)) ≤ 7 = whole_short 5 (norm) (omega (arith, norm_size small)) in
-    let trace-is : (z : ℤ) → (given : z ≡ base_trace (s) (u) (v)) → z ≡ trace = λ z given. rw (passed_on _ _ (c.signed-s.ensures.number, c.signed-s.ensures.within), passed_on _ _ (c.signed-u.ensures.number, c.signed-u.ensures.within), passed_on _ _ (c.signed-v.ensures.number, c.signed-v.ensures.within)) at given in
-    let trace-cast : (z : ℤ) → (given : z ≡ base_trace (s) (u) (v)) → to_z w32 (of_z w32 (held z)) ≡ trace = λ z given. narrow z (trace) (trace-is z given) trace-small in
-    let norm-is : (z : ℤ) → (given : z ≡ base_norm (s) (t) (u) (v)) → z ≡ norm = λ z given. rw (passed_on _ _ (c.signed-s.ensures.number, c.signed-s.ensures.within), passed_on _ _ (c.signed-t.ensures.number, c.signed-t.ensures.within), passed_on _ _ (c.signed-u.ensures.number, c.signed-u.ensures.within), passed_on _ _ (c.signed-v.ensures.number, c.signed-v.ensures.within)) at given in
-    let norm-cast : (z : ℤ) → (given : z ≡ base_norm (s) (t) (u) (v)) → to_z w32 (of_z w32 (held z)) ≡ norm = λ z given. narrow z (norm) (norm-is z given) (norm_size small) in
-    let room = c.requires.1 in
-    let tall = trace-short in
-    let long = norm-short in
-    let first = rw (trace-cast _ c.base_trace.ensures) at c.put_signed-comma.ensures.end in
-    rw (norm-cast _ c.base_norm.ensures) (omega (arith, tall, long, first, room))
+signed-requires-2 c = (omega arith, simp (c.put-2.ensures, c.signed.ensures, trace_cast c.args.base.now c.requires c.signed-s.result c.signed-t.result c.signed-u.result c.signed-v.result (passed_on _ _ (c.signed-s.ensures.number, c.signed-s.ensures.within), (passed_on _ _ (c.signed-t.ensures.number, c.signed-t.ensures.within), (passed_on _ _ (c.signed-u.ensures.number, c.signed-u.ensures.within), passed_on _ _ (c.signed-v.ensures.number, c.signed-v.ensures.within)))) c.base_trace.result c.base_trace.ensures, norm_cast c.args.base.now c.requires c.signed-s.result c.signed-t.result c.signed-u.result c.signed-v.result (passed_on _ _ (c.signed-s.ensures.number, c.signed-s.ensures.within), (passed_on _ _ (c.signed-t.ensures.number, c.signed-t.ensures.within), (passed_on _ _ (c.signed-u.ensures.number, c.signed-u.ensures.within), passed_on _ _ (c.signed-v.ensures.number, c.signed-v.ensures.within)))) c.base_norm.result c.base_norm.ensures, c.put.ensures, c.new-text.ensures, length-append) (omega (arith, trace_short c.args.base.now c.requires c.signed-s.result c.signed-t.result c.signed-u.result c.signed-v.result (passed_on _ _ (c.signed-s.ensures.number, c.signed-s.ensures.within), (passed_on _ _ (c.signed-t.ensures.number, c.signed-t.ensures.within), (passed_on _ _ (c.signed-u.ensures.number, c.signed-u.ensures.within), passed_on _ _ (c.signed-v.ensures.number, c.signed-v.ensures.within)))), norm_short c.args.base.now c.requires c.signed-s.result c.signed-t.result c.signed-u.result c.signed-v.result (passed_on _ _ (c.signed-s.ensures.number, c.signed-s.ensures.within), (passed_on _ _ (c.signed-t.ensures.number, c.signed-t.ensures.within), (passed_on _ _ (c.signed-u.ensures.number, c.signed-u.ensures.within), passed_on _ _ (c.signed-v.ensures.number, c.signed-v.ensures.within)))))))
 
 pub is_expanding-requires : goal.is_expanding-requires
 unfolding element_at parts_at padded span
-is_expanding-requires c =
-    let base : Section = of_degree Two c.args.base.now in
-    let s : ℤ = held c.signed-s.result in
-    let t : ℤ = held c.signed-t.result in
-    let u : ℤ = held c.signed-u.result in
-    let v : ℤ = held c.signed-v.result in
-    let limits : BaseLimits (s) (t) (u) (v) = rw (passed_on _ _ (c.signed-s.ensures.number, c.signed-s.ensures.within), passed_on _ _ (c.signed-t.ensures.number, c.signed-t.ensures.within), passed_on _ _ (c.signed-u.ensures.number, c.signed-u.ensures.within), passed_on _ _ (c.signed-v.ensures.number, c.signed-v.ensures.within)) (base_limits (base).bytes c.requires.0) in
-    limits
+is_expanding-requires c = limits c.args.base.now c.requires c.signed-s.result c.signed-t.result c.signed-u.result c.signed-v.result (passed_on _ _ (c.signed-s.ensures.number, c.signed-s.ensures.within), (passed_on _ _ (c.signed-t.ensures.number, c.signed-t.ensures.within), (passed_on _ _ (c.signed-u.ensures.number, c.signed-u.ensures.within), passed_on _ _ (c.signed-v.ensures.number, c.signed-v.ensures.within))))
 
-pub put_expanding-requires : goal.put_expanding-requires
+pub put-requires-3 : goal.put-requires-3
 unfolding element_at parts_at padded span
-put_expanding-requires c =
-    let base : Section = of_degree Two c.args.base.now in
-    let trace : ℤ = base_trace (sOf (base)) (uOf (base)) (vOf (base)) in
-    let norm : ℤ = base_norm (sOf (base)) (tOf (base)) (uOf (base)) (vOf (base)) in
-    let s : ℤ = held c.signed-s.result in
-    let t : ℤ = held c.signed-t.result in
-    let u : ℤ = held c.signed-u.result in
-    let v : ℤ = held c.signed-v.result in
-    let small : BaseLimits (sOf (base)) (tOf (base)) (uOf (base)) (vOf (base)) = base_limits (base).bytes c.requires.0 in
-    let trace-small : nat_abs (trace) ≤ 528384 = omega (arith, trace_size (sOf (base)) (uOf (base)) (vOf (base)) small.of_s small.of_u small.of_v) in
-    let trace-short : length (decimal_z (trace)) ≤ 7 = whole_short 5 (trace) (omega (arith, trace-small)) in
-    let norm-short : length (decimal_z (norm)) ≤ 7 = whole_short 5 (norm) (omega (arith, norm_size small)) in
-    let trace-is : (z : ℤ) → (given : z ≡ base_trace (s) (u) (v)) → z ≡ trace = λ z given. rw (passed_on _ _ (c.signed-s.ensures.number, c.signed-s.ensures.within), passed_on _ _ (c.signed-u.ensures.number, c.signed-u.ensures.within), passed_on _ _ (c.signed-v.ensures.number, c.signed-v.ensures.within)) at given in
-    let trace-cast : (z : ℤ) → (given : z ≡ base_trace (s) (u) (v)) → to_z w32 (of_z w32 (held z)) ≡ trace = λ z given. narrow z (trace) (trace-is z given) trace-small in
-    let norm-is : (z : ℤ) → (given : z ≡ base_norm (s) (t) (u) (v)) → z ≡ norm = λ z given. rw (passed_on _ _ (c.signed-s.ensures.number, c.signed-s.ensures.within), passed_on _ _ (c.signed-t.ensures.number, c.signed-t.ensures.within), passed_on _ _ (c.signed-u.ensures.number, c.signed-u.ensures.within), passed_on _ _ (c.signed-v.ensures.number, c.signed-v.ensures.within)) at given in
-    let norm-cast : (z : ℤ) → (given : z ≡ base_norm (s) (t) (u) (v)) → to_z w32 (of_z w32 (held z)) ≡ norm = λ z given. narrow z (norm) (norm-is z given) (norm_size small) in
-    let room = c.requires.1 in
-    let tall = trace-short in
-    let long = norm-short in
-    let T = trace-cast _ c.base_trace.ensures in
-    let N = norm-cast _ c.base_norm.ensures in
-    let first = rw T at c.put_signed-comma.ensures.end in
-    let second = rw N at c.put_signed-end.ensures.end in
-    omega (arith, tall, long, first, second, room)
+put-requires-3 c = (omega arith, simp (c.expanding_word.ensures, c.signed-2.ensures, norm_cast c.args.base.now c.requires c.signed-s.result c.signed-t.result c.signed-u.result c.signed-v.result (passed_on _ _ (c.signed-s.ensures.number, c.signed-s.ensures.within), (passed_on _ _ (c.signed-t.ensures.number, c.signed-t.ensures.within), (passed_on _ _ (c.signed-u.ensures.number, c.signed-u.ensures.within), passed_on _ _ (c.signed-v.ensures.number, c.signed-v.ensures.within)))) c.base_norm.result c.base_norm.ensures, c.put-2.ensures, c.signed.ensures, trace_cast c.args.base.now c.requires c.signed-s.result c.signed-t.result c.signed-u.result c.signed-v.result (passed_on _ _ (c.signed-s.ensures.number, c.signed-s.ensures.within), (passed_on _ _ (c.signed-t.ensures.number, c.signed-t.ensures.within), (passed_on _ _ (c.signed-u.ensures.number, c.signed-u.ensures.within), passed_on _ _ (c.signed-v.ensures.number, c.signed-v.ensures.within)))) c.base_trace.result c.base_trace.ensures, c.put.ensures, c.new-text.ensures, length-append) (omega (arith, trace_short c.args.base.now c.requires c.signed-s.result c.signed-t.result c.signed-u.result c.signed-v.result (passed_on _ _ (c.signed-s.ensures.number, c.signed-s.ensures.within), (passed_on _ _ (c.signed-t.ensures.number, c.signed-t.ensures.within), (passed_on _ _ (c.signed-u.ensures.number, c.signed-u.ensures.within), passed_on _ _ (c.signed-v.ensures.number, c.signed-v.ensures.within)))), norm_short c.args.base.now c.requires c.signed-s.result c.signed-t.result c.signed-u.result c.signed-v.result (passed_on _ _ (c.signed-s.ensures.number, c.signed-s.ensures.within), (passed_on _ _ (c.signed-t.ensures.number, c.signed-t.ensures.within), (passed_on _ _ (c.signed-u.ensures.number, c.signed-u.ensures.within), passed_on _ _ (c.signed-v.ensures.number, c.signed-v.ensures.within)))), expanding_short c.is_expanding.result)))
 
-pub returns-clause-count : goal.returns-clause-count
+pub returns : goal.returns
 unfolding bytes_of norm_line norm_line_of element_at parts_at padded span
-returns-clause-count c =
-    let base : Section = of_degree Two c.args.base.now in
-    let trace : ℤ = base_trace (sOf (base)) (uOf (base)) (vOf (base)) in
-    let norm : ℤ = base_norm (sOf (base)) (tOf (base)) (uOf (base)) (vOf (base)) in
-    let expands : Bool = expanding (sOf (base)) (tOf (base)) (uOf (base)) (vOf (base)) in
-    let s : ℤ = held c.signed-s.result in
-    let t : ℤ = held c.signed-t.result in
-    let u : ℤ = held c.signed-u.result in
-    let v : ℤ = held c.signed-v.result in
-    let small : BaseLimits (sOf (base)) (tOf (base)) (uOf (base)) (vOf (base)) = base_limits (base).bytes c.requires.0 in
-    let trace-small : nat_abs (trace) ≤ 528384 = omega (arith, trace_size (sOf (base)) (uOf (base)) (vOf (base)) small.of_s small.of_u small.of_v) in
-    let trace-short : length (decimal_z (trace)) ≤ 7 = whole_short 5 (trace) (omega (arith, trace-small)) in
-    let norm-short : length (decimal_z (norm)) ≤ 7 = whole_short 5 (norm) (omega (arith, norm_size small)) in
-    let trace-is : (z : ℤ) → (given : z ≡ base_trace (s) (u) (v)) → z ≡ trace = λ z given. rw (passed_on _ _ (c.signed-s.ensures.number, c.signed-s.ensures.within), passed_on _ _ (c.signed-u.ensures.number, c.signed-u.ensures.within), passed_on _ _ (c.signed-v.ensures.number, c.signed-v.ensures.within)) at given in
-    let trace-cast : (z : ℤ) → (given : z ≡ base_trace (s) (u) (v)) → to_z w32 (of_z w32 (held z)) ≡ trace = λ z given. narrow z (trace) (trace-is z given) trace-small in
-    let norm-is : (z : ℤ) → (given : z ≡ base_norm (s) (t) (u) (v)) → z ≡ norm = λ z given. rw (passed_on _ _ (c.signed-s.ensures.number, c.signed-s.ensures.within), passed_on _ _ (c.signed-t.ensures.number, c.signed-t.ensures.within), passed_on _ _ (c.signed-u.ensures.number, c.signed-u.ensures.within), passed_on _ _ (c.signed-v.ensures.number, c.signed-v.ensures.within)) at given in
-    let norm-cast : (z : ℤ) → (given : z ≡ base_norm (s) (t) (u) (v)) → to_z w32 (of_z w32 (held z)) ≡ norm = λ z given. narrow z (norm) (norm-is z given) (norm_size small) in
-    let expanding-is : (b : Bool) → b ≡ expanding (s) (t) (u) (v) → b ≡ expands = λ b given. rw (passed_on _ _ (c.signed-s.ensures.number, c.signed-s.ensures.within), passed_on _ _ (c.signed-t.ensures.number, c.signed-t.ensures.within), passed_on _ _ (c.signed-u.ensures.number, c.signed-u.ensures.within), passed_on _ _ (c.signed-v.ensures.number, c.signed-v.ensures.within)) at given in
-    let d = c in
-    let out = c.args.out.now in
-    let room = c.requires.1 in
-    let T = decimal_z (trace) in
-    let N = decimal_z (norm) in
-    let word = expanding_word (expands) in
-    let front = length-append T (bytes_of ", N = " ++ (N ++ word)) in
-    let back = length-append N word in
-    let tall = trace-short in
-    let long = norm-short in
-    let end = expanding_short (expands) in
-    let tail = next _ _ _ (bytes_of ", N = ") _ _ _ _ (c.put-norm.ensures.next, c.put-norm.ensures.written) (next _ _ _ N word _ _ _ (rw (norm-cast _ c.base_norm.ensures) at c.put_signed-end.ensures.end, rw (norm-cast _ c.base_norm.ensures) at c.put_signed-end.ensures.buffer) (last _ _ _ _ _ (rw (expanding-is _ c.is_expanding.ensures) at c.put_expanding.ensures.end, rw (expanding-is _ c.is_expanding.ensures) at c.put_expanding.ensures.buffer))) in
-    let pieces = next out _ _ (bytes_of "T = ") _ 0 _ _ (c.put-trace.ensures.next, c.put-trace.ensures.written) (next _ _ _ T _ _ _ _ (rw (trace-cast _ c.base_trace.ensures) at c.put_signed-comma.ensures.end, rw (trace-cast _ c.base_trace.ensures) at c.put_signed-comma.ensures.buffer) tail) in
-    let all = put_all pieces (omega (arith, tall, long, end, front, back, room)) in (put_line out _ _ _ _ 64 all refl (omega (arith, tall, long, end, front, back))).0
-
-pub returns-clause-buffer : goal.returns-clause-buffer
-unfolding bytes_of norm_line norm_line_of element_at parts_at padded span
-returns-clause-buffer c =
-    let base : Section = of_degree Two c.args.base.now in
-    let trace : ℤ = base_trace (sOf (base)) (uOf (base)) (vOf (base)) in
-    let norm : ℤ = base_norm (sOf (base)) (tOf (base)) (uOf (base)) (vOf (base)) in
-    let expands : Bool = expanding (sOf (base)) (tOf (base)) (uOf (base)) (vOf (base)) in
-    let s : ℤ = held c.signed-s.result in
-    let t : ℤ = held c.signed-t.result in
-    let u : ℤ = held c.signed-u.result in
-    let v : ℤ = held c.signed-v.result in
-    let small : BaseLimits (sOf (base)) (tOf (base)) (uOf (base)) (vOf (base)) = base_limits (base).bytes c.requires.0 in
-    let trace-small : nat_abs (trace) ≤ 528384 = omega (arith, trace_size (sOf (base)) (uOf (base)) (vOf (base)) small.of_s small.of_u small.of_v) in
-    let trace-short : length (decimal_z (trace)) ≤ 7 = whole_short 5 (trace) (omega (arith, trace-small)) in
-    let norm-short : length (decimal_z (norm)) ≤ 7 = whole_short 5 (norm) (omega (arith, norm_size small)) in
-    let trace-is : (z : ℤ) → (given : z ≡ base_trace (s) (u) (v)) → z ≡ trace = λ z given. rw (passed_on _ _ (c.signed-s.ensures.number, c.signed-s.ensures.within), passed_on _ _ (c.signed-u.ensures.number, c.signed-u.ensures.within), passed_on _ _ (c.signed-v.ensures.number, c.signed-v.ensures.within)) at given in
-    let trace-cast : (z : ℤ) → (given : z ≡ base_trace (s) (u) (v)) → to_z w32 (of_z w32 (held z)) ≡ trace = λ z given. narrow z (trace) (trace-is z given) trace-small in
-    let norm-is : (z : ℤ) → (given : z ≡ base_norm (s) (t) (u) (v)) → z ≡ norm = λ z given. rw (passed_on _ _ (c.signed-s.ensures.number, c.signed-s.ensures.within), passed_on _ _ (c.signed-t.ensures.number, c.signed-t.ensures.within), passed_on _ _ (c.signed-u.ensures.number, c.signed-u.ensures.within), passed_on _ _ (c.signed-v.ensures.number, c.signed-v.ensures.within)) at given in
-    let norm-cast : (z : ℤ) → (given : z ≡ base_norm (s) (t) (u) (v)) → to_z w32 (of_z w32 (held z)) ≡ norm = λ z given. narrow z (norm) (norm-is z given) (norm_size small) in
-    let expanding-is : (b : Bool) → b ≡ expanding (s) (t) (u) (v) → b ≡ expands = λ b given. rw (passed_on _ _ (c.signed-s.ensures.number, c.signed-s.ensures.within), passed_on _ _ (c.signed-t.ensures.number, c.signed-t.ensures.within), passed_on _ _ (c.signed-u.ensures.number, c.signed-u.ensures.within), passed_on _ _ (c.signed-v.ensures.number, c.signed-v.ensures.within)) at given in
-    let d = c in
-    let out = c.args.out.now in
-    let room = c.requires.1 in
-    let T = decimal_z (trace) in
-    let N = decimal_z (norm) in
-    let word = expanding_word (expands) in
-    let front = length-append T (bytes_of ", N = " ++ (N ++ word)) in
-    let back = length-append N word in
-    let tall = trace-short in
-    let long = norm-short in
-    let end = expanding_short (expands) in
-    let tail = next _ _ _ (bytes_of ", N = ") _ _ _ _ (c.put-norm.ensures.next, c.put-norm.ensures.written) (next _ _ _ N word _ _ _ (rw (norm-cast _ c.base_norm.ensures) at c.put_signed-end.ensures.end, rw (norm-cast _ c.base_norm.ensures) at c.put_signed-end.ensures.buffer) (last _ _ _ _ _ (rw (expanding-is _ c.is_expanding.ensures) at c.put_expanding.ensures.end, rw (expanding-is _ c.is_expanding.ensures) at c.put_expanding.ensures.buffer))) in
-    let pieces = next out _ _ (bytes_of "T = ") _ 0 _ _ (c.put-trace.ensures.next, c.put-trace.ensures.written) (next _ _ _ T _ _ _ _ (rw (trace-cast _ c.base_trace.ensures) at c.put_signed-comma.ensures.end, rw (trace-cast _ c.base_trace.ensures) at c.put_signed-comma.ensures.buffer) tail) in
-    let all = put_all pieces (omega (arith, tall, long, end, front, back, room)) in (put_line out _ _ _ _ 64 all refl (omega (arith, tall, long, end, front, back))).1.0
-
-pub returns-clause-within : goal.returns-clause-within
-unfolding bytes_of norm_line norm_line_of element_at parts_at padded span
-returns-clause-within c =
-    let base : Section = of_degree Two c.args.base.now in
-    let trace : ℤ = base_trace (sOf (base)) (uOf (base)) (vOf (base)) in
-    let norm : ℤ = base_norm (sOf (base)) (tOf (base)) (uOf (base)) (vOf (base)) in
-    let expands : Bool = expanding (sOf (base)) (tOf (base)) (uOf (base)) (vOf (base)) in
-    let s : ℤ = held c.signed-s.result in
-    let t : ℤ = held c.signed-t.result in
-    let u : ℤ = held c.signed-u.result in
-    let v : ℤ = held c.signed-v.result in
-    let small : BaseLimits (sOf (base)) (tOf (base)) (uOf (base)) (vOf (base)) = base_limits (base).bytes c.requires.0 in
-    let trace-small : nat_abs (trace) ≤ 528384 = omega (arith, trace_size (sOf (base)) (uOf (base)) (vOf (base)) small.of_s small.of_u small.of_v) in
-    let trace-short : length (decimal_z (trace)) ≤ 7 = whole_short 5 (trace) (omega (arith, trace-small)) in
-    let norm-short : length (decimal_z (norm)) ≤ 7 = whole_short 5 (norm) (omega (arith, norm_size small)) in
-    let trace-is : (z : ℤ) → (given : z ≡ base_trace (s) (u) (v)) → z ≡ trace = λ z given. rw (passed_on _ _ (c.signed-s.ensures.number, c.signed-s.ensures.within), passed_on _ _ (c.signed-u.ensures.number, c.signed-u.ensures.within), passed_on _ _ (c.signed-v.ensures.number, c.signed-v.ensures.within)) at given in
-    let trace-cast : (z : ℤ) → (given : z ≡ base_trace (s) (u) (v)) → to_z w32 (of_z w32 (held z)) ≡ trace = λ z given. narrow z (trace) (trace-is z given) trace-small in
-    let norm-is : (z : ℤ) → (given : z ≡ base_norm (s) (t) (u) (v)) → z ≡ norm = λ z given. rw (passed_on _ _ (c.signed-s.ensures.number, c.signed-s.ensures.within), passed_on _ _ (c.signed-t.ensures.number, c.signed-t.ensures.within), passed_on _ _ (c.signed-u.ensures.number, c.signed-u.ensures.within), passed_on _ _ (c.signed-v.ensures.number, c.signed-v.ensures.within)) at given in
-    let norm-cast : (z : ℤ) → (given : z ≡ base_norm (s) (t) (u) (v)) → to_z w32 (of_z w32 (held z)) ≡ norm = λ z given. narrow z (norm) (norm-is z given) (norm_size small) in
-    let expanding-is : (b : Bool) → b ≡ expanding (s) (t) (u) (v) → b ≡ expands = λ b given. rw (passed_on _ _ (c.signed-s.ensures.number, c.signed-s.ensures.within), passed_on _ _ (c.signed-t.ensures.number, c.signed-t.ensures.within), passed_on _ _ (c.signed-u.ensures.number, c.signed-u.ensures.within), passed_on _ _ (c.signed-v.ensures.number, c.signed-v.ensures.within)) at given in
-    let d = c in
-    let out = c.args.out.now in
-    let room = c.requires.1 in
-    let T = decimal_z (trace) in
-    let N = decimal_z (norm) in
-    let word = expanding_word (expands) in
-    let front = length-append T (bytes_of ", N = " ++ (N ++ word)) in
-    let back = length-append N word in
-    let tall = trace-short in
-    let long = norm-short in
-    let end = expanding_short (expands) in
-    let tail = next _ _ _ (bytes_of ", N = ") _ _ _ _ (c.put-norm.ensures.next, c.put-norm.ensures.written) (next _ _ _ N word _ _ _ (rw (norm-cast _ c.base_norm.ensures) at c.put_signed-end.ensures.end, rw (norm-cast _ c.base_norm.ensures) at c.put_signed-end.ensures.buffer) (last _ _ _ _ _ (rw (expanding-is _ c.is_expanding.ensures) at c.put_expanding.ensures.end, rw (expanding-is _ c.is_expanding.ensures) at c.put_expanding.ensures.buffer))) in
-    let pieces = next out _ _ (bytes_of "T = ") _ 0 _ _ (c.put-trace.ensures.next, c.put-trace.ensures.written) (next _ _ _ T _ _ _ _ (rw (trace-cast _ c.base_trace.ensures) at c.put_signed-comma.ensures.end, rw (trace-cast _ c.base_trace.ensures) at c.put_signed-comma.ensures.buffer) tail) in
-    let all = put_all pieces (omega (arith, tall, long, end, front, back, room)) in (put_line out _ _ _ _ 64 all refl (omega (arith, tall, long, end, front, back))).1.1
+returns c =
+    let back = next _ _ _ _ _ c.put-2.ensures (next _ _ _ _ _ (rw (norm_cast c.args.base.now c.requires c.signed-s.result c.signed-t.result c.signed-u.result c.signed-v.result (passed_on _ _ (c.signed-s.ensures.number, c.signed-s.ensures.within), (passed_on _ _ (c.signed-t.ensures.number, c.signed-t.ensures.within), (passed_on _ _ (c.signed-u.ensures.number, c.signed-u.ensures.within), passed_on _ _ (c.signed-v.ensures.number, c.signed-v.ensures.within)))) c.base_norm.result c.base_norm.ensures) at c.signed-2.ensures) (last _ _ _ (c.put-3.ensures ∙ ap (λ w. c.signed-2.new.self ++ w) (c.expanding_word.ensures ∙ ap expanding_word (expanding_is c.args.base.now c.requires c.signed-s.result c.signed-t.result c.signed-u.result c.signed-v.result (passed_on _ _ (c.signed-s.ensures.number, c.signed-s.ensures.within), (passed_on _ _ (c.signed-t.ensures.number, c.signed-t.ensures.within), (passed_on _ _ (c.signed-u.ensures.number, c.signed-u.ensures.within), passed_on _ _ (c.signed-v.ensures.number, c.signed-v.ensures.within)))) c.is_expanding.result c.is_expanding.ensures))))) in
+    let whole = line c.new-text.ensures (next _ _ _ _ _ c.put.ensures (next _ _ _ _ _ (rw (trace_cast c.args.base.now c.requires c.signed-s.result c.signed-t.result c.signed-u.result c.signed-v.result (passed_on _ _ (c.signed-s.ensures.number, c.signed-s.ensures.within), (passed_on _ _ (c.signed-t.ensures.number, c.signed-t.ensures.within), (passed_on _ _ (c.signed-u.ensures.number, c.signed-u.ensures.within), passed_on _ _ (c.signed-v.ensures.number, c.signed-v.ensures.within)))) c.base_trace.result c.base_trace.ensures) at c.signed.ensures) back)) in
+    whole

@@ -1,22 +1,20 @@
 -- Two numbers and the line feed.
-use Rattle.why_rules.specs.Why.{numbered, byte_line}
-use Rattle.text_rules.specs.Bytes.{bytes_of}
-use Rattle.lists.proofs.Pieces.{last, next, put_all, put_line}
-use lib.ListN.{length-append}
-use mathlib.Core.Path.{refl}
+use mathlib.Core.Path.{ap}
 use native.Mathlib.Omega.{arith}
+use lib.ListN.{length}
+use Rattle.text_rules.specs.Bytes.{bytes_of}
+use Rattle.text.proofs.Behind.{last, next, line}
+use Rattle.why_rules.specs.Why.{byte_line}
 use Rattle.why_lines.proofs.byte_line.Goals as goal
 
+pub put_numbers-requires : goal.put_numbers-requires
+put_numbers-requires c = (omega arith, simp c.new-text.ensures (omega arith))
+
 pub put-requires : goal.put-requires
-unfolding bytes_of
-put-requires c = omega (arith, c.requires, c.put_numbers-end.ensures.within)
+put-requires c = (omega arith, omega (arith, ap length c.new-text.ensures, c.put_numbers.ensures.within))
 
 pub returns : goal.returns
 unfolding bytes_of byte_line
 returns c =
-    let a = c.args in
-    let front = numbered (bytes_of "  byte ") a.k (bytes_of " of section 4 is ") a.byte in
-    let total = length-append front (bytes_of "\n") in
-    let all = put_all (next a.out.now _ _ front (bytes_of "\n") 0 _ _ (c.put_numbers-end.ensures.end, c.put_numbers-end.ensures.buffer) (last _ _ _ _ _ (c.put.ensures.next, c.put.ensures.written))) (omega (arith, c.requires, c.put_numbers-end.ensures.end, c.put_numbers-end.ensures.within, total)) in
-    let made = put_line a.out.now _ _ _ _ 240 all refl (omega (arith, c.put_numbers-end.ensures.end, c.put_numbers-end.ensures.within, total)) in
-    record { count = made.0; buffer = made.1.0; within = made.1.1 }
+    let whole = line c.new-text.ensures (next _ _ _ _ _ c.put_numbers.ensures.text (last _ _ _ c.put.ensures)) in
+    whole

@@ -1,22 +1,20 @@
 -- Two numbers and the word behind them.
-use Rattle.why_rules.specs.Why.{numbered, due_line}
-use Rattle.text_rules.specs.Bytes.{bytes_of}
-use Rattle.lists.proofs.Pieces.{last, next, put_all, put_line}
-use lib.ListN.{length-append}
-use mathlib.Core.Path.{refl}
+use mathlib.Core.Path.{ap}
 use native.Mathlib.Omega.{arith}
+use lib.ListN.{length}
+use Rattle.text_rules.specs.Bytes.{bytes_of}
+use Rattle.text.proofs.Behind.{last, next, line}
+use Rattle.why_rules.specs.Why.{due_line}
 use Rattle.why_lines.proofs.due_line.Goals as goal
 
+pub put_numbers-requires : goal.put_numbers-requires
+put_numbers-requires c = (omega arith, simp c.new-text.ensures (omega (arith, c.requires)))
+
 pub put-requires : goal.put-requires
-unfolding bytes_of
-put-requires c = omega (arith, c.requires.0, c.requires.1, c.put_numbers-end.ensures.within)
+put-requires c = (omega arith, omega (arith, c.requires, ap length c.new-text.ensures, c.put_numbers.ensures.within))
 
 pub returns : goal.returns
 unfolding bytes_of due_line
 returns c =
-    let a = c.args in
-    let front = numbered (bytes_of "  the offset has to be ") a.start a.name.now a.size in
-    let total = length-append front (bytes_of " bytes\n") in
-    let all = put_all (next a.out.now _ _ front (bytes_of " bytes\n") 0 _ _ (c.put_numbers-end.ensures.end, c.put_numbers-end.ensures.buffer) (last _ _ _ _ _ (c.put.ensures.next, c.put.ensures.written))) (omega (arith, c.requires.0, c.requires.1, c.put_numbers-end.ensures.end, c.put_numbers-end.ensures.within, total)) in
-    let made = put_line a.out.now _ _ _ _ 240 all refl (omega (arith, c.requires.0, c.put_numbers-end.ensures.end, c.put_numbers-end.ensures.within, total)) in
-    record { count = made.0; buffer = made.1.0; within = made.1.1 }
+    let whole = line c.new-text.ensures (next _ _ _ _ _ c.put_numbers.ensures.text (last _ _ _ c.put.ensures)) in
+    whole

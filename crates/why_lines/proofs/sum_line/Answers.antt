@@ -1,91 +1,33 @@
 -- Four elements in brackets and the line feed.
-use Rattle.why_rules.proofs.Lines.{bracketed_length}
-use Rattle.why_rules.specs.Why.{bracketed, sum_line}
-use Rattle.listing_rules.proofs.Element.{element_short}
-use Rattle.text_rules.specs.Bytes.{bytes_of}
-use Rattle.ring.proofs.Element.{within_le}
-use Rattle.lists.proofs.Pieces.{last, next, put_all, put_line}
-use lib.ListN.{length, length-append}
-use Prim.Native.Nat.{ℕ, ◌≤◌, ◌^◌}
-use mathlib.Core.List.{List, ◌++◌}
-use mathlib.Core.Path.{refl}
+use Prim.Native.Nat.{◌^◌}
 use native.Mathlib.Omega.{arith}
+use lib.ListN.{length-append}
+use Rattle.ring.proofs.Element.{within_le}
+use Rattle.text_rules.specs.Bytes.{bytes_of}
+use Rattle.text.proofs.Behind.{last, next, line}
+use Rattle.listing_rules.proofs.Element.{element_short}
+use Rattle.why_rules.specs.Why.{sum_line}
+use Rattle.why_rules.proofs.Lines.{bracketed_length}
 use Rattle.why_lines.proofs.sum_line.Goals as goal
 
-pub put_bracketed-plus-requires : goal.put_bracketed-plus-requires
-unfolding bytes_of
-put_bracketed-plus-requires c =
-    let first : List ℕ = bracketed (bytes_of "  digit at the top place = U's first digit + L's weight - base * U's weight\n    = (") c.args.first in
-    let base : List ℕ = bracketed (bytes_of " - (") c.args.base in
-    let first-room : length first ≤ 120 = omega (arith, bracketed_length (bytes_of "  digit at the top place = U's first digit + L's weight - base * U's weight\n    = (") c.args.first, element_short c.args.first c.requires.parts.0) in
-    let s = c in record { room = omega (arith, c.requires.room, first-room); parts = within_le 32768 (2 ^ 62) _ (omega arith) c.requires.parts.0 }
+pub put_bracketed-requires : goal.put_bracketed-requires
+put_bracketed-requires c = (omega arith, (simp (c.new-text.ensures, bracketed_length, length-append) (omega (arith, element_short c.args.first c.requires.0)), within_le 32768 (2 ^ 62) _ (omega arith) c.requires.0))
 
-pub put_bracketed-minus-requires : goal.put_bracketed-minus-requires
-unfolding bytes_of
-put_bracketed-minus-requires c =
-    let first : List ℕ = bracketed (bytes_of "  digit at the top place = U's first digit + L's weight - base * U's weight\n    = (") c.args.first in
-    let lower : List ℕ = bracketed (bytes_of " + (") c.args.lower in
-    let base : List ℕ = bracketed (bytes_of " - (") c.args.base in
-    let first-room : length first ≤ 120 = omega (arith, bracketed_length (bytes_of "  digit at the top place = U's first digit + L's weight - base * U's weight\n    = (") c.args.first, element_short c.args.first c.requires.parts.0) in
-    let lower-room : length lower ≤ 36 = omega (arith, bracketed_length (bytes_of " + (") c.args.lower, element_short c.args.lower c.requires.parts.1) in
-    let s = c in record { room = omega (arith, c.requires.room, first-room, lower-room, c.put_bracketed-plus.ensures.end); parts = within_le 32768 (2 ^ 62) _ (omega arith) c.requires.parts.1 }
+pub put_bracketed-requires-2 : goal.put_bracketed-requires-2
+put_bracketed-requires-2 c = (omega arith, (simp (c.put_bracketed.ensures, c.new-text.ensures, bracketed_length, length-append) (omega (arith, element_short c.args.first c.requires.0, element_short c.args.lower c.requires.1)), within_le 32768 (2 ^ 62) _ (omega arith) c.requires.1))
 
-pub put_bracketed-times-requires : goal.put_bracketed-times-requires
-unfolding bytes_of
-put_bracketed-times-requires c =
-    let first : List ℕ = bracketed (bytes_of "  digit at the top place = U's first digit + L's weight - base * U's weight\n    = (") c.args.first in
-    let lower : List ℕ = bracketed (bytes_of " + (") c.args.lower in
-    let base : List ℕ = bracketed (bytes_of " - (") c.args.base in
-    let first-room : length first ≤ 120 = omega (arith, bracketed_length (bytes_of "  digit at the top place = U's first digit + L's weight - base * U's weight\n    = (") c.args.first, element_short c.args.first c.requires.parts.0) in
-    let lower-room : length lower ≤ 36 = omega (arith, bracketed_length (bytes_of " + (") c.args.lower, element_short c.args.lower c.requires.parts.1) in
-    let base-room : length base ≤ 36 = omega (arith, bracketed_length (bytes_of " - (") c.args.base, element_short c.args.base c.requires.parts.2) in
-    let s = c in record { room = omega (arith, c.requires.room, first-room, lower-room, base-room, c.put_bracketed-plus.ensures.end, c.put_bracketed-minus.ensures.end); parts = within_le 32768 (2 ^ 62) _ (omega arith) c.requires.parts.2 }
+pub put_bracketed-requires-3 : goal.put_bracketed-requires-3
+put_bracketed-requires-3 c = (omega arith, (simp (c.put_bracketed-2.ensures, c.put_bracketed.ensures, c.new-text.ensures, bracketed_length, length-append) (omega (arith, element_short c.args.first c.requires.0, element_short c.args.lower c.requires.1, element_short c.args.base c.requires.2)), within_le 32768 (2 ^ 62) _ (omega arith) c.requires.2))
 
-pub put_bracketed-end-requires : goal.put_bracketed-end-requires
-unfolding bytes_of
-put_bracketed-end-requires c =
-    let first : List ℕ = bracketed (bytes_of "  digit at the top place = U's first digit + L's weight - base * U's weight\n    = (") c.args.first in
-    let lower : List ℕ = bracketed (bytes_of " + (") c.args.lower in
-    let base : List ℕ = bracketed (bytes_of " - (") c.args.base in
-    let upper : List ℕ = bracketed (bytes_of "*(") c.args.upper in
-    let first-room : length first ≤ 120 = omega (arith, bracketed_length (bytes_of "  digit at the top place = U's first digit + L's weight - base * U's weight\n    = (") c.args.first, element_short c.args.first c.requires.parts.0) in
-    let lower-room : length lower ≤ 36 = omega (arith, bracketed_length (bytes_of " + (") c.args.lower, element_short c.args.lower c.requires.parts.1) in
-    let base-room : length base ≤ 36 = omega (arith, bracketed_length (bytes_of " - (") c.args.base, element_short c.args.base c.requires.parts.2) in
-    let upper-room : length upper ≤ 36 = omega (arith, bracketed_length (bytes_of "*(") c.args.upper, element_short c.args.upper c.requires.parts.3) in
-    let s = c in record { room = omega (arith, c.requires.room, first-room, lower-room, base-room, upper-room, c.put_bracketed-plus.ensures.end, c.put_bracketed-minus.ensures.end, c.put_bracketed-times.ensures.end); parts = within_le 32768 (2 ^ 62) _ (omega arith) c.requires.parts.3 }
+pub put_bracketed-requires-4 : goal.put_bracketed-requires-4
+put_bracketed-requires-4 c = (omega arith, (simp (c.put_bracketed-3.ensures, c.put_bracketed-2.ensures, c.put_bracketed.ensures, c.new-text.ensures, bracketed_length, length-append) (omega (arith, element_short c.args.first c.requires.0, element_short c.args.lower c.requires.1, element_short c.args.base c.requires.2, element_short c.args.upper c.requires.3)), within_le 32768 (2 ^ 62) _ (omega arith) c.requires.3))
 
 pub put-requires : goal.put-requires
-unfolding bytes_of
-put-requires c =
-    let first : List ℕ = bracketed (bytes_of "  digit at the top place = U's first digit + L's weight - base * U's weight\n    = (") c.args.first in
-    let lower : List ℕ = bracketed (bytes_of " + (") c.args.lower in
-    let base : List ℕ = bracketed (bytes_of " - (") c.args.base in
-    let upper : List ℕ = bracketed (bytes_of "*(") c.args.upper in
-    let first-room : length first ≤ 120 = omega (arith, bracketed_length (bytes_of "  digit at the top place = U's first digit + L's weight - base * U's weight\n    = (") c.args.first, element_short c.args.first c.requires.parts.0) in
-    let lower-room : length lower ≤ 36 = omega (arith, bracketed_length (bytes_of " + (") c.args.lower, element_short c.args.lower c.requires.parts.1) in
-    let base-room : length base ≤ 36 = omega (arith, bracketed_length (bytes_of " - (") c.args.base, element_short c.args.base c.requires.parts.2) in
-    let upper-room : length upper ≤ 36 = omega (arith, bracketed_length (bytes_of "*(") c.args.upper, element_short c.args.upper c.requires.parts.3) in
-    let s = c in omega (arith, c.requires.room, first-room, lower-room, base-room, upper-room, c.put_bracketed-plus.ensures.end, c.put_bracketed-minus.ensures.end, c.put_bracketed-times.ensures.end, c.put_bracketed-end.ensures.end)
+put-requires c = (omega arith, simp (c.put_bracketed-4.ensures, c.put_bracketed-3.ensures, c.put_bracketed-2.ensures, c.put_bracketed.ensures, c.new-text.ensures, bracketed_length, length-append) (omega (arith, element_short c.args.first c.requires.0, element_short c.args.lower c.requires.1, element_short c.args.base c.requires.2, element_short c.args.upper c.requires.3)))
 
 pub returns : goal.returns
 unfolding bytes_of sum_line
 returns c =
-    let first : List ℕ = bracketed (bytes_of "  digit at the top place = U's first digit + L's weight - base * U's weight\n    = (") c.args.first in
-    let lower : List ℕ = bracketed (bytes_of " + (") c.args.lower in
-    let base : List ℕ = bracketed (bytes_of " - (") c.args.base in
-    let upper : List ℕ = bracketed (bytes_of "*(") c.args.upper in
-    let first-room : length first ≤ 120 = omega (arith, bracketed_length (bytes_of "  digit at the top place = U's first digit + L's weight - base * U's weight\n    = (") c.args.first, element_short c.args.first c.requires.parts.0) in
-    let lower-room : length lower ≤ 36 = omega (arith, bracketed_length (bytes_of " + (") c.args.lower, element_short c.args.lower c.requires.parts.1) in
-    let base-room : length base ≤ 36 = omega (arith, bracketed_length (bytes_of " - (") c.args.base, element_short c.args.base c.requires.parts.2) in
-    let upper-room : length upper ≤ 36 = omega (arith, bracketed_length (bytes_of "*(") c.args.upper, element_short c.args.upper c.requires.parts.3) in
-    let s = c in
-    let out = c.args.out.now in
-    let front = length-append (first) (lower ++ (base ++ (upper ++ bytes_of "\n"))) in
-    let second = length-append (lower) (base ++ (upper ++ bytes_of "\n")) in
-    let third = length-append (base) (upper ++ bytes_of "\n") in
-    let fourth = length-append (upper) (bytes_of "\n") in
-    let tail = next _ _ _ (base) _ _ _ _ (c.put_bracketed-times.ensures.end, c.put_bracketed-times.ensures.buffer) (next _ _ _ (upper) (bytes_of "\n") _ _ _ (c.put_bracketed-end.ensures.end, c.put_bracketed-end.ensures.buffer) (last _ _ _ _ _ (c.put.ensures.next, c.put.ensures.written))) in
-    let pieces = next out _ _ (first) _ 0 _ _ (c.put_bracketed-plus.ensures.end, c.put_bracketed-plus.ensures.buffer) (next _ _ _ (lower) _ _ _ _ (c.put_bracketed-minus.ensures.end, c.put_bracketed-minus.ensures.buffer) tail) in
-    let all = put_all pieces (omega (arith, c.requires.room, first-room, lower-room, base-room, upper-room, front, second, third, fourth)) in
-    let made = put_line out _ _ _ _ 480 all refl (omega (arith, first-room, lower-room, base-room, upper-room, front, second, third, fourth)) in
-    record { count = made.0; buffer = made.1.0; within = made.1.1 }
+    let back = next _ _ _ _ _ c.put_bracketed-3.ensures (next _ _ _ _ _ c.put_bracketed-4.ensures (last _ _ _ c.put.ensures)) in
+    let whole = line c.new-text.ensures (next _ _ _ _ _ c.put_bracketed.ensures (next _ _ _ _ _ c.put_bracketed-2.ensures back)) in
+    whole

@@ -3,5 +3,5 @@ use Rattle.std.proofs.Common.{arith}
 use Rattle.text_rules.proofs.Hex.{length_hex}
 use Rattle.vectors.proofs.output.buffer.Goals as goal
 
-pub put_hex-end-requires : goal.put_hex-end-requires
-put_hex-end-requires g c = omega (arith, length_hex c.args.bytes.now)
+pub put_hex-requires : goal.put_hex-requires
+put_hex-requires g c = (omega arith, simp (c.push.ensures, c.new-text.ensures) (omega (arith, c.requires, length_hex c.args.bytes.now)))
