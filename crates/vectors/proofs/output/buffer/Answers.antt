@@ -1,7 +1,0 @@
--- Two digits for each of at most 1,000 bytes, or the mark of none, have room behind a space.
-use Rattle.std.proofs.Common.{arith}
-use Rattle.text_rules.proofs.Hex.{length_hex}
-use Rattle.vectors.proofs.output.buffer.Goals as goal
-
-pub put_hex-end-requires : goal.put_hex-end-requires
-put_hex-end-requires g c = omega (arith, length_hex c.args.bytes.now)
