@@ -10,8 +10,8 @@ ghost use Rattle.digit_rules.specs.Digits.{operation_check};
 ghost use Rattle.reader_rules.specs.Table.{alphabet_part, input_part, input_count};
 ghost use Rattle.reader_rules.specs.TableFacts.{table_facts};
 ghost use Rattle.reader_rules.specs.Check.{table_check};
-ghost use Rattle.row_rules.specs.Changed.{changed};
 ghost use Rattle.row_rules.specs.Rows.{RowsFit};
+ghost use Rattle.rows.specs.ChangedBy.{changed_by};
 ghost use Rattle.place_rules.specs.Helpers.{part_row};
 ghost use Rattle.adder_rules.specs.Sum.{digit_count, place_count, row_reach};
 ghost use Rattle.adder_rules.specs.Input.{input_of};
@@ -29,7 +29,7 @@ use row_rules::Change;
 pub fn inputs_of(
     operation: Operation,
     table: &[u8],
-    change: Change,
+    change: Option<Change>,
     first: &[u8],
     second: &[u8],
     from: usize,
@@ -37,10 +37,10 @@ pub fn inputs_of(
 ) -> [u8; 256]
     requires table { (table_check table.now).number ≡ 0 }
     requires part { (from ≤ end) × (end ≤ 256)
-        × ((k : ℕ) → k < end → get_or (changed change 0 first.now) k 0 < digit_count table.now)
-        × ((k : ℕ) → k < end → get_or (changed change 1 second.now) k 0 < digit_count table.now) }
+        × ((k : ℕ) → k < end → get_or (changed_by change 0 first.now) k 0 < digit_count table.now)
+        × ((k : ℕ) → k < end → get_or (changed_by change 1 second.now) k 0 < digit_count table.now) }
     ensures { result ≡ part_row (input_of operation table.now
-        (changed change 0 first.now) (changed change 1 second.now)) from end }
+        (changed_by change 0 first.now) (changed_by change 1 second.now)) from end }
 {
     let degree = layout::degree_in(table);
     let alphabet = reader::section(table, 1);
@@ -91,15 +91,7 @@ fn write_digits(
         ≡ at_exit (digits_outcome operation table.now first.now second.now) out.old
         (overwrite out.old 0 (result_row operation table.now first.now second.now)) }
 {
-    let row = inputs_of(
-        operation,
-        table,
-        rows::no_change(),
-        first,
-        second,
-        0,
-        first.len(),
-    );
+    let row = inputs_of(operation, table, None, first, second, 0, first.len());
     let mut digits = [0u8; 264];
     let found = digits_of(table, &row, 0, places, &mut digits);
     if found.count < places {

@@ -6,7 +6,6 @@ use native.Mathlib.Decide.{dec_lt}
 use native.Mathlib.Nat.{zero-add}
 use native.Mathlib.Omega.{arith}
 use lib.ListN.{length, get_or, get_or-eq_default}
-use lib.Dec.{lit<}
 use Rattle.lists.proofs.Span.{length_span, get_d_span}
 use Rattle.ring.specs.declared.Operation.{Operation}
 use Rattle.digit_rules.specs.Digits.{operation_check}
@@ -18,11 +17,7 @@ use Rattle.reader_rules.specs.Table.{alphabet_part, input_part, input_count}
 use Rattle.reader_rules.specs.TableFacts.{table_facts}
 use Rattle.reader_rules.specs.Check.{table_check}
 use Rattle.reader_rules.proofs.Ready.{ready_passed}
-use Rattle.row_rules.specs.declared.Change.{Change}
-use Rattle.row_rules.specs.Changed.{changed, no_change}
-use Rattle.row_rules.specs.Fit.{Indexes}
 use Rattle.row_rules.specs.Rows.{RowsFit}
-use Rattle.row_rules.proofs.Changed.{unchanged}
 use Rattle.table_rules.specs.Pairs.{in_alphabet}
 use Rattle.place_rules.specs.Place.{alphabet_index, index_at}
 use Rattle.place_rules.specs.Helpers.{part_row}
@@ -50,11 +45,6 @@ pub same_reach : (file r s : List ℕ) (p count : ℕ) → ((k : ℕ) → p ≤ 
 unfolding table_facts
 same_reach file r s p count same = reach_ext _ r s p count same
 
--- a row read with no change made
-pub read_unchanged : (digits number : ℕ) (change : Change) (row : List ℕ) → change ≡ no_change → number < 2 → Indexes digits row → (k : ℕ) → k < length row → get_or (changed change number row) k 0 < digits
-read_unchanged digits number change row e l all k h =
-    subst (λ (r : List ℕ). get_or r k 0 < digits) (sym (ap (λ (c : Change). changed c number row) e ∙ unchanged number row l)) (all k h)
-
 module _ (op : Operation) (file first second : List ℕ) (room : ℕ) (passes : (table_check file).number ≡ 0) (asked : (operation_check op (alphabet_part file) (input_part file)).number ≡ 0)
     (fit : RowsFit first second room (digit_count file) (table_facts file).depth) where
   pub inputs_below : (k : ℕ) → k < length first → input_of op file first second k < input_count file
@@ -75,12 +65,10 @@ module _ (op : Operation) (file first second : List ℕ) (room : ℕ) (passes : 
           | no h ↦ part_behind (input_of op file first second) from end low (omega (arith, fit.short)) k (omega arith) ∙ sym (get_or-eq_default (input_row op file first second) 0 {n = k} (omega (arith, length_span (input_of op file first second) 0 (length first))))
         ]
 
-  pub row_held : (change : Change) (row : List ℕ) → change ≡ no_change → row ≡ part_row (input_of op file (changed change 0 first) (changed change 1 second)) 0 (length first)
+  pub row_held : (row : List ℕ) → row ≡ part_row (input_of op file first second) 0 (length first)
       → Inputs (input_count file) row × ((k : ℕ) → get_or row k 0 ≡ get_or (input_row op file first second) k 0)
-  row_held change row e is =
-      let as_lent : (number : ℕ) (r : List ℕ) → number < 2 → changed change number r ≡ r = λ number r l. ap (λ (c : Change). changed c number r) e ∙ unchanged number r l in
-      let held : row ≡ part_row (input_of op file first second) 0 (length first) = is ∙ (λ i. part_row (input_of op file (as_lent 0 first (lit< tt) i) (as_lent 1 second (lit< tt) i)) 0 (length first)) in
-      (subst (Inputs (input_count file)) (sym held) (part_inputs 0 (length first) (omega arith) (omega arith)), λ k. ap (λ (r : List ℕ). get_or r k 0) held ∙ part_same 0 (length first) (omega arith) (omega arith) k (omega arith) (λ h. h))
+  row_held row is =
+      (subst (Inputs (input_count file)) (sym is) (part_inputs 0 (length first) (omega arith) (omega arith)), λ k. ap (λ (r : List ℕ). get_or r k 0) is ∙ part_same 0 (length first) (omega arith) (omega arith) k (omega arith) (λ h. h))
 
 -- the digits fit into 264 bytes
 pub few_places : (file first second : List ℕ) (room : ℕ) → (table_check file).number ≡ 0 → RowsFit first second room (digit_count file) (table_facts file).depth → place_count file first ≤ 264

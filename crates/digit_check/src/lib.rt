@@ -14,7 +14,19 @@ ghost use Rattle.ring.specs.Determinant.{determinant};
 ghost use Rattle.ring.specs.declared.Operation.TheVariants.{Minus};
 ghost use Rattle.digit_rules.specs.Record.{element_count};
 ghost use Rattle.digit_rules.specs.Base.{omega_of, beta_of};
-ghost use Rattle.digit_rules.specs.Digits.{BasePart, square_free, discriminant_allowed, base_good, base_allowed, base_check, alphabet_check, pairs_listed, input_check, digit_check, operation_check};
+ghost use Rattle.digit_rules.specs.Digits.{
+  BasePart,
+  square_free,
+  discriminant_allowed,
+  base_good,
+  base_allowed,
+  base_check,
+  alphabet_check,
+  pairs_listed,
+  input_check,
+  digit_check,
+  operation_check,
+};
 
 use faults::Refusal;
 use ring::{Degree, Operation};

@@ -108,7 +108,8 @@ fn mark_pairs(
     end: usize,
     marks: &mut [u8; MOST],
 ) -> bool
-    requires sizes { (i < element_count (of_degree degree alphabet.now)) × (end ≤ element_count (of_degree degree alphabet.now)) × (element_count (of_degree degree inputs.now) ≤ 136) }
+    requires sizes { (i < element_count (of_degree degree alphabet.now)) × (end ≤ element_count (of_degree degree alphabet.now))
+        × (element_count (of_degree degree inputs.now) ≤ 136) }
     requires marked { Marked (of_degree degree inputs.now) (located (of_degree degree inputs.now) heads.now links.now) marks.old }
     ensures listed { result ≡ true → every (pair_listed operation (of_degree degree alphabet.now) (of_degree degree inputs.now) i) 0 end ≡ true }
     ensures marked { Marked (of_degree degree inputs.now) (located (of_degree degree inputs.now) heads.now links.now)

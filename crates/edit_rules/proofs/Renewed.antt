@@ -139,24 +139,25 @@ module _ (file : List ℕ) (e : Change) (s : State) (passes : (table_check file)
           ap (λ (r : List ℕ). get_or r k 0) is
           ∙ part_same Plus file (changed e 0 s.first) (changed e 1 s.second) (length s.sum) passes (nothing_asked _ _) new_fit from end (omega arith) inside k (omega arith) (λ h. far k (omega arith) (omega (arith, length_changed e 0 s.first)))
 
-      -- the digits that were found
-      module _ (found : ℕ) (first_outside : found ≡ first_failing (λ k. row_allowed file row (e.place + k)) 0 (d + 1)) where
-        at : found ≡ first_failing (λ k. row_allowed file row (e.place + k)) 0 (renewed_count file)
-        at = first_outside ∙ ap (λ (n : ℕ). first_failing (λ k. row_allowed file row (e.place + k)) 0 (n + 1)) deep
+-- the digits that were found, from a row of input indexes that is the new one where they depend on it
+module _ (file : List ℕ) (e : Change) (s : State) (row : List ℕ) (same : (k : ℕ) → e.place ≤ k + (table_facts file).depth → k < e.place + renewed_count file → get_or row k 0 ≡ get_or (new_inputs file e s) k 0)
+    (d : ℕ) (deep : d ≡ (table_facts file).depth) (found : ℕ) (first_outside : found ≡ first_failing (λ k. row_allowed file row (e.place + k)) 0 (d + 1)) where
+  at : found ≡ first_failing (λ k. row_allowed file row (e.place + k)) 0 (renewed_count file)
+  at = first_outside ∙ ap (λ (n : ℕ). first_failing (λ k. row_allowed file row (e.place + k)) 0 (n + 1)) deep
 
-        pub outside_found : found ≤ d → refused author 27 (e.place + found) ≡ renew_outcome file e s
-        outside_found h =
-            renew_refused file e s (e.place + found) (check_refused file row (new_inputs file e s) e.place (renewed_count file) row_same found at (omega arith))
+  pub outside_found : found ≤ d → refused author 27 (e.place + found) ≡ renew_outcome file e s
+  outside_found h =
+      renew_refused file e s (e.place + found) (check_refused file row (new_inputs file e s) e.place (renewed_count file) same found at (omega arith))
 
-        pub none_outside : d < found → output_check file (new_inputs file e s) e.place (renewed_count file) ≡ none
-        none_outside h = check_kept file row (new_inputs file e s) e.place (renewed_count file) row_same found at (omega arith)
+  pub none_outside : d < found → output_check file (new_inputs file e s) e.place (renewed_count file) ≡ none
+  none_outside h = check_kept file row (new_inputs file e s) e.place (renewed_count file) same found at (omega arith)
 
-        pub reached : d < found → row_reach file row e.place found ≡ row_reach file (new_inputs file e s) e.place (renewed_count file)
-        reached h = reach_found file row (new_inputs file e s) e.place (renewed_count file) row_same found at (omega arith)
+  pub reached : d < found → row_reach file row e.place found ≡ row_reach file (new_inputs file e s) e.place (renewed_count file)
+  reached h = reach_found file row (new_inputs file e s) e.place (renewed_count file) same found at (omega arith)
 
-        pub digits_found : (t : List ℕ) → d < found → take (d + 1) (overwrite t 0 (row_part file row e.place found)) ≡ row_part file (new_inputs file e s) e.place (renewed_count file)
-        digits_found t h =
-            ap (λ (n : ℕ). take (n + 1) (overwrite t 0 (row_part file row e.place found))) deep ∙ part_found file row (new_inputs file e s) e.place (renewed_count file) row_same found at t (omega arith)
+  pub digits_found : (t : List ℕ) → d < found → take (d + 1) (overwrite t 0 (row_part file row e.place found)) ≡ row_part file (new_inputs file e s) e.place (renewed_count file)
+  digits_found t h =
+      ap (λ (n : ℕ). take (n + 1) (overwrite t 0 (row_part file row e.place found))) deep ∙ part_found file row (new_inputs file e s) e.place (renewed_count file) same found at t (omega arith)
 
-        pub digits_room : (t : List ℕ) → d < length t → length (overwrite t 0 (row_part file row e.place found)) ≡ length t
-        digits_room t h = part_room file row (new_inputs file e s) e.place (renewed_count file) row_same found at t (omega arith)
+  pub digits_room : (t : List ℕ) → d < length t → length (overwrite t 0 (row_part file row e.place found)) ≡ length t
+  digits_room t h = part_room file row (new_inputs file e s) e.place (renewed_count file) same found at t (omega arith)

@@ -15,9 +15,9 @@ pub fn summed(
 ) -> io::Result<()>
     requires { length sum.old ≤ 260 }
 {
-    print!(rt; "{label}")?;
-    output::added(rt, "sum", adder::add(table, first, second, sum))?;
-    output::buffer(rt, sum)?;
+    print!(rt; "{label} ")?;
+    printed::added(rt, "sum", adder::add(table, first, second, sum))?;
+    printed::buffer(rt, sum)?;
     println!(rt; "")
 }
 

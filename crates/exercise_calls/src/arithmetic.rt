@@ -29,13 +29,13 @@ fn product(omega: [i64; 4], beta: [i64; 4], x: [i64; 4]) -> Element
 // M1 and M2
 pub fn products(rt: &impl Print) -> io::Result<()> {
     let degree = Degree::Two;
-    output::element(
+    printed::element(
         rt,
         "M1",
         degree,
         product([-1, 0, 0, 0], [-1, 1, 0, 0], [1, 1, 0, 0]),
     )?;
-    output::element(
+    printed::element(
         rt,
         "M2",
         degree,
@@ -60,7 +60,7 @@ fn between(rt: &impl Print, a: i32, b: i32, c: i32, d: i32) -> io::Result<()> {
         d: 0,
     };
     let degree = Degree::Two;
-    output::element(rt, "midpoint", degree, midpoint::midpoint(x, y))
+    printed::element(rt, "midpoint", degree, midpoint::midpoint(x, y))
 }
 
 // Job 8: all four parts, the halves of 3, −3, 7 and −7.
@@ -78,7 +78,7 @@ pub fn midpoint_of_four(rt: &impl Print) -> io::Result<()> {
         d: -4,
     };
     let degree = Degree::Four;
-    output::element(rt, "midpoint", degree, midpoint::midpoint(x, y))
+    printed::element(rt, "midpoint", degree, midpoint::midpoint(x, y))
 }
 
 // Job 6: the halves of 3, 1 and 5, and of −3, −1 and −5, to the even neighbour; the least and the greatest parts.

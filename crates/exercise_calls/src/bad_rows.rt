@@ -8,7 +8,7 @@ fn by_table(rt: &impl Print, label: &str, table: &[u8]) -> io::Result<()> {
     let mut string = [9u8; 9];
     let answer = bad_row::bad_row(table, &mut string);
     output::shown(rt, label, degree, answer)?;
-    output::buffer(rt, &string)?;
+    printed::buffer(rt, &string)?;
     println!(rt; "")
 }
 

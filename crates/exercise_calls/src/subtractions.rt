@@ -1,7 +1,7 @@
 // Subtractions. Every buffer holds nines before the call.
 ghost use Rattle.std.specs.Prelude.{◌≤◌, length};
 
-use crate::{additions, output, tables};
+use crate::{additions, tables};
 use std::io;
 
 // `LABEL difference K reach R DIFFERENCE`, or the fault and the whole buffer as the call left it.
@@ -15,13 +15,13 @@ fn subtracted(
 ) -> io::Result<()>
     requires { length difference.old ≤ 260 }
 {
-    print!(rt; "{label}")?;
-    output::added(
+    print!(rt; "{label} ")?;
+    printed::added(
         rt,
         "difference",
         adder::subtract(table, first, second, difference),
     )?;
-    output::buffer(rt, difference)?;
+    printed::buffer(rt, difference)?;
     println!(rt; "")
 }
 

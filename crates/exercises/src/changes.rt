@@ -1,7 +1,7 @@
 // Edits. An edit is a row number, a place and an alphabet index.
 ghost use Rattle.std.specs.Prelude.{◌≤◌, length};
 
-use exercise_calls::{additions, degrees, output, tables};
+use exercise_calls::{additions, degrees, tables};
 use std::io;
 
 // 24, 25 and 26 each alone, then where a later rule is broken too; the largest numbers; digits whose lowest byte is an index.
@@ -55,15 +55,15 @@ fn changed(
 ) -> io::Result<()>
     requires { (length first.old ≤ 260) × (length second.old ≤ 260) × (length sum.old ≤ 260) }
 {
-    print!(rt; "{label}")?;
+    print!(rt; "{label} ")?;
     let [row, place, digit] = edit;
-    output::edited(
+    printed::edited(
         rt,
         edit_call::edit(table, first, second, sum, row, place, digit),
     )?;
-    output::buffer(rt, first)?;
-    output::buffer(rt, second)?;
-    output::buffer(rt, sum)
+    printed::buffer(rt, first)?;
+    printed::buffer(rt, second)?;
+    printed::buffer(rt, sum)
 }
 
 // M7, and M8 after it

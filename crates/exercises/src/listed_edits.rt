@@ -1,7 +1,7 @@
 // Lists of edits through the runner: check, addition and each edit in turn.
 ghost use Rattle.std.specs.Prelude.{◌≤◌, length};
 
-use exercise_calls::{output, tables};
+use exercise_calls::tables;
 use faults::Fault;
 use runner_rules::RanFacts;
 use std::io;
@@ -13,11 +13,11 @@ const PLACES: [usize; 5] = [0, 0, 2, 1, 1];
 
 const DIGITS: [usize; 5] = [4, 0, 1, 5, 0];
 
-// ` ran K`, or the fault.
+// `ran K`, or the fault.
 fn ran(rt: &impl Print, answer: Result<RanFacts, Fault>) -> io::Result<()> {
     match answer {
-        Ok(facts) => print!(rt; " ran {}", facts.edits),
-        Err(fault) => output::refused(rt, fault),
+        Ok(facts) => print!(rt; "ran {}", facts.edits),
+        Err(fault) => printed::refused(rt, fault),
     }
 }
 
@@ -48,7 +48,7 @@ fn listed(
     let mut whose = [7usize; 6];
     let mut numbers = [7usize; 6];
     let mut values = [7usize; 6];
-    print!(rt; "{label}")?;
+    print!(rt; "{label} ")?;
     ran(
         rt,
         runner::run(
@@ -64,9 +64,9 @@ fn listed(
             &mut values,
         ),
     )?;
-    output::buffer(rt, first)?;
-    output::buffer(rt, second)?;
-    output::buffer(rt, sum)?;
+    printed::buffer(rt, first)?;
+    printed::buffer(rt, second)?;
+    printed::buffer(rt, sum)?;
     told(rt, &whose, &numbers, &values)?;
     println!(rt; "")
 }

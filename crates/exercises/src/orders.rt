@@ -2,7 +2,6 @@
 ghost use Rattle.std.specs.Prelude.{◌≤◌, length};
 
 use edit_orders::Turns;
-use exercise_calls::output;
 use row_rules::Change;
 use std::io;
 
@@ -29,11 +28,13 @@ fn change([row, place, digit]: [u8; 3]) -> Change {
 fn order(rt: &impl Print, turns: Turns, first: &[u8], second: &[u8], sum: &[u8]) -> io::Result<()>
     requires { (length first.now ≤ 260) × (length second.now ≤ 260) × (length sum.now ≤ 260) }
 {
-    output::edited(rt, turns.first)?;
-    output::edited(rt, turns.second)?;
-    output::buffer(rt, first)?;
-    output::buffer(rt, second)?;
-    output::buffer(rt, sum)
+    print!(rt; " ")?;
+    printed::edited(rt, turns.first)?;
+    print!(rt; " ")?;
+    printed::edited(rt, turns.second)?;
+    printed::buffer(rt, first)?;
+    printed::buffer(rt, second)?;
+    printed::buffer(rt, sum)
 }
 
 // `LABEL`, e and then f, and behind a bar f and then e.

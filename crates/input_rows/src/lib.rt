@@ -6,7 +6,7 @@ ghost use Rattle.ring.specs.declared.Degree.TheVariants.{Two};
 ghost use Rattle.layout_rules.specs.Section.{of_degree};
 ghost use Rattle.digit_rules.specs.Record.{element_count};
 ghost use Rattle.digit_rules.specs.Digits.{pair_index};
-ghost use Rattle.row_rules.specs.Changed.{changed};
+ghost use Rattle.rows.specs.ChangedBy.{changed_by};
 ghost use Rattle.place_rules.specs.Place.{input_at};
 ghost use Rattle.place_rules.specs.Helpers.{part_row};
 ghost use Rattle.input_rows.specs.Known.{Known, KnownRun};
@@ -15,9 +15,9 @@ use ring::{Degree, Operation};
 use row_rules::Change;
 
 // The two rows' digits at a place, the rows read with the change made, as one number: 16 times the first plus the second.
-fn pair_at(change: Change, first: &[u8], second: &[u8], place: usize) -> usize
-    requires { (get_or (changed change 0 first.now) place 0 < 16) × (get_or (changed change 1 second.now) place 0 < 16) }
-    ensures { result ≡ 16 * get_or (changed change 0 first.now) place 0 + get_or (changed change 1 second.now) place 0 }
+fn pair_at(change: Option<Change>, first: &[u8], second: &[u8], place: usize) -> usize
+    requires { (get_or (changed_by change 0 first.now) place 0 < 16) × (get_or (changed_by change 1 second.now) place 0 < 16) }
+    ensures { result ≡ 16 * get_or (changed_by change 0 first.now) place 0 + get_or (changed_by change 1 second.now) place 0 }
 {
     16 * rows::byte_at(change, 0, first, place) as usize
         + rows::byte_at(change, 1, second, place) as usize
@@ -101,7 +101,7 @@ fn learn_by(
 
 // The input indexes from a place on, as far as their pairs are known; the first place whose pair isn't.
 fn known_run(
-    change: Change,
+    change: Option<Change>,
     first: &[u8],
     second: &[u8],
     place: usize,
@@ -110,10 +110,10 @@ fn known_run(
     row: &mut [u8; 256],
 ) -> usize
     requires { (place ≤ end) × (end ≤ 256)
-        × ((k : ℕ) → k < end → get_or (changed change 0 first.now) k 0 < 16)
-        × ((k : ℕ) → k < end → get_or (changed change 1 second.now) k 0 < 16) }
+        × ((k : ℕ) → k < end → get_or (changed_by change 0 first.now) k 0 < 16)
+        × ((k : ℕ) → k < end → get_or (changed_by change 1 second.now) k 0 < 16) }
     ensures place { (place ≤ result) × (result ≤ end) }
-    ensures row { KnownRun known.now (changed change 0 first.now) (changed change 1 second.now)
+    ensures row { KnownRun known.now (changed_by change 0 first.now) (changed_by change 1 second.now)
         place row.old result row.new }
 {
     for at in place..end {
@@ -133,18 +133,18 @@ pub fn input_row(
     operation: Operation,
     alphabet: &[u8],
     inputs: &[u8],
-    change: Change,
+    change: Option<Change>,
     first: &[u8],
     second: &[u8],
     from: usize,
     end: usize,
 ) -> [u8; 256]
     requires { (from ≤ end) × (end ≤ 256) × (element_count (of_degree degree inputs.now) < 256)
-        × ((k : ℕ) → k < end → get_or (changed change 0 first.now) k 0 < element_count (of_degree degree alphabet.now))
-        × ((k : ℕ) → k < end → get_or (changed change 1 second.now) k 0 < element_count (of_degree degree alphabet.now))
+        × ((k : ℕ) → k < end → get_or (changed_by change 0 first.now) k 0 < element_count (of_degree degree alphabet.now))
+        × ((k : ℕ) → k < end → get_or (changed_by change 1 second.now) k 0 < element_count (of_degree degree alphabet.now))
         × (element_count (of_degree degree alphabet.now) ≤ 16) }
-    ensures { result ≡ part_row (input_at operation (of_degree degree alphabet.now) (of_degree degree inputs.now) (changed change 0 first.now)
-        (changed change 1 second.now)) from end }
+    ensures { result ≡ part_row (input_at operation (of_degree degree alphabet.now) (of_degree degree inputs.now) (changed_by change 0 first.now)
+        (changed_by change 1 second.now)) from end }
 {
     let mut row = [0u8; 256];
     // 255 is no input index: `Option`s would take twice the room, which the header's bound on the stack hasn't

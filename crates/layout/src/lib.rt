@@ -6,7 +6,18 @@ ghost use Rattle.std.specs.Prelude.{◌≡◌, ◌+◌, ◌≤◌, ◌<◌, leng
 ghost use Rattle.ring.specs.declared.Degree.TheVariants.{Two, Three, Four};
 ghost use Rattle.ring.specs.Degree.{part_count};
 ghost use Rattle.layout_rules.specs.Number.{unsigned_at, signed_at};
-ghost use Rattle.layout_rules.specs.Section.{degree_of, element_size, record_size, of_degree, record_count, section_start, section_length, section_end, degree_in, section_lengths};
+ghost use Rattle.layout_rules.specs.Section.{
+  degree_of,
+  element_size,
+  record_size,
+  of_degree,
+  record_count,
+  section_start,
+  section_length,
+  section_end,
+  degree_in,
+  section_lengths,
+};
 
 use ring::Degree;
 

@@ -36,11 +36,10 @@ fn line_of(answer: Result<Facts, Fault>) -> Text<128>
 {
     match answer {
         Ok(f) => accepted_line(f),
-        // an arm for each group: behind an or-pattern the proof knows nothing of the number and the place that it binds
         Err(fault) => match fault {
-            Fault::Author { number, place } => refused_line(number, place),
-            Fault::Rows { number, place } => refused_line(number, place),
-            Fault::Editor { number, place } => refused_line(number, place),
+            Fault::Author { number, place }
+            | Fault::Rows { number, place }
+            | Fault::Editor { number, place } => refused_line(number, place),
         },
     }
 }

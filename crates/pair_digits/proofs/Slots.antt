@@ -2,13 +2,11 @@
 use mathlib.Core.Path.{◌≡◌, sym, ap, ◌∙◌}
 use mathlib.Core.Bool.{false}
 use mathlib.Core.List.{List}
-use Prim.Native.Nat.{ℕ, ◌+◌, ◌<◌, ◌≤◌}
-use native.Mathlib.Decide.{dec_lt, ℕ_discrete}
-use native.Mathlib.Nat.{le_antisymm}
+use Prim.Native.Nat.{ℕ, ◌<◌, ◌≤◌}
+use native.Mathlib.Decide.{dec_lt}
 use native.Mathlib.Omega.{arith}
 use lib.IntN.{ℤ}
-use lib.ListN.{length, get_or, set, get_or-eq_default}
-use lib.Seq.{get_or-set_same, get_or-set_other}
+use lib.ListN.{get_or}
 use borrow.Author.Tests.{lt-ltb, le-ltb, ltb-true}
 use Rattle.layout_rules.specs.Section.{Section}
 use Rattle.lists.proofs.Test.{same_outcome}
@@ -19,25 +17,7 @@ use Rattle.digit_rules.specs.Digits.{index_in}
 use Rattle.digit_rules.proofs.Index.{index_is, index_first}
 use Rattle.table_rules.specs.Pairs.{in_alphabet}
 use Rattle.slots.specs.Slot.{slot_of}
-use Rattle.pair_digits.specs.Slots.{SlottedBefore, Slotted}
-
--- one more digit, in a slot that was empty
-pub slot_next : (alphabet : Section) (slots : List ℕ) (n slot : ℕ) → slot ≡ slot_of (record_at alphabet n) → 255 ≤ get_or slots slot 0 → n ≤ 255 → SlottedBefore alphabet slots n → SlottedBefore alphabet (set slots slot n) (n + 1)
-slot_next alphabet slots n slot is empty small before k h =
-    elim (dec_lt k n) [
-      | yes l ↦ elim (ℕ_discrete (slot_of (record_at alphabet k)) slot) [
-        | yes e ↦ absurd (omega (arith, before k l, ap (λ (i : ℕ). get_or slots i 0) e))
-        | no e ↦ get_or-set_other slots slot (slot_of (record_at alphabet k)) n 0 e ∙ before k l
-      ]
-      | no l ↦ let last : k ≡ n = le_antisymm (omega arith) (omega arith) in ap (λ (j : ℕ). get_or (set slots slot n) (slot_of (record_at alphabet j)) 0) last ∙ ap (λ (i : ℕ). get_or (set slots slot n) i 0) (sym is) ∙ get_or-set_same slots slot n 0 inside ∙ sym last
-    ]
-  where
-    inside : slot < length slots
-    inside =
-        elim (dec_lt slot (length slots)) [
-          | yes l ↦ l
-          | no l ↦ absurd (omega (arith, get_or-eq_default slots 0 {n = slot} (omega arith)))
-        ]
+use Rattle.pair_digits.specs.Slots.{Slotted}
 
 module _ (alphabet : Section) (slots : List ℕ) (known : Slotted alphabet slots) (x : List ℤ) (k : ℕ) (at : k ≡ get_or slots (slot_of x) 0) where
   abbrev index : ℕ

@@ -27,7 +27,8 @@ pub fn upper_part(
     words: &[u8],
     upper: usize,
 ) -> [i64; 4]
-    requires { RowsWithin (2 ^ 21) base.now × (get_or (word_given (of_degree degree leaves.now) words.now upper) 0 0 < element_count (of_degree degree inputs.now)) }
+    requires { RowsWithin (2 ^ 21) base.now
+        × (get_or (word_given (of_degree degree leaves.now) words.now upper) 0 0 < element_count (of_degree degree inputs.now)) }
     ensures part { result ≡ upper_part base.now (of_degree degree inputs.now) (of_degree degree leaves.now) words.now upper }
     ensures within { Within (2 ^ 55 + 32768) result }
 {
@@ -61,7 +62,8 @@ pub fn upper_part_by(
     words: &[u8],
     upper: usize,
 ) -> [i64; 4]
-    requires { RowsWithin (2 ^ 21) base.now × (get_or (word_given (of_degree degree leaves.now) words.now upper) 0 0 < element_count (of_degree degree inputs.now)) }
+    requires { RowsWithin (2 ^ 21) base.now
+        × (get_or (word_given (of_degree degree leaves.now) words.now upper) 0 0 < element_count (of_degree degree inputs.now)) }
     ensures part { result ≡ upper_part base.now (of_degree degree inputs.now) (of_degree degree leaves.now) words.now upper }
     ensures within { Within (2 ^ 55 + 32768) result }
 {

@@ -117,7 +117,8 @@ fn fitting(
 ) -> FitRun
     requires room { (leaf_count (of_degree degree leaves.now) ≤ length keys.now) × (leaf_count (of_degree degree leaves.now) ≤ length numbers.now)
         × (leaf_count (of_degree degree leaves.now) ≤ length sets.now) }
-    requires upper { (upper < leaf_count (of_degree degree leaves.now)) × (1 ≤ word_length (of_degree degree leaves.now) upper) × (word_length (of_degree degree leaves.now) upper ≤ 8)
+    requires upper { (upper < leaf_count (of_degree degree leaves.now)) × (1 ≤ word_length (of_degree degree leaves.now) upper)
+        × (word_length (of_degree degree leaves.now) upper ≤ 8)
         × (guess ≤ leaf_count (of_degree degree leaves.now)) }
     requires weights { ((k : ℕ) → k < leaf_count (of_degree degree leaves.now) → get_or numbers.now k 0 < 64)
         × Covers numbers.now sets.now (leaf_count (of_degree degree leaves.now)) 8

@@ -79,7 +79,15 @@ pub fn edit_rows(
     let place = change.place;
     let from = place.saturating_sub(depth);
     let end = part_end(place, depth, first.len());
-    let row = adder::inputs_of(Operation::Plus, table, change, first, second, from, end);
+    let row = adder::inputs_of(
+        Operation::Plus,
+        table,
+        Some(change),
+        first,
+        second,
+        from,
+        end,
+    );
     let mut digits = [0u8; 9];
     let found = adder::digits_of(table, &row, place, depth + 1, &mut digits);
     if found.count <= depth {

@@ -1,8 +1,7 @@
 -- For helpers' contracts only: what an answer of the row's value states.
-use Rattle.std.specs.Prelude.{List, ℤ}
+use Rattle.std.specs.Prelude.{List, ℤ, Result, Ok, Err}
 use Rattle.midpoint.specs.Midpoint.{parts}
 use Rattle.faults.specs.Outcome.{Outcome, facts, refused, rows}
-use Rattle.std.specs.Prelude.{Result, Ok, Err}
 use Rattle.midpoint.specs.declared.Element.{Element}
 use Rattle.row_value.specs.declared.Over.{Over}
 

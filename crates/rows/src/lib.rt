@@ -4,7 +4,7 @@
 ghost use Rattle.std.specs.Prelude.{◌≡◌, ◌<◌, position, leb, get_or};
 ghost use Rattle.faults.specs.Passed.{passed};
 ghost use Rattle.row_rules.specs.Check.{judge_one, lengths_allowed, index_check, room_allowed, row_check, digits_check, one_row_check, edit_check};
-ghost use Rattle.row_rules.specs.Changed.{changed, no_change};
+ghost use Rattle.rows.specs.ChangedBy.{changed_by};
 
 use faults::Refusal;
 use row_rules::Change;
@@ -101,26 +101,21 @@ pub fn edit_check(
     judge_one(26, digit < digits)
 }
 
-// The change that leaves both rows as they are.
-pub fn no_change() -> Change
-    ensures { result ≡ no_change }
-{
-    Change {
-        row: 2,
-        place: 0,
-        digit: 0,
-    }
-}
-
 // The byte of a row, read with the change made; 0 outside the row. A change of another row changes nothing.
-pub fn byte_at(change: Change, number: usize, row: &[u8], place: usize) -> u8
-    ensures { result ≡ get_or (changed change number row.now) place 0 }
+pub fn byte_at(change: Option<Change>, number: usize, row: &[u8], place: usize) -> u8
+    ensures { result ≡ get_or (changed_by change number row.now) place 0 }
 {
     if row.len() <= place {
-        0
-    } else if change.row == number && change.place == place {
-        change.digit
-    } else {
-        row[place]
+        return 0;
+    }
+    match change {
+        Some(change) => {
+            if change.row == number && change.place == place {
+                change.digit
+            } else {
+                row[place]
+            }
+        }
+        None => row[place],
     }
 }

@@ -142,5 +142,5 @@ pub fn midpoint(rt: &(impl Input + Print)) -> io::Result<()> {
     };
     let x = input::element(rt, degree)?;
     let y = input::element(rt, degree)?;
-    output::element(rt, "midpoint", degree, midpoint::midpoint(x, y))
+    printed::element(rt, "midpoint", degree, midpoint::midpoint(x, y))
 }

@@ -5,35 +5,19 @@ use mathlib.Core.Logic.{⊎_elim}
 use mathlib.Core.List.{List}
 use Prim.Native.Nat.{ℕ, ◌+◌, ◌-◌, ◌^◌, ◌<◌, ◌≤◌}
 use native.Mathlib.Omega.{arith}
-use native.Mathlib.Decide.{dec_lt, ℕ_discrete}
+use native.Mathlib.Decide.{dec_lt}
 use lib.IntN.{ℤ}
 use lib.ListN.{length, get_or, set, length-set, get_or-eq_default, replicate, length-replicate, get_or-replicate}
 use lib.Seq.{get_or-set_same, get_or-set_other}
 use lib.Bits.{bit_or}
 use Rattle.lists.proofs.Entries.{entry_next}
 use Rattle.layout_rules.specs.Section.{Section}
-use Rattle.ring.specs.Element.{plus, minus}
-use Rattle.ring.specs.Degree.{part_count}
-use Rattle.ring.specs.Padded.{padded_times}
-use Rattle.digit_rules.specs.Record.{record_at}
+use Rattle.ring.specs.Element.{plus}
 use Rattle.leaf_rules.specs.Given.{weight_given}
 use Rattle.table_rules.specs.Pairs.{in_alphabet}
 use Rattle.weight_sets.specs.Bits.{Has}
-use Rattle.weight_sets.specs.Weights.{WeightsNumbered, Covers, Good, Judged}
-use Rattle.weight_sets.proofs.Bits.{has_left, has_right, has_either, has_none, single_has}
-
--- ---- weight numbers
-
-module _ (leaves : Section) (numbers first : List ℕ) (count leaf : ℕ) (before : WeightsNumbered leaves numbers first count leaf) (inside : leaf < length numbers) where
-  pub numbered_old : (number : ℕ) → number < count → weight_given leaves (get_or first number 0) ≡ weight_given leaves leaf → WeightsNumbered leaves (set numbers leaf number) first count (leaf + 1)
-  numbered_old number h e =
-      entry_next (λ k n. (n < count) × (weight_given leaves (get_or first n 0) ≡ weight_given leaves k)) numbers leaf number inside before (h, e)
-
-  pub numbered_new : count < length first → WeightsNumbered leaves (set numbers leaf count) (set first count leaf) (count + 1) (leaf + 1)
-  numbered_new room =
-      entry_next (λ k n. (n < count + 1) × (weight_given leaves (get_or (set first count leaf) n 0) ≡ weight_given leaves k)) numbers leaf count inside
-      (λ k h. let (l, e) = before k h in (omega arith, ap (weight_given leaves) (get_or-set_other first count (get_or numbers k 0) leaf 0 (λ same. omega arith)) ∙ e))
-      (omega arith, ap (weight_given leaves) (get_or-set_same first count leaf 0 room))
+use Rattle.weight_sets.specs.Weights.{Covers, Good}
+use Rattle.weight_sets.proofs.Bits.{has_left, has_right, has_either, single_has}
 
 -- ---- sets of neighbours
 
@@ -85,19 +69,6 @@ entry_there P xs n v none some =
       | yes l ↦ subst P (sym (get_or-set_same xs n v 0 l)) some
       | no l ↦ subst P (sym (get_or-eq_default (set xs n v) 0 (omega (arith, length-set xs n v)))) none
     ]
-
-module _ (matrix : List (List ℤ)) (alphabet inputs leaves : Section) (first : List ℕ) where
-  abbrev pub part_of : ℕ → ℕ → List ℤ
-  part_of d i = minus (record_at inputs d) (padded_times (part_count leaves.degree) matrix (weight_given leaves (get_or first i 0)))
-
-  pub judged_next : (made good : List ℕ) (number d g : ℕ) → Good alphabet leaves first (part_of d number) g → Judged matrix alphabet inputs leaves first made good → Judged matrix alphabet inputs leaves first (set made number (d + 1)) (set good number g)
-  judged_next made good number d g new before i e is =
-      elim (ℕ_discrete i number) [
-        | yes same ↦
-            let known : d ≡ e = entry_there (λ (x : ℕ). x ≡ e + 1 → d ≡ e) made number (d + 1) (λ no. absurd (omega arith)) (λ eq. omega arith) (ap (λ (k : ℕ). get_or (set made number (d + 1)) k 0) (sym same) ∙ is) in
-            subst (λ (k : ℕ). Good alphabet leaves first (part_of e k) (get_or (set good number g) k 0)) (sym same) (entry_there (Good alphabet leaves first (part_of e number)) good number g (λ j h. absurd (has_none j h)) (subst (λ (x : ℕ). Good alphabet leaves first (part_of x number) g) known new))
-        | no other ↦ subst (Good alphabet leaves first (part_of e i)) (sym (get_or-set_other good number i g 0 other)) (before i e (sym (get_or-set_other made number i (d + 1) 0 other) ∙ is))
-      ]
 
 -- nothing is judged yet
 pub zeros_none : (n i : ℕ) → get_or (replicate {A = ℕ} n 0) i 0 ≡ 0

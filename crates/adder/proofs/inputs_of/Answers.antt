@@ -3,7 +3,7 @@ use mathlib.Core.Path.{◌∙◌}
 use native.Mathlib.Omega.{arith}
 use lib.Dec.{lit<}
 use Rattle.reader_rules.proofs.Kept.{section_is}
-use Rattle.row_rules.specs.Changed.{changed}
+use Rattle.rows.specs.ChangedBy.{changed_by}
 use Rattle.place_rules.specs.Place.{input_at}
 use Rattle.place_rules.specs.Helpers.{part_row}
 use Rattle.adder_rules.proofs.Table.{directory_kept, digits_counted, few_digits, few_inputs}
@@ -28,4 +28,4 @@ pub returns : goal.returns
 returns c =
     let a = c.args in
     let told = c.degree_in-degree.ensures in
-    c.input_row.ensures ∙ (λ i. part_row (input_at a.operation (section_is a.table.now _ _ 1 told c.section-alphabet.ensures i) (section_is a.table.now _ _ 2 told c.section-inputs.ensures i) (changed a.change 0 a.first.now) (changed a.change 1 a.second.now)) a.from a.end)
+    c.input_row.ensures ∙ (λ i. part_row (input_at a.operation (section_is a.table.now _ _ 1 told c.section-alphabet.ensures i) (section_is a.table.now _ _ 2 told c.section-inputs.ensures i) (changed_by a.change 0 a.first.now) (changed_by a.change 1 a.second.now)) a.from a.end)

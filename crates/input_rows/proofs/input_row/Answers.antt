@@ -3,7 +3,7 @@ use Rattle.digit_rules.specs.Digits.{pair_index}
 use mathlib.Core.Path.{ap, ap₂, ◌∙◌}
 use native.Mathlib.Nat.{le_antisymm}
 use native.Mathlib.Omega.{arith}
-use Rattle.row_rules.specs.Changed.{changed}
+use Rattle.rows.specs.ChangedBy.{changed_by}
 use Rattle.place_rules.specs.Helpers.{part_row}
 use Rattle.place_rules.specs.Place.{input_at}
 use Rattle.input_rows.proofs.Known.{known_none}
@@ -13,7 +13,7 @@ use Rattle.input_rows.proofs.input_row.Goals as goal
 pub loop-place-init : goal.loop-place-init
 loop-place-init c =
     let a = c.args in
-    (omega arith, c.requires.0, row_start (input_at a.operation (of_degree a.degree a.alphabet.now) (of_degree a.degree a.inputs.now) (changed a.change 0 a.first.now) (changed a.change 1 a.second.now)) a.from, known_none a.operation (of_degree a.degree a.alphabet.now) (of_degree a.degree a.inputs.now))
+    (omega arith, c.requires.0, row_start (input_at a.operation (of_degree a.degree a.alphabet.now) (of_degree a.degree a.inputs.now) (changed_by a.change 0 a.first.now) (changed_by a.change 1 a.second.now)) a.from, known_none a.operation (of_degree a.degree a.alphabet.now) (of_degree a.degree a.inputs.now))
 
 pub learn_by-requires : goal.learn_by-requires
 learn_by-requires c =
@@ -38,14 +38,14 @@ loop-place-smaller c = omega (arith, c.known_run-place.ensures.place.0, c.known_
 pub returns : goal.returns
 returns c =
     let a = c.args in
-    c.loop-place.invariant.2 ∙ ap (part_row (input_at a.operation (of_degree a.degree a.alphabet.now) (of_degree a.degree a.inputs.now) (changed a.change 0 a.first.now) (changed a.change 1 a.second.now)) a.from) (le_antisymm c.loop-place.invariant.1 c.loop-place-test.false)
+    c.loop-place.invariant.2 ∙ ap (part_row (input_at a.operation (of_degree a.degree a.alphabet.now) (of_degree a.degree a.inputs.now) (changed_by a.change 0 a.first.now) (changed_by a.change 1 a.second.now)) a.from) (le_antisymm c.loop-place.invariant.1 c.loop-place-test.false)
 
 pub loop-place-preserved : goal.loop-place-preserved
 loop-place-preserved c =
     let a = c.args in
     let pre = c.requires in
     let loop = c.loop-place in
-    let f = input_at a.operation (of_degree a.degree a.alphabet.now) (of_degree a.degree a.inputs.now) (changed a.change 0 a.first.now) (changed a.change 1 a.second.now) in
+    let f = input_at a.operation (of_degree a.degree a.alphabet.now) (of_degree a.degree a.inputs.now) (changed_by a.change 0 a.first.now) (changed_by a.change 1 a.second.now) in
     let known = c.learn_by.ensures.known in
     let index = c.learn_by.ensures.index ∙ ap₂ (pair_index a.operation (of_degree a.degree a.alphabet.now) (of_degree a.degree a.inputs.now)) c.byte_at-upper.ensures c.byte_at-lower.ensures in
     let here = row_next f a.from loop.place loop.row c.learn_by.result loop.invariant.0 (omega (arith, pre.1, c.loop-place-test.true)) loop.invariant.2 index in

@@ -52,6 +52,12 @@ module _ (leaves : Section) (words : List ℕ) (m : ℕ) (input : 0 < m) (passes
     pair_says matrix inputs alphabet part b l h fit own is =
         is ∙ ap (λ p. in_alphabet alphabet (plus p (weight_given leaves l))) own ∙ pair_is leaves words m input well u hu matrix inputs (in_alphabet alphabet) l h fit
 
+    -- what both tests say of a leaf whose word fits
+    fitting_says : (matrix : List (List ℤ)) (inputs alphabet : Section) (part : List ℤ) (top low : List ℕ) (fit gives : Bool) (l : ℕ) → l < leaf_count leaves → top ≡ word_given leaves words u → low ≡ word_given leaves words l → fit ≡ agree (λ k. get_or top (k + 1) 0) (λ k. get_or low k 0) (min (pred (length top)) (length low)) → fit ≡ true → part ≡ upper_part matrix inputs leaves words u → gives ≡ in_alphabet alphabet (plus part (weight_given leaves l)) → (fits code u l ≡ true) × (pair_passes (elements (part_count leaves.degree) matrix) (record_at inputs) code (in_alphabet alphabet) u l ≡ gives)
+    fitting_says matrix inputs alphabet part top low fit gives l h upper lower is held own digit =
+        let fitting = sym (fit_says top low fit l h upper lower is) ∙ held in
+        (fitting, sym (pair_says matrix inputs alphabet part gives l h fitting own digit))
+
 pub upper_part_by-part-requires : goal.upper_part_by-part-requires
 upper_part_by-part-requires c =
     let a = c.args in
@@ -113,25 +119,22 @@ returns-then-not-gives_digit_by c =
     let loop = c.loop-lower in
     let own = c.upper_part_by-part.ensures.part in
     let here : loop.lower < leaf_count leaves = omega (arith, c.leaf_count-count.ensures) in
-    let fit = sym (fit_says leaves words m pre.table.1 pre.table.2 a.upper pre.upper _ _ _ loop.lower here c.word-top.ensures c.word.ensures c.fit.ensures) ∙ c.if-not-fit.false in
-    let fails = sym (pair_says leaves words m pre.table.1 pre.table.2 a.upper pre.upper a.base.now inputs alphabet _ _ loop.lower here fit own c.gives_digit_by.ensures) ∙ c.if-not-gives_digit_by.true in
-    record { run = tt; bad = (here, ends_bad leaves words m pre.table.1 (well leaves words m pre.table.1 pre.table.2) a.upper pre.upper a.base.now inputs (in_alphabet alphabet) loop.lower here fails (loop.invariant.1 a.base.now own)) }
+    let says = fitting_says leaves words m pre.table.1 pre.table.2 a.upper pre.upper a.base.now inputs alphabet _ _ _ _ _ loop.lower here c.word-top.ensures c.word.ensures c.fit.ensures c.if-not-fit.false own c.gives_digit_by.ensures in
+    record { run = tt; bad = (here, ends_bad leaves words m pre.table.1 (well leaves words m pre.table.1 pre.table.2) a.upper pre.upper a.base.now inputs (in_alphabet alphabet) loop.lower here (says.1 ∙ c.if-not-gives_digit_by.true) (loop.invariant.1 a.base.now own)) }
 
 pub loop-lower-preserved : goal.loop-lower-preserved
 loop-lower-preserved c =
     let a = c.args in
     let leaves = of_degree a.degree a.leaves.now in
-    let words = a.words.now in
     let inputs = of_degree a.degree a.inputs.now in
     let alphabet = of_degree a.degree a.alphabet.now in
-    let m = element_count inputs in
     let pre = c.requires in
     let loop = c.loop-lower in
     let here : loop.lower < leaf_count leaves = omega (arith, c.leaf_count-count.ensures) in
-    let fit = sym (fit_says leaves words m pre.table.1 pre.table.2 a.upper pre.upper _ _ _ loop.lower here c.word-top.ensures c.word.ensures c.fit.ensures) ∙ c.if-not-fit.false in (
+    let says = λ (matrix : List (List ℤ)) (own : c.upper_part_by-part.result ≡ upper_part matrix inputs leaves a.words.now a.upper). fitting_says leaves a.words.now (element_count inputs) pre.table.1 pre.table.2 a.upper pre.upper matrix inputs alphabet _ _ _ _ _ loop.lower here c.word-top.ensures c.word.ensures c.fit.ensures c.if-not-fit.false own c.gives_digit_by.ensures in (
       omega (arith, loop.invariant.0),
-      λ matrix own. below_more _ _ (loop.invariant.1 matrix own) (sym (pair_says leaves words m pre.table.1 pre.table.2 a.upper pre.upper matrix inputs alphabet _ _ loop.lower here fit own c.gives_digit_by.ensures) ∙ c.if-not-gives_digit_by.false),
-      (loop.invariant.2.0, below_more _ _ loop.invariant.2.1 (λ from. fit)),
+      λ matrix own. below_more _ _ (loop.invariant.1 matrix own) ((says matrix own).1 ∙ c.if-not-gives_digit_by.false),
+      (loop.invariant.2.0, below_more _ _ loop.invariant.2.1 (λ from. (says a.base.now c.upper_part_by-part.ensures.part).0)),
     )
 
 pub overflow_sub-result-2 : goal.overflow_sub-result-2
