@@ -10,7 +10,8 @@ use faults::Fault;
 use table_rules::Facts;
 use text::Text;
 
-fn accepted_line(f: Facts) -> Text<128>
+// The line of an accepted table.
+pub fn accepted_line(f: Facts) -> Text<128>
     ensures { result ≡ accepted_line f.depth f.leaves f.digits }
 {
     let mut text: Text<128> = Text::new();

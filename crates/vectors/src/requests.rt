@@ -30,9 +30,11 @@ fn edit_line(
 ) -> io::Result<()>
     requires { (length first.old ≤ 600) × (length second.old ≤ 600) × (length sum.old ≤ 1000) }
 {
-    let row = input::long(rt)?;
-    let place = input::long(rt)?;
-    let digit = input::long(rt)?;
+    let mut numbers = [0u8; 24];
+    input::fill(rt, &mut numbers)?;
+    let row = input::long(&numbers, 0);
+    let place = input::long(&numbers, 8);
+    let digit = input::long(&numbers, 16);
     let answer = edit_call::edit(table, first, second, sum, row, place, digit);
     output::edited(rt, answer, first, second, sum)
 }
@@ -53,11 +55,11 @@ fn called(
     match call {
         OnRows::Addition => {
             let answer = adder::add(table, first, second, sum);
-            output::added(rt, "sum", answer, sum)
+            output::added(rt, b"sum ", answer, sum)
         }
         OnRows::Subtraction => {
             let answer = adder::subtract(table, first, second, sum);
-            output::added(rt, "difference", answer, sum)
+            output::added(rt, b"difference ", answer, sum)
         }
         OnRows::Edit => edit_line(rt, table, first, second, sum),
     }
@@ -128,8 +130,12 @@ pub fn bad_row(rt: &(impl Input + Print)) -> io::Result<()> {
 pub fn forecast(rt: &(impl Input + Print)) -> io::Result<()> {
     let mut table = [0u8; 70000];
     let n = input::buffer(rt, &mut table)?;
-    let digits = input::long(rt)?;
-    output::forecasted(rt, forecast::forecast(&table[..n], digits))
+    let mut digits = [0u8; 8];
+    input::fill(rt, &mut digits)?;
+    output::forecasted(
+        rt,
+        forecast::forecast(&table[..n], usize::from_le_bytes(digits)),
+    )
 }
 
 // 5: the degree, one byte, then the parts of the first element and those of the second. Another byte than 2, 3 or 4 ends the run.
@@ -142,5 +148,5 @@ pub fn midpoint(rt: &(impl Input + Print)) -> io::Result<()> {
     };
     let x = input::element(rt, degree)?;
     let y = input::element(rt, degree)?;
-    printed::element(rt, "midpoint", degree, midpoint::midpoint(x, y))
+    output::midpoint(rt, degree, midpoint::midpoint(x, y))
 }

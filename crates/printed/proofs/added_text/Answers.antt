@@ -1,0 +1,9 @@
+-- The counts, behind no bytes.
+use mathlib.Core.Path.{refl}
+use Rattle.text_rules.specs.Bytes.{bytes_of}
+use Rattle.printed.specs.Text.{added_text}
+use Rattle.printed.proofs.added_text.Goals as goal
+
+pub returns-in-Ok : goal.returns-in-Ok
+unfolding bytes_of added_text
+returns-in-Ok c = rw c.in-Ok.is (simp (c.put_counts.ensures.put, c.new-text.ensures) refl)

@@ -1,0 +1,9 @@
+-- The counts, behind no bytes.
+use mathlib.Core.Path.{refl}
+use Rattle.text_rules.specs.Bytes.{bytes_of}
+use Rattle.printed.specs.Text.{forecasted_text}
+use Rattle.printed.proofs.forecasted_text.Goals as goal
+
+pub returns-in-Ok : goal.returns-in-Ok
+unfolding bytes_of forecasted_text
+returns-in-Ok c = rw c.in-Ok.is (simp (c.put_counts.ensures.put, c.new-text.ensures) refl)
