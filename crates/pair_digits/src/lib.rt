@@ -69,7 +69,8 @@ pub fn upper_part_by(
 {
     match degree {
         Degree::Two => upper_part_at_two(base, inputs, leaves, words, upper),
-        Degree::Three | Degree::Four => upper_part(degree, base, inputs, leaves, words, upper),
+        Degree::Three => upper_part(degree, base, inputs, leaves, words, upper),
+        Degree::Four => upper_part(degree, base, inputs, leaves, words, upper),
     }
 }
 
@@ -152,6 +153,7 @@ pub fn gives_digit_by(
 {
     match degree {
         Degree::Two => gives_digit_at_two(alphabet, slots, part, leaves, lower),
-        Degree::Three | Degree::Four => gives_digit(degree, alphabet, slots, part, leaves, lower),
+        Degree::Three => gives_digit(degree, alphabet, slots, part, leaves, lower),
+        Degree::Four => gives_digit(degree, alphabet, slots, part, leaves, lower),
     }
 }

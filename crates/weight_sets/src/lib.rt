@@ -90,7 +90,8 @@ pub fn number_weights_by(
 {
     match degree {
         Degree::Two => number_weights_at_two(leaves, numbers, first),
-        Degree::Three | Degree::Four => number_weights(degree, leaves, numbers, first),
+        Degree::Three => number_weights(degree, leaves, numbers, first),
+        Degree::Four => number_weights(degree, leaves, numbers, first),
     }
 }
 
@@ -248,7 +249,10 @@ fn judge_by(
         Degree::Two => judge_at_two(
             base, alphabet, slots, inputs, leaves, words, upper, first, count,
         ),
-        Degree::Three | Degree::Four => judge(
+        Degree::Three => judge(
+            degree, base, alphabet, slots, inputs, leaves, words, upper, first, count,
+        ),
+        Degree::Four => judge(
             degree, base, alphabet, slots, inputs, leaves, words, upper, first, count,
         ),
     }
