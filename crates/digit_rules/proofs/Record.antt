@@ -37,10 +37,18 @@ pub parts_counted : (part : Section) (at : ℕ) → length (parts_at part at) �
 unfolding parts_at
 parts_counted part at = length_span _ 0 (part_count part.degree)
 
--- at degree two two of them are numbers of the file
+-- as many of them are numbers of the file as the degree says
 pub element_two : (bytes : List ℕ) (at : ℕ) → element_at (of_degree Two bytes) at ≡ signed_at bytes at ∷ signed_at bytes (at + 2) ∷ pos 0 ∷ pos 0 ∷ []
 unfolding element_at parts_at padded span
 element_two bytes at = cons≡ (ap (signed_at bytes) (add-zero at)) refl
+
+pub element_three : (bytes : List ℕ) (at : ℕ) → element_at (of_degree Three bytes) at ≡ signed_at bytes at ∷ signed_at bytes (at + 2) ∷ signed_at bytes (at + 4) ∷ pos 0 ∷ []
+unfolding element_at parts_at padded span
+element_three bytes at = cons≡ (ap (signed_at bytes) (add-zero at)) refl
+
+pub element_four : (bytes : List ℕ) (at : ℕ) → element_at (of_degree Four bytes) at ≡ signed_at bytes at ∷ signed_at bytes (at + 2) ∷ signed_at bytes (at + 4) ∷ signed_at bytes (at + 6) ∷ []
+unfolding element_at parts_at padded span
+element_four bytes at = cons≡ (ap (signed_at bytes) (add-zero at)) refl
 
 -- a number that was read and is passed on
 pub passed_on : (z n : ℤ) → (z ≡ n) × (nat_abs z ≤ 32768) → to_z w64 (of_z w64 z) ≡ n
