@@ -135,7 +135,8 @@ fn alphabet_rule_by(degree: Degree, alphabet: &[u8]) -> Result<(), Refusal>
 {
     match degree {
         Degree::Two => alphabet_rule_at_two(alphabet),
-        Degree::Three | Degree::Four => alphabet_rule(degree, alphabet),
+        Degree::Three => alphabet_rule(degree, alphabet),
+        Degree::Four => alphabet_rule(degree, alphabet),
     }
 }
 

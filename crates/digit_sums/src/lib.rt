@@ -51,7 +51,8 @@ fn link_by(degree: Degree, inputs: &[u8], heads: &mut [u8; SLOTS], links: &mut [
 {
     match degree {
         Degree::Two => link_at_two(inputs, heads, links),
-        Degree::Three | Degree::Four => link(degree, inputs, heads, links),
+        Degree::Three => link(degree, inputs, heads, links),
+        Degree::Four => link(degree, inputs, heads, links),
     }
 }
 
@@ -196,9 +197,8 @@ fn mark_all_by(
 {
     match degree {
         Degree::Two => mark_all_at_two(operation, alphabet, inputs, heads, links, marks),
-        Degree::Three | Degree::Four => {
-            mark_all(degree, operation, alphabet, inputs, heads, links, marks)
-        }
+        Degree::Three => mark_all(degree, operation, alphabet, inputs, heads, links, marks),
+        Degree::Four => mark_all(degree, operation, alphabet, inputs, heads, links, marks),
     }
 }
 

@@ -63,10 +63,12 @@ pub fn difference(x: [i64; 4], y: [i64; 4]) -> [i64; 4]
     [x[0] - y[0], x[1] - y[1], x[2] - y[2], x[3] - y[3]]
 }
 
+// The highest part is compared first: a slot (slots::slot_of) tells only two bits of a fourth part, so that multiples of ω³ share slots and
+// differ there alone.
 pub fn equal(x: [i64; 4], y: [i64; 4]) -> bool
     ensures { result ≡ same x y }
 {
-    x == y
+    [x[3], x[2], x[1], x[0]] == [y[3], y[2], y[1], y[0]]
 }
 
 // The parts below the degree.
